@@ -1,0 +1,6 @@
+pub mod Squares
+pub mod Floors
+pub mod DigitLoop
+pub mod Remainders
+pub mod Scales
+pub mod Cases

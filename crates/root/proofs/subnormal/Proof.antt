@@ -1,0 +1,62 @@
+use Prim.Native.Nat.{_<_}
+use native.Mathlib.Omega.{arith}
+use Rattle.root.proofs.Scales.{Raising, raising-start, raising-next}
+use Rattle.root.proofs.subnormal.Statement.{statement}
+use Rattle.root.proofs.subnormal.Tie as tie
+
+abbrev Inv-loop : tie.InvT-loop
+Inv-loop b m₀ z₀ m z = (0 < b) × Raising b m z
+
+abbrev μ-loop : tie.MeasureT-loop
+μ-loop b m₀ z₀ m z = z
+
+loop-holds : tie.Need-loop-holds Inv-loop μ-loop
+loop-holds c = (c .pre .0, raising-start _ (c .pre .1))
+
+mul-m : tie.Need-mul-m Inv-loop μ-loop
+mul-m c = omega arith
+
+sub-z : tie.Need-sub-z Inv-loop μ-loop
+sub-z c = omega arith
+
+loop-less : tie.Need-loop-less Inv-loop μ-loop
+loop-less c = omega arith
+
+loop-again : tie.Need-loop-again Inv-loop μ-loop
+loop-again c = let i = c .before .loop .inv in (i .0, raising-next _ _ _ (i .0) (c .loop-test .taken) (i .1))
+
+add-guess : tie.Need-add-guess Inv-loop μ-loop
+add-guess c = omega arith
+
+mul-guess : tie.Need-mul-guess Inv-loop μ-loop
+mul-guess c = omega arith
+
+add-guess-2 : tie.Need-add-guess-2 Inv-loop μ-loop
+add-guess-2 c = omega arith
+
+guess-requires : tie.Need-guess-requires Inv-loop μ-loop
+guess-requires c κs = omega arith
+
+scaled-requires : tie.Need-scaled-requires Inv-loop μ-loop
+scaled-requires c κs = omega arith
+
+returns : tie.Need-returns Inv-loop μ-loop
+returns c = c .scaled .ensures _ (c .before .before .before .loop .inv .1 .value)
+
+pub subnormal-spec : {M : Type 1} → statement M
+subnormal-spec =
+    tie.close
+    (tie.spec
+    Inv-loop
+    μ-loop
+    loop-holds
+    mul-m
+    sub-z
+    loop-less
+    loop-again
+    add-guess
+    mul-guess
+    add-guess-2
+    guess-requires
+    scaled-requires
+    returns)

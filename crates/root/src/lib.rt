@@ -1,0 +1,90 @@
+// The correctly rounded square root of an f64 (document 01, "Square root").
+mod whole;
+
+ghost use mathlib.Core.Path.{_≡_};
+ghost use Prim.Native.Nat.{ℕ, _*_, _^_, _<_, _≤_};
+ghost use lib.Ieee.{binary64, ofBits};
+ghost use Rattle.float64.specs.Units.{unitsOf};
+ghost use Rattle.root.specs.Sqrt.{rootUnits, sqrtOf, toldRoot};
+use refusal::Refusal;
+
+pub enum Root {
+    Of(f64),
+    Refused(Refusal),
+}
+
+// The square root of x.
+pub fn sqrt(x: f64) -> Root
+    ensures { λ r. ⌜ toldRoot r ≡ sqrtOf x ⌝ }
+{
+    if x > 0.0 {
+        if float64::is_finite(x) {
+            return Root::Of(positive(f64::to_bits(x)));
+        }
+        return Root::Of(x);
+    }
+    if x == 0.0 {
+        return Root::Of(x);
+    }
+    Root::Refused(Refusal::NoRoot)
+}
+
+// The root of the value with the pattern b, which is finite and above zero.
+fn positive(b: u64) -> f64
+    requires { ⌜ (0 < b) × (b < 0x7ff0_0000_0000_0000) ⌝ }
+    ensures { λ r. ⌜ r ≡ rootUnits (unitsOf (ofBits binary64 b)) ⌝ }
+{
+    let field = b / 0x10_0000_0000_0000;
+    if field > 0 {
+        return scaled(
+            b % 0x10_0000_0000_0000 + 0x10_0000_0000_0000,
+            field + 52,
+            guess(b),
+        );
+    }
+    subnormal(b)
+}
+
+// The root of b units, below the smallest normal value. The digits are brought to the top first.
+fn subnormal(b: u64) -> f64
+    requires { ⌜ (0 < b) × (b < 2 ^ 52) ⌝ }
+    ensures { λ r. ⌜ r ≡ rootUnits b ⌝ }
+{
+    let mut m = b;
+    let mut z: u64 = 53;
+    while m < 0x10_0000_0000_0000 {
+        m = m * 2;
+        z -= 1;
+    }
+    scaled(m, z, guess((1021 + z % 2) * 0x10_0000_0000_0000 + m))
+}
+
+// The root of m * 2^z / 2^53 units. Its digits are looked for near g.
+fn scaled(m: u64, z: u64, g: u64) -> f64
+    requires { ⌜ (2 ^ 52 ≤ m) × (m < 2 ^ 53) × (1 ≤ z) × (z ≤ 2098) ⌝ }
+    requires { ⌜ (2 ^ 52 ≤ g) × (g < 2 ^ 53) ⌝ }
+    ensures { λ r. ⌜ ((n : ℕ) → n * 2 ^ 53 ≡ m * 2 ^ z → r ≡ rootUnits n) ⌝ }
+{
+    let q = whole::nearest_root(m * (2 - z % 2), g);
+    f64::from_bits((484 + (z + 1) / 2) * 0x10_0000_0000_0000 + q)
+}
+
+// A number of 53 digits near those of the root of the value with the pattern b, found by Newton's
+// iteration for the inverse root. Nothing rests on how near it is.
+fn guess(b: u64) -> u64
+    requires { ⌜ b < 0x7ff0_0000_0000_0000 ⌝ }
+    ensures { λ r. ⌜ (2 ^ 52 ≤ r) × (r < 2 ^ 53) ⌝ }
+{
+    let x = f64::from_bits(b);
+    let h = x * 0.5;
+    let mut y = f64::from_bits(0x5fe6_eb50_c7b5_37a9 - b / 2);
+    y = y * 1.5 - h * y * (y * y);
+    y = y * 1.5 - h * y * (y * y);
+    y = y * 1.5 - h * y * (y * y);
+    let s = x * y;
+    let r = s + (x - s * s) * (y * 0.5);
+    if r != r {
+        return 0x10_0000_0000_0000;
+    }
+    f64::to_bits(r) % 0x10_0000_0000_0000 + 0x10_0000_0000_0000
+}

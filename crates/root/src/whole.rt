@@ -1,0 +1,93 @@
+// Square roots of whole numbers: of w = k * 2^52, which has 105 or 106 binary digits.
+ghost use mathlib.Core.Path.{_≡_};
+ghost use Prim.Native.Nat.{_+_, _*_, _^_, _<_, _≤_};
+ghost use Rattle.root.specs.Sqrt.{nearestRoot};
+
+// The nearest whole number to the root of k * 2^52. It is looked for near g, and where it is not
+// found there it is worked out digit by digit.
+pub fn nearest_root(k: u64, g: u64) -> u64
+    requires { ⌜ (2 ^ 52 ≤ k) × (k < 2 ^ 54) × (2 ^ 52 ≤ g) × (g < 2 ^ 53) ⌝ }
+    ensures { λ r. ⌜ r ≡ nearestRoot (k * 2 ^ 52) ⌝ }
+{
+    let q = settle(k, g);
+    if q > 0 {
+        return q;
+    }
+    (digits(k) + 1) / 2
+}
+
+// The nearest whole number to the root of k * 2^52 if it is q or beside q, and otherwise 0.
+fn settle(k: u64, q: u64) -> u64
+    requires { ⌜ (2 ^ 52 ≤ k) × (k < 2 ^ 54) × (2 ^ 52 ≤ q) × (q < 2 ^ 53) ⌝ }
+    ensures { λ r. ⌜ (0 < r → r ≡ nearestRoot (k * 2 ^ 52)) ⌝ }
+{
+    let left = remainder(k, q);
+    if left <= 2 {
+        return 0;
+    }
+    if left > q * 6 + 2 {
+        return 0;
+    }
+    if left > q * 4 {
+        return q + 1;
+    }
+    if left <= q * 2 {
+        return q - 1;
+    }
+    q
+}
+
+// k * 2^52 - q^2 + 3 * q, or 0 where the two squares are far apart. q is a * 2^27 + b.
+fn remainder(k: u64, q: u64) -> u64
+    requires { ⌜ (k < 2 ^ 54) × (q < 2 ^ 53) ⌝ }
+    ensures { λ r. ⌜ (0 < r → r + q * q ≡ k * 2 ^ 52 + 3 * q) ⌝ }
+{
+    let a = q / 0x800_0000;
+    let b = q % 0x800_0000;
+    let top = a * a * 4;
+    if k < top {
+        return 0;
+    }
+    let high = k - top;
+    if high >= 0x4000_0000 {
+        return 0;
+    }
+    let scaled = high * 0x100_0000 + 0x400_0000;
+    let cross = a * b;
+    if scaled < cross {
+        return 0;
+    }
+    let middle = scaled - cross;
+    if middle >= 0x4000_0000 {
+        return 0;
+    }
+    let left = middle * 0x1000_0000 + q * 3;
+    let low = b * b + 0x40_0000_0000_0000;
+    if left < low {
+        return 0;
+    }
+    left - low
+}
+
+// The whole part of the root of k * 2^54, a binary digit a turn.
+fn digits(k: u64) -> u64
+    requires { ⌜ k < 2 ^ 54 ⌝ }
+    ensures { λ r. ⌜ (r * r ≤ k * 2 ^ 54) × (k * 2 ^ 54 < (r + 1) * (r + 1)) ⌝ }
+{
+    let mut left: u64 = k * 1024;
+    let mut rest: u64 = 0;
+    let mut root: u64 = 0;
+    let mut i: u64 = 0;
+    while i < 54 {
+        rest = rest * 4 + left / 0x4000_0000_0000_0000;
+        left = left % 0x4000_0000_0000_0000 * 4;
+        let test = root * 4 + 1;
+        root = root * 2;
+        if test <= rest {
+            rest -= test;
+            root += 1;
+        }
+        i += 1;
+    }
+    root
+}
