@@ -5,3 +5,4 @@ pub mod Grid
 pub mod Units
 pub mod Patterns
 pub mod Order
+pub mod Above

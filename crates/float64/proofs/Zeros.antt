@@ -1,16 +1,16 @@
 -- Comparisons with zero. Assumes nothing.
 use mathlib.Core.Path.{_≡_, refl, sym, ap, _∙_}
-use mathlib.Core.Bool.{Bool, true, false, _&&_, _||_, not, Bool·beq, true≢false}
+use mathlib.Core.Bool.{Bool, true, false, _&&_, _||_, Bool·beq}
 use Prim.Native.Nat.{ℕ, zero, suc, _*_, _<_}
 use native.Mathlib.Nat.{mul-pos, zero-lt-suc}
 use native.Mathlib.Omega.{arith}
 use borrow.Author.Tests.{lt-ltb, le-ltb, eq-eqb, ne-eqb}
 use lib.Dec.{T, ltb, eqb}
 use lib.IntN.{ℤ}
-use lib.Ieee.{Float, nan, inf, fin, binary64, up, down, lt, eq, ofBits, isNan}
+use lib.Ieee.{Float, nan, inf, fin, binary64, up, down, lt, eq, ofBits}
 use lib.Ieee.Fits.{up-pos}
-use lib.Ieee.Positive.{positive, above}
-use Rattle.float64.specs.Values.{plusZero, isZero, finite}
+use lib.Ieee.Positive.{above}
+use Rattle.float64.specs.Values.{plusZero, isZero}
 
 product-above : (m : ℕ) (e : ℤ) → 0 < suc m * up e * 1
 product-above m e = mul-pos (mul-pos (zero-lt-suc m) (up-pos e)) (zero-lt-suc 0)
@@ -37,17 +37,3 @@ equal-zero (fin s zero e) = both (eqb (0 * up e * 1) (0 * 1 * down e)) (eqb (0 *
 equal-zero (fin s (suc m) e) =
     let p = product-above m e in
     ap (λ (b : Bool). b && (Bool·beq s false || eqb (suc m * up e * 1) 0)) (ne-eqb (suc m * up e * 1) (0 * 1 * down e) (λ h. omega arith)) ∙ sym (ne-eqb (suc m) 0 (λ h. omega arith))
-
--- finite and above zero
-pub positive-of : (x : Float) → lt plusZero x ≡ true → finite x ≡ true → positive x ≡ true
-unfolding finite
-positive-of nan a f = f
-positive-of (inf s) a f = f
-positive-of (fin true m e) a f = sym (above-zero (fin true m e)) ∙ a
-positive-of (fin false m e) a f = sym (above-zero (fin false m e)) ∙ a
-
-pub positive-no-nan : (x : Float) → positive x ≡ true → T (not (isNan x))
-unfolding isNan
-positive-no-nan nan p = absurd (true≢false (sym p))
-positive-no-nan (inf s) p = tt
-positive-no-nan (fin s m e) p = tt

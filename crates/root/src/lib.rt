@@ -18,8 +18,9 @@ pub fn sqrt(x: f64) -> Root
     ensures { λ r. ⌜ toldRoot r ≡ sqrtOf x ⌝ }
 {
     if x > 0.0 {
-        if float64::is_finite(x) {
-            return Root::Of(positive(f64::to_bits(x)));
+        let b = f64::to_bits(x);
+        if b < 0x7ff0_0000_0000_0000 {
+            return Root::Of(positive(b));
         }
         return Root::Of(x);
     }

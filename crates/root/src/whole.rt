@@ -28,13 +28,7 @@ fn settle(k: u64, q: u64) -> u64
     if left > q * 6 + 2 {
         return 0;
     }
-    if left > q * 4 {
-        return q + 1;
-    }
-    if left <= q * 2 {
-        return q - 1;
-    }
-    q
+    q - 1 + (left > q * 2) as u64 + (left > q * 4) as u64
 }
 
 // k * 2^52 - q^2 + 3 * q, or 0 where the two squares are far apart. q is a * 2^27 + b.
