@@ -95,7 +95,7 @@ nearest-of-floor w r h f = go (r / 2) (parity (r % 2) refl)
         subst (λ (x : ℕ). Nearest w x) (sym q) (omega arith, omega arith)
 
 -- ---- w = k * 2 ^ 52, with a k of 53 or 54 digits, has a root of 53 digits
-pub nearest-ge : (k q : ℕ) → 2 ^ 52 ≤ k → Nearest (k * 2 ^ 52) q → 2 ^ 52 ≤ q
+nearest-ge : (k q : ℕ) → 2 ^ 52 ≤ k → Nearest (k * 2 ^ 52) q → 2 ^ 52 ≤ q
 nearest-ge k q h p = unless (λ (l : q < 2 ^ 52). let a : q * q ≤ (2 ^ 52 - 1) * q = mul-le-mul-right q (less l) in omega arith)
   where
     less : q < 2 ^ 52 → q ≤ 2 ^ 52 - 1
@@ -104,11 +104,16 @@ nearest-ge k q h p = unless (λ (l : q < 2 ^ 52). let a : q * q ≤ (2 ^ 52 - 1)
     unless : (q < 2 ^ 52 → ⊥) → 2 ^ 52 ≤ q
     unless f = omega arith
 
-pub nearest-lt : (k q : ℕ) → k + 2 ≤ 2 ^ 54 → Nearest (k * 2 ^ 52) q → q < 2 ^ 53
+nearest-lt : (k q : ℕ) → k + 2 ≤ 2 ^ 54 → Nearest (k * 2 ^ 52) q → q < 2 ^ 53
 nearest-lt k q h p = unless (λ (l : 2 ^ 53 ≤ q). let a : 2 ^ 53 * q ≤ q * q = mul-le-mul-right q l in omega arith)
   where
     unless : (2 ^ 53 ≤ q → ⊥) → q < 2 ^ 53
     unless f = omega arith
+
+pub root-digits : (k : ℕ) → 2 ^ 52 ≤ k → k + 2 ≤ 2 ^ 54 → (2 ^ 52 ≤ nearestRoot (k * 2 ^ 52)) × (nearestRoot (k * 2 ^ 52) < 2 ^ 53)
+root-digits k lo hi =
+    let n = nearest-root (k * 2 ^ 52) (omega arith) (omega arith) in
+    (nearest-ge k (nearestRoot (k * 2 ^ 52)) lo n, nearest-lt k (nearestRoot (k * 2 ^ 52)) hi n)
 
 pub floor-lt : (k r : ℕ) → k < 2 ^ 54 → Floor (k * 2 ^ 54) r → r < 2 ^ 54
 floor-lt k r h f = unless (λ (l : 2 ^ 54 ≤ r). let a : 2 ^ 54 * r ≤ r * r = mul-le-mul-right r l in omega arith)

@@ -7,10 +7,8 @@ use native.Mathlib.Omega.{arith}
 use lib.Pow.{pow-add, pow-mono, pow-pos}
 use lib.Ieee.{Float, odd, size}
 use lib.Ieee.Digits.{size-lt, size-le}
-use Rattle.float64.proofs.Grid.{Top}
 use Rattle.root.specs.Sqrt.{nearestRoot, rootUnits}
 use Rattle.root.proofs.Squares.{twice-square}
-use Rattle.root.proofs.Floors.{nearest-root, nearest-ge, nearest-lt}
 
 -- ---- how many digits n has
 size-at : (n m z : ℕ) → n * 2 ^ 53 ≡ m * 2 ^ z → 2 ^ 52 ≤ m → m < 2 ^ 53 → 1 ≤ z → size n ≡ z
@@ -71,22 +69,15 @@ wide m z lo hi = go (2 - z % 2) (omega arith) (omega arith)
     go (suc (suc zero)) l u = (omega arith, omega arith)
     go (suc (suc (suc d))) l u = absurd (omega arith)
 
--- ---- the digits and the exponent of the root
+-- ---- the digits of the root
 abbrev pub digitsOf : ℕ → ℕ → ℕ
 digitsOf m z = nearestRoot (kOf m z * 2 ^ 52)
 
-pub digits-ge : (m z : ℕ) → 2 ^ 52 ≤ m → m < 2 ^ 53 → 2 ^ 52 ≤ digitsOf m z
-digits-ge m z lo hi = let b = wide m z lo hi in nearest-ge (kOf m z) (digitsOf m z) (b .0) (nearest-root (kOf m z * 2 ^ 52) (omega arith) (omega arith))
-
-pub digits-lt : (m z : ℕ) → 2 ^ 52 ≤ m → m < 2 ^ 53 → digitsOf m z < 2 ^ 53
-digits-lt m z lo hi = let b = wide m z lo hi in nearest-lt (kOf m z) (digitsOf m z) (b .1) (nearest-root (kOf m z * 2 ^ 52) (omega arith) (omega arith))
-
-pub root-units-at : (n : ℕ) (t : Top n) → rootUnits n ≡ odd 53 false (digitsOf (t .m) (t .z)) (484 + (t .z + 1) / 2) 1074
+pub root-units-at : (n m z : ℕ) → n * 2 ^ 53 ≡ m * 2 ^ z → 2 ^ 52 ≤ m → m < 2 ^ 53 → 1 ≤ z → odd 53 false (digitsOf m z) (484 + (z + 1) / 2) 1074 ≡ rootUnits n
 unfolding rootUnits
-root-units-at n t =
-    let z = t .z in
-    ap (λ (x : ℕ). odd 53 false (nearestRoot (n * 4 ^ 53 / 4 ^ ((x + 1) / 2))) (484 + (x + 1) / 2) 1074) (size-at n (t .m) z (t .is) (t .m-ge) (t .m-lt) (t .z-ge))
-    ∙ ap (λ (x : ℕ). odd 53 false (nearestRoot x) (484 + (z + 1) / 2) 1074) (ap (λ (x : ℕ). x / 4 ^ ((z + 1) / 2)) (scaled-by-four n (t .m) z (t .is)) ∙ mul-div-cancel (kOf (t .m) z * 2 ^ 52) (four-above ((z + 1) / 2)))
+root-units-at n m z e lo hi p =
+    sym (ap (λ (x : ℕ). odd 53 false (nearestRoot (n * 4 ^ 53 / 4 ^ ((x + 1) / 2))) (484 + (x + 1) / 2) 1074) (size-at n m z e lo hi p)
+    ∙ ap (λ (x : ℕ). odd 53 false (nearestRoot x) (484 + (z + 1) / 2) 1074) (ap (λ (x : ℕ). x / 4 ^ ((z + 1) / 2)) (scaled-by-four n m z e) ∙ mul-div-cancel (kOf m z * 2 ^ 52) (four-above ((z + 1) / 2))))
 
 -- ---- bringing the digits of n to the top, one place a turn
 pub record Raising (n m z : ℕ) : Type 0 where

@@ -2,10 +2,11 @@
 mod whole;
 
 ghost use mathlib.Core.Path.{_≡_};
-ghost use Prim.Native.Nat.{ℕ, _*_, _^_, _<_, _≤_};
-ghost use lib.Ieee.{binary64, ofBits};
+ghost use mathlib.Core.Bool.{false};
+ghost use Prim.Native.Nat.{_+_, _*_, _^_, _<_, _≤_};
+ghost use lib.Ieee.{binary64, odd, ofBits};
 ghost use Rattle.float64.specs.Units.{unitsOf};
-ghost use Rattle.root.specs.Sqrt.{rootUnits, sqrtOf, toldRoot};
+ghost use Rattle.root.specs.Sqrt.{nearestRoot, rootUnits, sqrtOf, toldRoot};
 use refusal::Refusal;
 
 pub enum Root {
@@ -30,23 +31,22 @@ pub fn sqrt(x: f64) -> Root
     Root::Refused(Refusal::NoRoot)
 }
 
-// The root of the value with the pattern b, which is finite and above zero.
+// The root of the value with the pattern b, which is finite and above zero. The value is
+// m * 2^z / 2^53 units.
 fn positive(b: u64) -> f64
     requires { ⌜ (0 < b) × (b < 0x7ff0_0000_0000_0000) ⌝ }
     ensures { λ r. ⌜ r ≡ rootUnits (unitsOf (ofBits binary64 b)) ⌝ }
 {
     let field = b / 0x10_0000_0000_0000;
-    if field > 0 {
-        return scaled(
-            b % 0x10_0000_0000_0000 + 0x10_0000_0000_0000,
-            field + 52,
-            guess(b),
-        );
+    if field == 0 {
+        return subnormal(b);
     }
-    subnormal(b)
+    let m = b % 0x10_0000_0000_0000 + 0x10_0000_0000_0000;
+    let z = field + 52;
+    scaled(m * (2 - z % 2), (z + 1) / 2, guess(b))
 }
 
-// The root of b units, below the smallest normal value. The digits are brought to the top first.
+// The root of b units, below the smallest normal value: the digits are brought to the top first.
 fn subnormal(b: u64) -> f64
     requires { ⌜ (0 < b) × (b < 2 ^ 52) ⌝ }
     ensures { λ r. ⌜ r ≡ rootUnits b ⌝ }
@@ -57,17 +57,19 @@ fn subnormal(b: u64) -> f64
         m = m * 2;
         z -= 1;
     }
-    scaled(m, z, guess((1021 + z % 2) * 0x10_0000_0000_0000 + m))
+    scaled(
+        m * (2 - z % 2),
+        (z + 1) / 2,
+        guess((1021 + z % 2) * 0x10_0000_0000_0000 + m),
+    )
 }
 
-// The root of m * 2^z / 2^53 units. Its digits are looked for near g.
-fn scaled(m: u64, z: u64, g: u64) -> f64
-    requires { ⌜ (2 ^ 52 ≤ m) × (m < 2 ^ 53) × (1 ≤ z) × (z ≤ 2098) ⌝ }
-    requires { ⌜ (2 ^ 52 ≤ g) × (g < 2 ^ 53) ⌝ }
-    ensures { λ r. ⌜ ((n : ℕ) → n * 2 ^ 53 ≡ m * 2 ^ z → r ≡ rootUnits n) ⌝ }
+// The nearest root of k * 2^52, times 2^(484 + h) units. It is looked for near g.
+fn scaled(k: u64, h: u64, g: u64) -> f64
+    requires { ⌜ (2 ^ 52 ≤ k) × (k + 2 ≤ 2 ^ 54) × (h ≤ 1049) × (2 ^ 52 ≤ g) × (g < 2 ^ 53) ⌝ }
+    ensures { λ r. ⌜ r ≡ odd 53 false (nearestRoot (k * 2 ^ 52)) (484 + h) 1074 ⌝ }
 {
-    let q = whole::nearest_root(m * (2 - z % 2), g);
-    f64::from_bits((484 + (z + 1) / 2) * 0x10_0000_0000_0000 + q)
+    f64::from_bits((484 + h) * 0x10_0000_0000_0000 + whole::nearest_root(k, g))
 }
 
 // A number of 53 digits near those of the root of the value with the pattern b, found by Newton's

@@ -22,7 +22,7 @@ fn settle(k: u64, q: u64) -> u64
     ensures { λ r. ⌜ (0 < r → r ≡ nearestRoot (k * 2 ^ 52)) ⌝ }
 {
     let left = remainder(k, q);
-    if left <= 2 {
+    if left == 0 {
         return 0;
     }
     if left > q * 6 + 2 {
@@ -31,10 +31,10 @@ fn settle(k: u64, q: u64) -> u64
     q - 1 + (left > q * 2) as u64 + (left > q * 4) as u64
 }
 
-// k * 2^52 - q^2 + 3 * q, or 0 where the two squares are far apart. q is a * 2^27 + b.
+// k * 2^52 - q^2 + 3 * q if that is above 2 and small, and otherwise 0. q is a * 2^27 + b.
 fn remainder(k: u64, q: u64) -> u64
     requires { ⌜ (k < 2 ^ 54) × (q < 2 ^ 53) ⌝ }
-    ensures { λ r. ⌜ (0 < r → r + q * q ≡ k * 2 ^ 52 + 3 * q) ⌝ }
+    ensures { λ r. ⌜ (0 < r → (2 < r) × (r + q * q ≡ k * 2 ^ 52 + 3 * q)) ⌝ }
 {
     let a = q / 0x800_0000;
     let b = q % 0x800_0000;
@@ -57,7 +57,7 @@ fn remainder(k: u64, q: u64) -> u64
     }
     let left = middle * 0x1000_0000 + q * 3;
     let low = b * b + 0x40_0000_0000_0000;
-    if left < low {
+    if left < low + 3 {
         return 0;
     }
     left - low

@@ -10,22 +10,16 @@ use Rattle.root.specs.Sqrt.{rootUnits}
 use Rattle.root.proofs.Cases.{sqrt-positive, sqrt-infinite, sqrt-zero, sqrt-refused}
 use Rattle.root.proofs.sqrt.Statement.{statement}
 use Rattle.root.proofs.sqrt.Tie as tie
-use Rattle.root.proofs.sqrt.Reads as reads
-use Rattle.root.proofs.sqrt.Lts as lts
-use Rattle.root.proofs.positive.Reads as positive-reads
 
--- src/lib.rt:21:17
 held : (c : tie.Start) → T (fits binary64 (c .args .x))
 held c = subst T (sym (c .good .0 .1)) tt
 
 float-to-bits-b : tie.Need-float-to-bits-b
 float-to-bits-b c = above-no-nan _ (c .if1 .taken)
 
--- src/lib.rt:23:29
 positive-requires : tie.Need-positive-requires
 positive-requires c κs = (above-pattern _ (held (c .before .before)) (c .before .if1 .taken), c .if2 .taken)
 
--- src/lib.rt:23:13
 returns : tie.Need-returns
 returns c =
     let a = c .before .before .before in
@@ -33,15 +27,12 @@ returns c =
     let p = finite-pattern x (held a) (c .before .before .if1 .taken) (c .before .if2 .taken) in
     ap given (c .positive .ensures ∙ ap (λ (y : Float). rootUnits (unitsOf y)) (ofBits-toBits binary64 x (held a))) ∙ sym (sqrt-positive x p)
 
--- src/lib.rt:25:9
 returns-2 : tie.Need-returns-2
 returns-2 c = sqrt-infinite _ (sym (above-zero _) ∙ c .before .if1 .taken) (infinite-pattern _ (held (c .before .before)) (c .before .if1 .taken) (c .if2 .left))
 
--- src/lib.rt:28:9
 returns-3 : tie.Need-returns-3
 returns-3 c = sqrt-zero _ (sym (equal-zero _) ∙ c .if3 .taken)
 
--- src/lib.rt:17:1
 returns-4 : tie.Need-returns-4
 returns-4 c = sqrt-refused _ (sym (above-zero _) ∙ c .before .if1 .left) (sym (equal-zero _) ∙ c .if3 .left)
 

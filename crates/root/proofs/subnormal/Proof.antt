@@ -1,6 +1,7 @@
+use mathlib.Core.Path.{_∙_}
 use Prim.Native.Nat.{_<_}
 use native.Mathlib.Omega.{arith}
-use Rattle.root.proofs.Scales.{Raising, raising-start, raising-next}
+use Rattle.root.proofs.Scales.{wide, root-units-at, Raising, raising-start, raising-next}
 use Rattle.root.proofs.subnormal.Statement.{statement}
 use Rattle.root.proofs.subnormal.Tie as tie
 
@@ -25,6 +26,15 @@ loop-less c = omega arith
 loop-again : tie.Need-loop-again Inv-loop μ-loop
 loop-again c = let i = c .before .loop .inv in (i .0, raising-next _ _ _ (i .0) (c .loop-test .taken) (i .1))
 
+sub-scaled : tie.Need-sub-scaled Inv-loop μ-loop
+sub-scaled c = omega arith
+
+mul-scaled : tie.Need-mul-scaled Inv-loop μ-loop
+mul-scaled c = let w = wide (c .before .loop .m) (c .before .loop .z) (c .loop-test .left) (c .before .loop .inv .1 .m-lt) in omega arith
+
+add-scaled : tie.Need-add-scaled Inv-loop μ-loop
+add-scaled c = omega arith
+
 add-guess : tie.Need-add-guess Inv-loop μ-loop
 add-guess c = omega arith
 
@@ -38,10 +48,12 @@ guess-requires : tie.Need-guess-requires Inv-loop μ-loop
 guess-requires c κs = omega arith
 
 scaled-requires : tie.Need-scaled-requires Inv-loop μ-loop
-scaled-requires c κs = omega arith
+scaled-requires c κs = let w = wide (c .before .before .loop .m) (c .before .before .loop .z) (c .before .loop-test .left) (c .before .before .loop .inv .1 .m-lt) in omega arith
 
 returns : tie.Need-returns Inv-loop μ-loop
-returns c = c .scaled .ensures _ (c .before .before .before .loop .inv .1 .value)
+returns c =
+    let a = c .before .before .before .loop in
+    c .scaled .ensures ∙ root-units-at _ (a .m) (a .z) (a .inv .1 .value) (c .before .before .loop-test .left) (a .inv .1 .m-lt) (a .inv .1 .z-ge)
 
 pub subnormal-spec : {M : Type 1} → statement M
 subnormal-spec =
@@ -54,6 +66,9 @@ subnormal-spec =
     sub-z
     loop-less
     loop-again
+    sub-scaled
+    mul-scaled
+    add-scaled
     add-guess
     mul-guess
     add-guess-2

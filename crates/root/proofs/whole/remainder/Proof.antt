@@ -46,11 +46,17 @@ mul-low c = let b = split-le (c .before .before .before .before .args .q) (c .be
 add-low : tie.Need-add-low
 add-low c = let b = split-le (c .before .before .before .before .args .q) (c .before .before .before .before .pre .1) in omega arith
 
+add-if5 : tie.Need-add-if5
+add-if5 c = let b = split-le (c .before .before .before .before .args .q) (c .before .before .before .before .pre .1) in omega arith
+
 returns-5 : tie.Need-returns-5
 returns-5 c = search needs
 
+sub-result : tie.Need-sub-result
+sub-result c = search needs
+
 returns-6 : tie.Need-returns-6
-returns-6 c = let e = split-square (c .before .before .before .before .before .args .q) in omega arith
+returns-6 c = let e = split-square (c .before .before .before .before .before .args .q) in λ r. (omega arith, omega arith)
 
 pub remainder-spec : {M : Type 1} → statement M
 remainder-spec =
@@ -70,5 +76,7 @@ remainder-spec =
     add-left
     mul-low
     add-low
+    add-if5
     returns-5
+    sub-result
     returns-6)

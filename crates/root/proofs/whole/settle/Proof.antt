@@ -6,63 +6,48 @@ use Rattle.root.proofs.Remainders.{bit-le, settled}
 use borrow.Author.Needs.{needs}
 use Rattle.root.proofs.whole.settle.Statement.{statement}
 use Rattle.root.proofs.whole.settle.Tie as tie
-use Rattle.root.proofs.whole.settle.Reads as reads
-use Rattle.root.proofs.whole.settle.Lts as lts
-use Rattle.root.proofs.whole.remainder.Reads as remainder-reads
 
--- src/whole.rt:24:9
 remainder-requires : tie.Need-remainder-requires
 remainder-requires c κs = search needs
 
--- src/whole.rt:26:9
 returns : tie.Need-returns
 returns c = search needs
 
--- src/whole.rt:28:15
 mul-if2 : tie.Need-mul-if2
 mul-if2 c = search needs
 
--- src/whole.rt:28:15
 add-if2 : tie.Need-add-if2
 add-if2 c = search needs
 
--- src/whole.rt:29:9
 returns-2 : tie.Need-returns-2
 returns-2 c = search needs
 
--- src/whole.rt:31:5
 sub-result : tie.Need-sub-result
 sub-result c = search needs
 
--- src/whole.rt:31:21
 mul-result : tie.Need-mul-result
 mul-result c = search needs
 
--- src/whole.rt:31:13
 cast-result : tie.Need-cast-result
 cast-result c = search needs
 
--- src/whole.rt:31:5
 add-result : tie.Need-add-result
 add-result c = omega (arith, bit-le (ltb (c .before .before .before .args .q * 2) (c .before .before .remainder .result)))
 
--- src/whole.rt:31:45
 mul-result-2 : tie.Need-mul-result-2
 mul-result-2 c = search needs
 
--- src/whole.rt:31:37
 cast-result-2 : tie.Need-cast-result-2
 cast-result-2 c = search needs
 
--- src/whole.rt:31:5
 add-result-2 : tie.Need-add-result-2
 add-result-2 c = omega (arith, bit-le (ltb (c .before .before .before .args .q * 2) (c .before .before .remainder .result)), bit-le (ltb (c .before .before .before .args .q * 4) (c .before .before .remainder .result)))
 
--- src/whole.rt:20:1
 returns-3 : tie.Need-returns-3
 returns-3 c r =
     let a = c .before .before .before in
-    found _ _ (a .pre .0) (a .pre .1) (settled _ _ _ (c .before .before .remainder .ensures (omega arith)) (omega arith) (c .before .if1 .left) (c .if2 .left))
+    let e = c .before .before .remainder .ensures (omega arith) in
+    found _ _ (a .pre .0) (a .pre .1) (settled _ _ _ (e .1) (omega arith) (e .0) (c .if2 .left))
 
 pub settle-spec : {M : Type 1} → statement M
 settle-spec =
