@@ -30,6 +30,9 @@ power-split j k h = ap (λ (x : ℕ). 2 ^ x) (same j k h) ∙ pow-add 2 (j - k) 
 pub power-le-back : (a l : ℕ) → 2 ^ a ≤ 2 ^ l → a ≤ l
 power-le-back a l h = le-of-suc-le-suc (lt-of-not-le (λ (g : suc l ≤ a). lt-irrefl (2 ^ l) (lt-of-lt-of-le (pow-lt g) h)))
 
+pub power-lt-back : (a l : ℕ) → 2 ^ a < 2 ^ l → a < l
+power-lt-back a l h = lt-of-not-le (λ (g : l ≤ a). lt-irrefl (2 ^ a) (lt-of-lt-of-le h (pow-mono g)))
+
 -- ---- the next values above and below q * 2 ^ k, for a q of 53 digits
 -- n is a multiple of 2 ^ k, or below 2 ^ 52 * 2 ^ k
 data Place (n k : ℕ) : Type 0 where

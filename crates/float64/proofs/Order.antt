@@ -6,9 +6,9 @@ use native.Mathlib.Nat.{le-of-lt, le-of-eq, le-of-mul-le-mul-right, mul-le-mul-r
 use lib.Dec.{T, ltb, eqb, ltb→lt, eqb→eq}
 use lib.IntN.{ℤ}
 use lib.Pow.{pow-pos}
-use lib.Ieee.{Float, nan, inf, fin, binary64, up, down, le, fits}
-use lib.Ieee.Fits.{down-pos}
-use lib.Ieee.Exact.{HasValue}
+use lib.Ieee.{Float, nan, inf, fin, binary64, up, down, odd, le, fits}
+use lib.Ieee.Fits.{down-pos, odd-fits}
+use lib.Ieee.Exact.{HasValue, odd-sign}
 use lib.Ieee.Order.{transfer, le-of-values}
 use Rattle.float64.specs.Values.{finite, signOf}
 use Rattle.float64.specs.Units.{unitsOf}
@@ -22,11 +22,21 @@ cross a b t = go (ltb a b) (eqb a b) (ltb→lt a b) (eqb→eq a b) t
     go false true f g t = le-of-eq (g tt)
     go false false f g t = absurd t
 
+shown : (x : Float) (a c : ℕ) → HasValue x false a c → T (finite x) × (signOf x ≡ false)
+unfolding finite
+shown nan a c h = absurd h
+shown (inf s) a c h = absurd h
+shown (fin s m e) a c h = (tt, h .0)
+
 -- x is finite, not negative, and a value of binary64
 pub record Magnitude (x : Float) : Type 0 where
   pub is-finite : T (finite x)
   pub unsigned : signOf x ≡ false
   pub is-held : T (fits binary64 x)
+
+-- the value of q * 2 ^ k units
+pub odd-magnitude : (q k : ℕ) → q < 2 ^ 53 → q * 2 ^ k < 2 ^ 2098 → Magnitude (odd 53 false q k 1074)
+odd-magnitude q k h l = let p = shown (odd 53 false q k 1074) (q * 2 ^ k) (2 ^ 1074) (odd-sign 53 false q k 1074) in record { is-finite = p .0; unsigned = p .1; is-held = odd-fits binary64 53 false q k h (le-of-lt h) l }
 
 pub value-of : (x : Float) → Magnitude x → HasValue x false (unitsOf x) (2 ^ 1074)
 value-of x p = subst (λ (s : Bool). HasValue x s (unitsOf x) (2 ^ 1074)) (p .unsigned) (held x (p .is-finite) (p .is-held) .value)

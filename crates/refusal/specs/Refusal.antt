@@ -4,27 +4,25 @@ use mathlib.Core.List.{List, [], _∷_}
 use Rattle.refusal.specs.declared.Refusal.{Refusal}
 use Rattle.refusal.specs.declared.Refusal.the-variants.{Order, Sweeps, Length, Code, NotFinite, NotMirrored, TooShort, Spoiled, NoRoot}
 
--- A value, or a refusal by its number with the values that it carries.
+-- The number of each refusal in document 01's table, and the values beside it.
+abbrev pub entryOf : Refusal → ℕ × List ℕ
+entryOf Order = (1, [])
+entryOf Sweeps = (2, [])
+entryOf Length = (3, [])
+entryOf Code = (4, [])
+entryOf (NotFinite row column) = (5, row ∷ column ∷ [])
+entryOf (NotMirrored row column) = (6, row ∷ column ∷ [])
+entryOf TooShort = (7, [])
+entryOf Spoiled = (8, [])
+entryOf NoRoot = (9, [])
+
+abbrev pub numberOf : Refusal → ℕ
+numberOf r = entryOf r .0
+
+-- What a call tells: a value, or the number of a refusal and the values beside it.
 pub data Told (A : Type 0) : Type 0 where
   given : A → Told A
   refused : ℕ → List ℕ → Told A
 
--- The number and the values of each refusal.
 abbrev pub told : {A : Type 0} → Refusal → Told A
-told Order = refused 1 []
-told Sweeps = refused 2 []
-told Length = refused 3 []
-told Code = refused 4 []
-told (NotFinite row column) = refused 5 (row ∷ column ∷ [])
-told (NotMirrored row column) = refused 6 (row ∷ column ∷ [])
-told TooShort = refused 7 []
-told Spoiled = refused 8 []
-told NoRoot = refused 9 []
-
--- 0 stands for no refusal.
-abbrev pub numberTold : {A : Type 0} → Told A → ℕ
-numberTold (given v) = 0
-numberTold (refused n values) = n
-
-abbrev pub numberOf : Refusal → ℕ
-numberOf r = numberTold {A = ℕ} (told r)
+told r = refused (entryOf r .0) (entryOf r .1)

@@ -4,3 +4,5 @@ pub mod DigitLoop
 pub mod Remainders
 pub mod Scales
 pub mod Cases
+pub mod Rooted
+pub mod Correct

@@ -2,13 +2,15 @@
 use mathlib.Core.Path.{_≡_, refl, sym, ap, _∙_, subst}
 use mathlib.Core.Bool.{false}
 use Prim.Native.Nat.{ℕ, zero, suc, _+_, _-_, _*_, _/_, _%_, _^_, _≤_, _<_}
-use native.Mathlib.Nat.{mul-assoc, mul-comm, mul-one, mul-le-mul-right, mul-lt-mul-of-pos-right, mul-div-cancel, lt-of-not-le, lt-irrefl, lt-of-lt-of-le, pow-succ'}
+use native.Mathlib.Nat.{mul-assoc, mul-comm, mul-one, mul-le-mul-right, mul-lt-mul-of-pos-right, mul-div-cancel, pow-succ'}
 use native.Mathlib.Omega.{arith}
-use lib.Pow.{pow-add, pow-mono, pow-pos}
+use lib.Pow.{pow-add, pow-pos}
 use lib.Ieee.{Float, odd, size}
 use lib.Ieee.Digits.{size-lt, size-le}
+use Rattle.float64.proofs.Grid.{power-lt-back}
 use Rattle.root.specs.Sqrt.{nearestRoot, rootUnits}
 use Rattle.root.proofs.Squares.{twice-square}
+use Rattle.root.proofs.Floors.{root-digits}
 
 -- ---- how many digits n has
 size-at : (n m z : ℕ) → n * 2 ^ 53 ≡ m * 2 ^ z → 2 ^ 52 ≤ m → m < 2 ^ 53 → 1 ≤ z → size n ≡ z
@@ -17,14 +19,11 @@ size-at n m z e lo hi p =
     let b : 2 ^ 52 * 2 ^ z ≤ m * 2 ^ z = mul-le-mul-right (2 ^ z) lo in
     let c : size n ≤ z = size-le n z (omega arith) in
     let t : 2 ^ z ≡ 2 * 2 ^ (z - 1) = ap (λ (x : ℕ). 2 ^ x) (next z p) ∙ pow-succ' 2 (z - 1) in
-    let d : z - 1 < size n = back (z - 1) (size n) (let s = size-lt n in omega arith) in
+    let d : z - 1 < size n = power-lt-back (z - 1) (size n) (let s = size-lt n in omega arith) in
     omega arith
   where
     next : (z : ℕ) → 1 ≤ z → z ≡ suc (z - 1)
     next z h = omega arith
-
-    back : (i p : ℕ) → 2 ^ i < 2 ^ p → i < p
-    back i p h = lt-of-not-le (λ (g : p ≤ i). lt-irrefl (2 ^ i) (lt-of-lt-of-le h (pow-mono g)))
 
 -- ---- w = n * 4 ^ 53 / 4 ^ h is k * 2 ^ 52
 pub four-power : (h : ℕ) → 4 ^ h ≡ 2 ^ h * 2 ^ h
@@ -72,6 +71,9 @@ wide m z lo hi = go (2 - z % 2) (omega arith) (omega arith)
 -- ---- the digits of the root
 abbrev pub digitsOf : ℕ → ℕ → ℕ
 digitsOf m z = nearestRoot (kOf m z * 2 ^ 52)
+
+pub digits53 : (m z : ℕ) → 2 ^ 52 ≤ m → m < 2 ^ 53 → (2 ^ 52 ≤ digitsOf m z) × (digitsOf m z < 2 ^ 53)
+digits53 m z lo hi = let b = wide m z lo hi in root-digits (kOf m z) (b .0) (b .1)
 
 pub root-units-at : (n m z : ℕ) → n * 2 ^ 53 ≡ m * 2 ^ z → 2 ^ 52 ≤ m → m < 2 ^ 53 → 1 ≤ z → odd 53 false (digitsOf m z) (484 + (z + 1) / 2) 1074 ≡ rootUnits n
 unfolding rootUnits

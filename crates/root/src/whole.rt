@@ -64,7 +64,7 @@ fn remainder(k: u64, q: u64) -> u64
 }
 
 // The whole part of the root of k * 2^54, a binary digit a turn.
-fn digits(k: u64) -> u64
+pub fn digits(k: u64) -> u64
     requires { ⌜ k < 2 ^ 54 ⌝ }
     ensures { λ r. ⌜ (r * r ≤ k * 2 ^ 54) × (k * 2 ^ 54 < (r + 1) * (r + 1)) ⌝ }
 {

@@ -1,0 +1,29 @@
+-- The examples that document 01 marks P under "Entries to try". Definitions only.
+use Prim.Native.Nat.{ℕ}
+use mathlib.Core.Path.{_≡_}
+use mathlib.Core.List.{List, [], _∷_}
+use lib.Ieee.{binary64, ofBits}
+use Rattle.refusal.specs.Refusal.{given}
+use Rattle.root.specs.Sqrt.{sqrtOf}
+
+pub data Example : Type 0 where
+  -- the value with the first pattern has the root with the second
+  root : ℕ → ℕ → Example
+
+abbrev pub Holds : Example → Type 0
+Holds (root x r) = sqrtOf (ofBits binary64 x) ≡ given (ofBits binary64 r)
+
+-- 4 (it is 2), -0 (-0), 2, 2 ^ -1074 (2 ^ -537), 1 - 2 ^ -53 (itself), 1 + 2 ^ -52 (1)
+abbrev pub examples : List Example
+examples =
+    root 0x4010_0000_0000_0000 0x4000_0000_0000_0000
+    ∷ root 0x8000_0000_0000_0000 0x8000_0000_0000_0000
+    ∷ root 0x4000_0000_0000_0000 0x3ff6_a09e_667f_3bcd
+    ∷ root 0x0000_0000_0000_0001 0x1e60_0000_0000_0000
+    ∷ root 0x3fef_ffff_ffff_ffff 0x3fef_ffff_ffff_ffff
+    ∷ root 0x3ff0_0000_0000_0001 0x3ff0_0000_0000_0000
+    ∷ []
+
+abbrev pub All : List Example → Type 0
+All [] = Unit
+All (e ∷ es) = Holds e × All es
