@@ -72,20 +72,21 @@ fn scaled(k: u64, h: u64, g: u64) -> f64
     f64::from_bits((484 + h) * 0x10_0000_0000_0000 + whole::nearest_root(k, g))
 }
 
-// A number of 53 digits near those of the root of the value with the pattern b, found by Newton's
-// iteration for the inverse root. Nothing rests on how near it is.
+// A number of 53 digits near those of the root of the value with the pattern b. The inverse root y
+// is found by Newton's iteration, and the root from x * y by three terms of the binomial series.
+// Nothing rests on how near it is.
 fn guess(b: u64) -> u64
     requires { ⌜ b < 0x7ff0_0000_0000_0000 ⌝ }
     ensures { λ r. ⌜ (2 ^ 52 ≤ r) × (r < 2 ^ 53) ⌝ }
 {
     let x = f64::from_bits(b);
     let h = x * 0.5;
-    let mut y = f64::from_bits(0x5fe6_eb50_c7b5_37a9 - b / 2);
-    y = y * 1.5 - h * y * (y * y);
-    y = y * 1.5 - h * y * (y * y);
+    let mut y = f64::from_bits(0x5fe6_ed21_02dc_bfda - b / 2);
+    y = y * 1.50087896 - h * y * (y * y);
     y = y * 1.5 - h * y * (y * y);
     let s = x * y;
-    let r = s + (x - s * s) * (y * 0.5);
+    let e = 1.0 - s * y;
+    let r = s + s * e * (0.5 + 0.375 * e);
     if r != r {
         return 0x10_0000_0000_0000;
     }

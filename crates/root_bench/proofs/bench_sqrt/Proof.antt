@@ -4,27 +4,19 @@ use Rattle.root_bench.specs.Bench.{valueOr}
 use borrow.Author.Needs.{needs}
 use Rattle.root_bench.proofs.bench_sqrt.Statement.{statement}
 use Rattle.root_bench.proofs.bench_sqrt.Tie as tie
-use Rattle.root_bench.proofs.bench_sqrt.Reads as reads
-use Rattle.root_bench.proofs.bench_sqrt.Lts as lts
-use Rattle.root.proofs.sqrt.Reads as sqrt-reads
 
--- src/lib.rt:12:11
 sqrt-requires : tie.Need-sqrt-requires
 sqrt-requires c κs = search needs
 
--- src/lib.rt:13:18
 enum-known-y : tie.Need-enum-known-y
 enum-known-y c = search needs
 
--- src/lib.rt:14:29
 enum-told : tie.Need-enum-told
 enum-told c = search needs
 
--- src/lib.rt:8:1
 returns : tie.Need-returns
 returns c = ap valueOr (ap toldRoot (sym (c .before .y .given .1)) ∙ c .before .before .before .sqrt .ensures)
 
--- src/lib.rt:8:1
 returns-2 : tie.Need-returns-2
 returns-2 c = ap valueOr (ap toldRoot (sym (c .enum-told .given .1)) ∙ c .before .before .sqrt .ensures)
 
