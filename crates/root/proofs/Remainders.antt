@@ -1,12 +1,16 @@
 -- Which of q - 1, q and q + 1 is the whole number nearest to the root of w, by what is left of w. Assumes nothing.
 use mathlib.Core.Path.{_≡_, sym, subst}
 use mathlib.Core.Bool.{Bool, true, false, not}
-use Prim.Native.Nat.{ℕ, _+_, _-_, _*_, _≤_, _<_}
+use Prim.Native.Nat.{ℕ, _+_, _-_, _*_, _%_, _^_, _≤_, _<_}
 use native.Mathlib.Omega.{arith}
 use lib.Dec.{T, ltb, ltb→lt, nltb→le}
 use mir.Val.{boolByte}
 use Rattle.root.proofs.Squares.{next-square, previous-square}
 use Rattle.root.proofs.Floors.{Nearest}
+
+-- a difference that did not wrap
+pub unwrapped : (r b a : ℕ) → (r + b) % 2 ^ 64 ≡ a → r + b < 2 ^ 64 → r + b ≡ a
+unwrapped r b a e h = omega arith
 
 pub bit-le : (b : Bool) → boolByte b ≤ 1
 bit-le true = omega arith

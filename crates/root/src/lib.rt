@@ -72,21 +72,21 @@ fn scaled(k: u64, h: u64, g: u64) -> f64
     f64::from_bits((484 + h) * 0x10_0000_0000_0000 + whole::nearest_root(k, g))
 }
 
-// A number of 53 digits near those of the root of the value with the pattern b. The inverse root y
-// is found by Newton's iteration, and the root from x * y by three terms of the binomial series.
-// Nothing rests on how near it is.
+// A number of 53 digits near those of the root of the value x with the pattern b: two steps of
+// Newton's iteration for the inverse root, then three terms of the binomial series. The steps leave
+// out divisions by 2, so y becomes 16 times the inverse root and r 16 times the root, which has the
+// same digits. Nothing rests on how near they are.
 fn guess(b: u64) -> u64
     requires { ⌜ b < 0x7ff0_0000_0000_0000 ⌝ }
     ensures { λ r. ⌜ (2 ^ 52 ≤ r) × (r < 2 ^ 53) ⌝ }
 {
     let x = f64::from_bits(b);
-    let h = x * 0.5;
     let mut y = f64::from_bits(0x5fe6_ed21_02dc_bfda - b / 2);
-    y = y * 1.50087896 - h * y * (y * y);
-    y = y * 1.5 - h * y * (y * y);
+    y = y * 3.00175792 - x * y * (y * y);
+    y = y * 12.0 - x * y * (y * y);
     let s = x * y;
-    let e = 1.0 - s * y;
-    let r = s + s * e * (0.5 + 0.375 * e);
+    let e = 256.0 - s * y;
+    let r = s + s * e * (0.001953125 + 0.0000057220458984375 * e);
     if r != r {
         return 0x10_0000_0000_0000;
     }

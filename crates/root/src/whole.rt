@@ -2,6 +2,7 @@
 ghost use mathlib.Core.Path.{_≡_};
 ghost use Prim.Native.Nat.{_+_, _*_, _^_, _<_, _≤_};
 ghost use Rattle.root.specs.Sqrt.{nearestRoot};
+use std::num::wrapping_sub_u64;
 
 // The nearest whole number to the root of k * 2^52. It is looked for near g, and where it is not
 // found there it is worked out digit by digit.
@@ -22,45 +23,29 @@ fn settle(k: u64, q: u64) -> u64
     ensures { λ r. ⌜ (0 < r → r ≡ nearestRoot (k * 2 ^ 52)) ⌝ }
 {
     let left = remainder(k, q);
-    if left == 0 {
+    if left >= q * 6 {
         return 0;
     }
-    if left > q * 6 + 2 {
-        return 0;
-    }
-    q - 1 + (left > q * 2) as u64 + (left > q * 4) as u64
+    q - 1 + (left + 3 > q * 2) as u64 + (left + 3 > q * 4) as u64
 }
 
-// k * 2^52 - q^2 + 3 * q if that is above 2 and small, and otherwise 0. q is a * 2^27 + b.
+// k * 2^52 - q^2 + 3 * q - 3 if that is a number below 6 * q, and otherwise any other number. The
+// square is that of a * 2^27 + b.
 fn remainder(k: u64, q: u64) -> u64
     requires { ⌜ (k < 2 ^ 54) × (q < 2 ^ 53) ⌝ }
-    ensures { λ r. ⌜ (0 < r → (2 < r) × (r + q * q ≡ k * 2 ^ 52 + 3 * q)) ⌝ }
+    ensures { λ r. ⌜ (r < q * 6 → r + 3 + q * q ≡ k * 2 ^ 52 + 3 * q) ⌝ }
 {
     let a = q / 0x800_0000;
     let b = q % 0x800_0000;
-    let top = a * a * 4;
-    if k < top {
-        return 0;
-    }
-    let high = k - top;
+    let high = wrapping_sub_u64(k, a * a * 4);
     if high >= 0x4000_0000 {
-        return 0;
+        return u64::MAX;
     }
-    let scaled = high * 0x100_0000 + 0x400_0000;
-    let cross = a * b;
-    if scaled < cross {
-        return 0;
-    }
-    let middle = scaled - cross;
+    let middle = wrapping_sub_u64(high * 0x100_0000 + 0x400_0000, a * b);
     if middle >= 0x4000_0000 {
-        return 0;
+        return u64::MAX;
     }
-    let left = middle * 0x1000_0000 + q * 3;
-    let low = b * b + 0x40_0000_0000_0000;
-    if left < low + 3 {
-        return 0;
-    }
-    left - low
+    wrapping_sub_u64(middle * 0x1000_0000 + q * 3, b * b + 0x40_0000_0000_0003)
 }
 
 // The whole part of the root of k * 2^54, a binary digit a turn.
