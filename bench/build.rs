@@ -6,5 +6,8 @@ fn main() {
     let folder = Path::new(&root).join("../target/staticlib");
     println!("cargo:rustc-link-search=native={}", folder.display());
     println!("cargo:rustc-link-lib=static=root_bench");
-    println!("cargo:rerun-if-changed={}", folder.join("libroot_bench.a").display());
+    println!(
+        "cargo:rerun-if-changed={}",
+        folder.join("libroot_bench.a").display()
+    );
 }

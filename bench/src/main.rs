@@ -94,7 +94,11 @@ fn report(name: &str, inputs: &[f64], measure: Measure) {
     }
     let [processor, sqrt, digits] = best;
     println!("{name}: processor {processor:.1} ns, sqrt {sqrt:.1} ns, digit loop {digits:.1} ns");
-    println!("    sqrt / processor {:.1}, digit loop / sqrt {:.1}", sqrt / processor, digits / sqrt);
+    println!(
+        "    sqrt / processor {:.1}, digit loop / sqrt {:.1}",
+        sqrt / processor,
+        digits / sqrt
+    );
 }
 
 fn main() {
@@ -104,7 +108,9 @@ fn main() {
     };
     let mut random = Random(seed);
     let different = differences(&mut random);
-    println!("seed {seed}: {different} of {PATTERNS} random patterns differ from the processor's root");
+    println!(
+        "seed {seed}: {different} of {PATTERNS} random patterns differ from the processor's root"
+    );
     let normal = |b: u64| f64::from_bits((b % HIDDEN) | ((1 + (b >> 52) % 2046) << 52));
     let inputs: Vec<f64> = (0..INPUTS).map(|_| normal(random.next())).collect();
     report("each call waits for the last", &inputs, chained);

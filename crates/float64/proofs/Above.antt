@@ -1,9 +1,9 @@
 -- The values above zero by their patterns. Assumes nothing.
 use mathlib.Core.Path.{_≡_, refl, sym, _∙_}
 use mathlib.Core.Bool.{true, false, not, true≢false}
-use Prim.Native.Nat.{ℕ, _≤_, _<_}
+use Prim.Native.Nat.{_≤_, _<_}
 use native.Mathlib.Omega.{arith}
-use lib.Dec.{T, lit<}
+use lib.Dec.{T}
 use lib.Ieee.{Float, nan, inf, fin, binary64, lt, fits, isNan, toBits}
 use lib.Ieee.Positive.{positive, above}
 use Rattle.float64.specs.Values.{plusZero, finite}

@@ -4,7 +4,6 @@ use mathlib.Core.Bool.{Bool, true, false, _&&_, _||_, true≢false}
 use Prim.Native.Nat.{ℕ, _*_, _^_, _≤_, _<_}
 use native.Mathlib.Nat.{le-of-lt, le-of-eq, le-of-mul-le-mul-right, mul-le-mul-right}
 use lib.Dec.{T, ltb, eqb, ltb→lt, eqb→eq}
-use lib.IntN.{ℤ}
 use lib.Pow.{pow-pos}
 use lib.Ieee.{Float, nan, inf, fin, binary64, up, down, odd, le, fits}
 use lib.Ieee.Fits.{down-pos, odd-fits}
@@ -12,7 +11,7 @@ use lib.Ieee.Exact.{HasValue, odd-sign}
 use lib.Ieee.Order.{transfer, le-of-values}
 use Rattle.float64.specs.Values.{finite, signOf}
 use Rattle.float64.specs.Units.{unitsOf}
-use Rattle.float64.proofs.Units.{Held, held}
+use Rattle.float64.proofs.Units.{held}
 
 cross : (a b : ℕ) → T (ltb a b || (eqb a b && true)) → a ≤ b
 cross a b t = go (ltb a b) (eqb a b) (ltb→lt a b) (eqb→eq a b) t

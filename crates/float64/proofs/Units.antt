@@ -2,9 +2,9 @@
 use mathlib.Core.Path.{_≡_, refl, sym, ap, _∙_, subst}
 use mathlib.Core.Bool.{Bool, true, false, _&&_, cond}
 use Prim.Native.Nat.{ℕ, zero, suc, _+_, _-_, _*_, _/_, _%_, _^_, _≤_, _<_}
-use native.Mathlib.Nat.{zero-add, add-assoc, mul-assoc, mul-one, one-mul, mul-comm, mul-right-comm, mul-pos, mul-div-cancel, mul-lt-mul-of-pos-right, lt-of-mul-lt-mul-right, zero-mul, zero-lt-suc, lt-irrefl}
+use native.Mathlib.Nat.{zero-add, add-assoc, mul-assoc, mul-one, one-mul, mul-right-comm, mul-pos, mul-div-cancel, mul-lt-mul-of-pos-right, lt-of-mul-lt-mul-right, zero-mul}
 use native.Mathlib.Omega.{arith}
-use lib.Dec.{T, leb, ltb, eqb, lit<, ltb→lt, leb→le}
+use lib.Dec.{T, leb, ltb, eqb, ltb→lt, leb→le}
 use lib.IntN.{ℤ, pos, negsuc}
 use lib.Pow.{pow-add, pow-pos}
 use lib.Ieee.{Float, nan, inf, fin, binary64, up, down, size, fits, ofBits, toBits}

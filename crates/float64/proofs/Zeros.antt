@@ -5,9 +5,9 @@ use Prim.Native.Nat.{ℕ, zero, suc, _*_, _<_}
 use native.Mathlib.Nat.{mul-pos, zero-lt-suc}
 use native.Mathlib.Omega.{arith}
 use borrow.Author.Tests.{lt-ltb, le-ltb, eq-eqb, ne-eqb}
-use lib.Dec.{T, ltb, eqb}
+use lib.Dec.{eqb}
 use lib.IntN.{ℤ}
-use lib.Ieee.{Float, nan, inf, fin, binary64, up, down, lt, eq, ofBits}
+use lib.Ieee.{Float, nan, inf, fin, up, down, lt, eq, ofBits}
 use lib.Ieee.Fits.{up-pos}
 use lib.Ieee.Positive.{above}
 use Rattle.float64.specs.Values.{plusZero, isZero}

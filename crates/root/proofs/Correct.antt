@@ -1,18 +1,17 @@
 -- The square root is the correctly rounded one. Assumes nothing.
 use mathlib.Core.Path.{_≡_, refl, sym, ap, _∙_, subst}
 use mathlib.Core.Bool.{true, false, true≢false}
-use Prim.Native.Nat.{ℕ, zero, suc, _+_, _*_, _/_, _^_, _≤_, _<_}
-use native.Mathlib.Nat.{le-of-eq, le-trans, mul-le-mul-right, mul-lt-mul-of-pos-right, lt-of-lt-of-le}
+use Prim.Native.Nat.{ℕ, _+_, _*_, _/_, _^_, _≤_, _<_}
+use native.Mathlib.Nat.{mul-le-mul-right, lt-of-lt-of-le}
 use native.Mathlib.Omega.{arith}
-use borrow.Author.Tests.{lt-ltb}
 use lib.Dec.{T}
-use lib.Pow.{pow-mono, pow-pos, shl-lt}
+use lib.Pow.{pow-mono, shl-lt}
 use lib.Ieee.{Float, nan, inf, fin, binary64, le, fits, ofBits}
 use lib.Ieee.Positive.{positive}
-use Rattle.refusal.specs.Refusal.{Told, given}
-use Rattle.float64.specs.Values.{one, finite, signOf}
+use Rattle.refusal.specs.Refusal.{given}
+use Rattle.float64.specs.Values.{one, finite}
 use Rattle.float64.specs.Units.{unitsOf}
-use Rattle.float64.proofs.Grid.{Grid, Top, top-of, power-grid, power-lt-back}
+use Rattle.float64.proofs.Grid.{Top, top-of, power-grid, power-lt-back}
 use Rattle.float64.proofs.Units.{held, units-above, same-units}
 use Rattle.float64.proofs.Patterns.{odd-units}
 use Rattle.float64.proofs.Order.{Magnitude, odd-magnitude, le-of-units, units-of-le}

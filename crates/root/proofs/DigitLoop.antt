@@ -1,5 +1,5 @@
 -- The root of k * 2 ^ 54, a binary digit a turn. Assumes nothing.
-use mathlib.Core.Path.{_≡_, sym, ap, _∙_, subst}
+use mathlib.Core.Path.{_≡_, sym, ap, _∙_}
 use Prim.Native.Nat.{ℕ, _+_, _-_, _*_, _/_, _%_, _^_, _≤_, _<_}
 use native.Mathlib.Nat.{mul-comm, mul-assoc, one-mul, pow-succ'}
 use native.Mathlib.Numerals.{add-one}

@@ -7,7 +7,7 @@ use native.Mathlib.Nat.{mul-add, mul-one, suc-mul, mul-le-mul-left, mul-le-mul-r
 use native.Mathlib.Omega.{arith}
 use lib.Dec.{T, leb, ltb, leb→le, nleb→lt, ltb→lt, nltb→le}
 use Rattle.root.specs.Sqrt.{wholeRoot, nearestRoot}
-use Rattle.root.proofs.Squares.{next-square, twice-square, twice-next-square, square-le}
+use Rattle.root.proofs.Squares.{next-square, twice-square, twice-next-square}
 
 -- ---- r is the whole part of the root of n
 abbrev pub Floor : ℕ → ℕ → Type 0

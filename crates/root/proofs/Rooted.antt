@@ -1,12 +1,11 @@
 -- Roots in units of 2 ^ -1074: the root is nearer to the exact root than any other value of 53 digits. Assumes nothing.
 use mathlib.Core.Path.{_≡_, refl, sym, ap, _∙_, subst}
 use Prim.Native.Nat.{ℕ, suc, _+_, _-_, _*_, _/_, _^_, _≤_, _<_}
-use native.Mathlib.Nat.{add-mul, add-comm, suc-mul, mul-assoc, mul-mul-mul-comm, mul-pos, mul-le-mul, mul-le-mul-right, mul-lt-mul-of-pos-right, eq-of-mul-eq-mul-right, le-of-eq, le-trans, le-antisymm, lt-of-lt-of-le, lt-of-le-of-lt}
+use native.Mathlib.Nat.{add-mul, add-comm, suc-mul, mul-assoc, mul-mul-mul-comm, mul-pos, mul-le-mul-right, mul-lt-mul-of-pos-right, eq-of-mul-eq-mul-right, le-of-eq, le-trans, le-antisymm, lt-of-lt-of-le, lt-of-le-of-lt}
 use native.Mathlib.Decide.{decLe}
 use native.Mathlib.Omega.{arith}
 use lib.Pow.{pow-add, pow-pos}
-use Rattle.float64.proofs.Grid.{Grid, power-grid, next-above, next-below, Top}
-use Rattle.root.specs.Sqrt.{nearestRoot}
+use Rattle.float64.proofs.Grid.{Grid, next-above, next-below, Top}
 use Rattle.root.proofs.Squares.{next-square, twice-square, twice-next-square, square-le, square-lt}
 use Rattle.root.proofs.Floors.{Nearest, nearest-root}
 use Rattle.root.proofs.Scales.{kOf, digitsOf, wide, digits53, scaled-by-four, four-power}

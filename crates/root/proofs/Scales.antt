@@ -2,10 +2,10 @@
 use mathlib.Core.Path.{_≡_, refl, sym, ap, _∙_, subst}
 use mathlib.Core.Bool.{false}
 use Prim.Native.Nat.{ℕ, zero, suc, _+_, _-_, _*_, _/_, _%_, _^_, _≤_, _<_}
-use native.Mathlib.Nat.{mul-assoc, mul-comm, mul-one, mul-le-mul-right, mul-lt-mul-of-pos-right, mul-div-cancel, pow-succ'}
+use native.Mathlib.Nat.{mul-assoc, mul-le-mul-right, mul-lt-mul-of-pos-right, mul-div-cancel, pow-succ'}
 use native.Mathlib.Omega.{arith}
 use lib.Pow.{pow-add, pow-pos}
-use lib.Ieee.{Float, odd, size}
+use lib.Ieee.{odd, size}
 use lib.Ieee.Digits.{size-lt, size-le}
 use Rattle.float64.proofs.Grid.{power-lt-back}
 use Rattle.root.specs.Sqrt.{nearestRoot, rootUnits}

@@ -1,5 +1,5 @@
 -- Identities and bounds on squares of whole numbers. Assumes nothing.
-use mathlib.Core.Path.{_≡_, sym, ap, _∙_}
+use mathlib.Core.Path.{_≡_, ap, _∙_}
 use Prim.Native.Nat.{ℕ, _+_, _-_, _*_, _/_, _%_, _^_, _≤_, _<_}
 use native.Mathlib.Nat.{mul-add, add-mul, mul-comm, mul-right-comm, mul-mul-mul-comm, mul-le-mul, mul-le-mul-left, mul-lt-mul-of-pos-right, le-of-lt, lt-of-le-of-lt}
 use native.Mathlib.Omega.{arith}

@@ -1,6 +1,6 @@
 -- Document 01, "Square root": the f64 nearest to the exact root, judged by squares of whole numbers. Definitions only.
 use Prim.Native.Nat.{ℕ, zero, suc, _+_, _*_, _/_, _^_}
-use mathlib.Core.Bool.{Bool, true, false, cond}
+use mathlib.Core.Bool.{true, false, cond}
 use mathlib.Core.List.{[]}
 use lib.Dec.{leb, ltb}
 use lib.Ieee.{Float, nan, inf, fin, size, odd}

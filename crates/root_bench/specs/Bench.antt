@@ -1,5 +1,4 @@
 -- What the benchmark's functions answer. Definitions only.
-use Prim.Native.Nat.{ℕ}
 use lib.Ieee.{Float, neg}
 use Rattle.refusal.specs.Refusal.{Told, given, refused}
 use Rattle.float64.specs.Values.{one}
