@@ -1,0 +1,10 @@
+pub mod Movement
+pub mod Lines
+pub mod Clock
+pub mod Wires
+pub mod Skew
+pub mod Ticks
+pub mod Steps
+pub mod Agreement
+pub mod Printed
+pub mod Neighbourhood

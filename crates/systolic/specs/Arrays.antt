@@ -1,0 +1,25 @@
+-- Document 01, "The array": all tiles, joined. Definitions only.
+use Prim.Native.Nat.{ℕ, zero, suc, _-_}
+use mathlib.Core.Bool.{false, cond}
+use lib.Dec.{ltb}
+use Rattle.systolic.specs.Blocks.{Block, tab, pick}
+use Rattle.systolic.specs.Synchronous.{Operations}
+use Rattle.systolic.specs.Tiles.{Tile, joined, tickTile}
+
+-- the neighbour of j that is one nearer to i
+unfoldable pub nearer : ℕ → ℕ → ℕ
+nearer i j = cond (ltb i j) (j - 1) (suc j)
+
+-- what the cell lines bring to tile (i, j)
+unfoldable pub incoming : {X H W : Type 0} → ℕ → (ℕ → ℕ → Tile X H W) → ℕ → ℕ → Block X
+incoming m A i j = tab (λ h g. pick (λ i' j'. A i' j' .lines) (joined m h i) (joined m g j))
+
+-- One tick: every tile reads the lines as they were before it.
+unfoldable pub tick : {X H W : Type 0} → Operations X H W → ℕ → ℕ → ℕ → (ℕ → ℕ → Tile X H W) → ℕ → ℕ → Tile X H W
+tick S m K t A i j = tickTile S m K t i j (A i j) (incoming m A i j) (A i (nearer i j) .rowLine) (A (nearer j i) j .columnLine)
+
+-- after t ticks, those numbered 0 to t - 1
+unfoldable pub arrayAfter : {X H W : Type 0} → Operations X H W → ℕ → ℕ → ℕ → ℕ → ℕ → Tile X H W
+arrayAfter S m K zero i j =
+    record { cells = S .initial i j; lines = tab (λ r s. S .lineStart); rowLine = S .rowStart; columnLine = S .columnStart; mark = false }
+arrayAfter S m K (suc t) i j = tick S m K t (arrayAfter S m K t) i j

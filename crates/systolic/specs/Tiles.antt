@@ -1,0 +1,110 @@
+-- Document 01, "The array": what one tile does in one tick, from itself and what its wires bring. Definitions only.
+use Prim.Native.Nat.{ℕ, zero, suc, _+_, _-_, _*_, _/_, _%_}
+use mathlib.Core.Bool.{Bool, cond, _||_}
+use lib.Dec.{ltb, eqb}
+use Rattle.systolic.specs.Slots.{Side, left, right, flip, Slot, slot}
+use Rattle.systolic.specs.Blocks.{Block, cell, tab}
+use Rattle.systolic.specs.Synchronous.{Operations}
+
+-- the tile's distance Δ from the diagonal
+abbrev pub distance : ℕ → ℕ → ℕ
+distance i j = (i - j) + (j - i)
+
+-- Four cells; the four outgoing lines α β γ δ, each named after the corner it leaves by; the outgoing parameter lines; the mark.
+pub record Tile (X H W : Type 0) : Type 0 where
+  pub cells : Block X
+  pub lines : Block X
+  pub rowLine : H
+  pub columnLine : W
+  pub mark : Bool
+
+-- The wiring is a product of one for rows and one for columns.
+-- Which register's cells leave by the side r of processor i: at the first processor those of that side, elsewhere those of the other.
+unfoldable pub carried : ℕ → Side → Side
+carried zero r = r
+carried (suc i) r = flip r
+
+-- What the side r of processor i is joined with: the facing side of the neighbour, or at an end itself. It is its own inverse, so it says
+-- both where a line leads and whose line comes in.
+unfoldable pub joined : ℕ → Side → ℕ → Slot
+joined m left zero = slot 0 left
+joined m left (suc i) = slot i right
+joined m right i = cond (eqb i m) (slot m right) (slot (suc i) left)
+
+-- the phase, T - Δ modulo 3, in which tile (i, j) sets a line
+unfoldable pub phaseOf : ℕ → Side → Side → ℕ → ℕ → ℕ
+phaseOf m left left zero j = 1
+phaseOf m left left (suc i) zero = 1
+phaseOf m left left (suc i) (suc j) = 2
+phaseOf m left right i j = cond (ltb j i) 0 2
+phaseOf m right left i j = cond (ltb i j) 0 2
+phaseOf m right right i j = cond (eqb i m) 1 (cond (eqb j m) 1 2)
+
+-- What a tile does in a tick: nothing; its first rotation, at T = Δ, which reads no cells; a later rotation; nothing but setting lines in the
+-- two phases after a rotation; its last reading, at T = Δ + 3 K.
+pub data Action : Type 0 where
+  idle first rotate second third final : Action
+
+-- by t = T - Δ
+unfoldable pub action : ℕ → ℕ → Action
+action K t =
+    cond (ltb (t / 3) K)
+    (cond (eqb (t % 3) 0) (cond (eqb (t / 3) 0) first rotate) (cond (eqb (t % 3) 1) second third))
+    (cond (eqb t (3 * K)) (cond (eqb K 0) idle final) idle)
+
+unfoldable pub actionAt : ℕ → ℕ → ℕ → Action
+actionAt K Δ t = cond (ltb t Δ) idle (action K (t - Δ))
+
+-- the step that a tile at distance Δ is in
+unfoldable pub stepAt : ℕ → ℕ → ℕ
+stepAt Δ t = (t - Δ) / 3
+
+unfoldable pub turnTile : {X H W : Type 0} → Operations X H W → ℕ → ℕ → ℕ → H → W → Block X → Block X
+turnTile S k i j h v b = cond (eqb i j) (S .diagonal k i b) (S .offDiagonal k i j h v b)
+
+-- the cells after the tick, from the cells b, what the cell lines bring in, and what the parameter lines bring in
+unfoldable pub newCells : {X H W : Type 0} → Operations X H W → ℕ → ℕ → ℕ → Action → Block X → Block X → H → W → Block X
+newCells S k i j idle b ins h v = b
+newCells S k i j first b ins h v = turnTile S k i j h v b
+newCells S k i j rotate b ins h v = turnTile S k i j h v ins
+newCells S k i j second b ins h v = b
+newCells S k i j third b ins h v = b
+newCells S k i j final b ins h v = ins
+
+-- A parameter line: a diagonal tile sends f of the cells that it rotates, any other passes on what comes in.
+unfoldable pub newParameter : {X P : Type 0} → (Block X → P) → ℕ → ℕ → Action → Block X → Block X → P → P → P
+newParameter f i j idle b ins p old = old
+newParameter f i j first b ins p old = cond (eqb i j) (f b) p
+newParameter f i j rotate b ins p old = cond (eqb i j) (f ins) p
+newParameter f i j second b ins p old = old
+newParameter f i j third b ins p old = old
+newParameter f i j final b ins p old = old
+
+-- the phase in which the tile is; 3 where it sets no line
+unfoldable pub phaseIn : Action → ℕ
+phaseIn idle = 3
+phaseIn first = 0
+phaseIn rotate = 0
+phaseIn second = 1
+phaseIn third = 2
+phaseIn final = 3
+
+-- the cell lines after the tick, from the cells c after it: a line keeps its value until it is set
+unfoldable pub newLines : {X : Type 0} → ℕ → ℕ → ℕ → Action → Block X → Block X → Block X
+newLines m i j a c old =
+    tab (λ r s. cond (eqb (phaseIn a) (phaseOf m r s i j)) (cell (carried i r) (carried j s) c) (cell r s old))
+
+-- A tile is marked, for good, once its cells are bad at the end of a tick.
+unfoldable pub newTile : {X H W : Type 0} → Operations X H W → ℕ → ℕ → ℕ → ℕ → Action → Tile X H W → Block X → H → W → Tile X H W
+newTile S m k i j a old ins h v =
+    record {
+      cells = newCells S k i j a (old .cells) ins h v;
+      lines = newLines m i j a (newCells S k i j a (old .cells) ins h v) (old .lines);
+      rowLine = newParameter (S .sendsRow k i) i j a (old .cells) ins h (old .rowLine);
+      columnLine = newParameter (S .sendsColumn k i) i j a (old .cells) ins v (old .columnLine);
+      mark = old .mark || S .bad (newCells S k i j a (old .cells) ins h v)
+    }
+
+-- Tile (i, j) after tick t of an array of m + 1 by m + 1 tiles that runs K steps: a function of the tile and what comes in, and of nothing else.
+unfoldable pub tickTile : {X H W : Type 0} → Operations X H W → ℕ → ℕ → ℕ → ℕ → ℕ → Tile X H W → Block X → H → W → Tile X H W
+tickTile S m K t i j old ins h v = newTile S m (stepAt (distance i j) t) i j (actionAt K (distance i j) t) old ins h v

@@ -1,0 +1,22 @@
+-- What crosses the wires in a tick, as tests, so that it can be counted. Definitions only.
+use Prim.Native.Nat.{ℕ}
+use mathlib.Core.Bool.{Bool, true, false, not, _&&_}
+use lib.Dec.{eqb}
+use Rattle.systolic.specs.Slots.{Side}
+use Rattle.systolic.specs.Tiles.{distance, Action, idle, first, rotate, second, third, final, actionAt, phaseIn, phaseOf}
+
+-- tile (i, j) sets its line by the corner (r, s) in tick t
+unfoldable pub setsLine : ℕ → ℕ → ℕ → Side → Side → ℕ → ℕ → Bool
+setsLine m K t r s i j = eqb (phaseIn (actionAt K (distance i j) t)) (phaseOf m r s i j)
+
+abbrev pub rotates : Action → Bool
+rotates idle = false
+rotates first = true
+rotates rotate = true
+rotates second = false
+rotates third = false
+rotates final = false
+
+-- tile (i, j) receives a parameter along its row and one along its column in tick t
+unfoldable pub receives : ℕ → ℕ → ℕ → ℕ → Bool
+receives K t i j = not (eqb i j) && rotates (actionAt K (distance i j) t)
