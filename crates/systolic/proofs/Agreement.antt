@@ -1,40 +1,20 @@
--- The array computes what the plain run computes. Assumes nothing.
-use Prim.Native.Nat.{ℕ, zero, suc, _+_, _-_, _*_, _/_, _≤_, _<_}
+-- The array computes what the sequential run computes. Assumes nothing.
+use Prim.Native.Nat.{ℕ, zero, suc, _+_, _-_, _*_, _≤_, _<_}
 use mathlib.Core.Path.{_≡_, refl, sym, _∙_, ap}
 use mathlib.Core.Logic.{_↔_}
-use mathlib.Core.Bool.{Bool, true, false, cond, _||_, true≢false}
+use mathlib.Core.Bool.{Bool, false, _||_}
 use native.Mathlib.Omega.{arith}
-use borrow.Author.Tests.{ltb-true, ltb-false}
-use lib.Dec.{ltb}
-use Rattle.systolic.specs.Slots.{Side, left, right, Slot, slot, cameFrom, prior, nextBy, lineAt, inOrder, any, together}
+use Rattle.systolic.specs.Slots.{Side, left, right, Slot, slot, cameFrom, prior, nextBy, lineAt, inOrder, any}
 use Rattle.systolic.specs.Blocks.{Block, cell, tab, pick}
 use Rattle.systolic.specs.Synchronous.{Operations, rotateAll, moveAll, blocksAt, rotatedAt}
-use Rattle.systolic.specs.Tiles.{first, final}
-use Rattle.systolic.specs.Arrays.{tick, arrayAfter}
+use Rattle.systolic.specs.Arrays.{arrayAfter}
 use Rattle.systolic.specs.Sequential.{Rules, sequential, failsIn, blockAt, anyFails, operationsOf}
+use Rattle.systolic.proofs.Bounded.{or-false, same-bool, any-to, any-from}
 use Rattle.systolic.proofs.Movement.{prior-le, nextBy-le}
 use Rattle.systolic.proofs.Lines.{Distinct, line-at, line-from, line-one, line-sweeps, inOrder-one, inOrder-in, inOrder-of}
-use Rattle.systolic.proofs.Skew.{cell-tab, tab-ext}
-use Rattle.systolic.proofs.Ticks.{or-false, false-or, A-end, Fine, theorem-B}
-use Rattle.systolic.proofs.Steps.{step-is}
-
--- bounded tests
-pub any-to : (n : ℕ) (f : ℕ → Bool) → any n f ≡ false → (i : ℕ) → i < n → f i ≡ false
-unfolding any
-any-to zero f e i l = absurd (omega arith)
-any-to (suc n) f e i l = go (ltb i n) refl (any-to n f (or-false (any n f) (f n) e .0) i)
-  where
-    go : (b : Bool) → ltb i n ≡ b → (i < n → f i ≡ false) → f i ≡ false
-    go true z r = r (ltb-true _ _ z)
-    go false z r =
-        let w : n ≤ i = ltb-false _ _ z in
-        let w′ : i ≡ n = omega arith in
-        ap f w′ ∙ or-false (any n f) (f n) e .1
-
-pub any-from : (n : ℕ) (f : ℕ → Bool) → ((i : ℕ) → i < n → f i ≡ false) → any n f ≡ false
-unfolding any
-any-from zero f g = refl
-any-from (suc n) f g = false-or (any n f) (f n) (any-from n f (λ i l. g i (omega arith))) (g n (omega arith))
+use Rattle.systolic.proofs.Cells.{cell-tab, tab-ext}
+use Rattle.systolic.proofs.Ticks.{cells-end, marks-fine}
+use Rattle.systolic.proofs.Steps.{step-agrees}
 
 four-to : (a b c d : Bool) → (a || b || c || d) ≡ false → (a ≡ false) × (b ≡ false) × (c ≡ false) × (d ≡ false)
 four-to a b c d e =
@@ -46,71 +26,64 @@ four-to a b c d e =
 four-from : (a b c d : Bool) → a ≡ false → b ≡ false → c ≡ false → d ≡ false → (a || b || c || d) ≡ false
 four-from a b c d e f g h = rw (e, f, g, h)
 
--- two tests that fail together are one
-pub same-bool : (a b : Bool) → (a ≡ false → b ≡ false) → (b ≡ false → a ≡ false) → a ≡ b
-same-bool true true f g = refl
-same-bool true false f g = g refl
-same-bool false true f g = sym (f refl)
-same-bool false false f g = refl
-
 module _ {X H W : Type 0} (R : Rules X H W) (l : Slot → ℕ) (m : ℕ) (one : Distinct m l) (M : ℕ → ℕ → X) (x : X) (h : H) (w : W) where
   abbrev S : Operations X H W
   S = operationsOf R l M x h w
 
-  rot-same : (k : ℕ) (s t : ℕ → ℕ → Block X) → ((i j : ℕ) → i ≤ m → j ≤ m → s i j ≡ t i j) → (i j : ℕ) → i ≤ m → j ≤ m
-    → rotateAll (operationsOf R l M x h w) k s i j ≡ rotateAll (operationsOf R l M x h w) k t i j
+  rotated-same : (k : ℕ) (s t : ℕ → ℕ → Block X) → ((i j : ℕ) → i ≤ m → j ≤ m → s i j ≡ t i j) → (i j : ℕ) → i ≤ m → j ≤ m
+      → rotateAll (operationsOf R l M x h w) k s i j ≡ rotateAll (operationsOf R l M x h w) k t i j
   unfolding rotateAll
-  rot-same k s t e i j p q = rw (e i i p p, e j j q q, e i j p q)
+  rotated-same k s t e i j p q = rw (e i i p p, e j j q q, e i j p q)
 
   abbrev Same : ℕ → Type 0
   Same k = (i j : ℕ) → i ≤ m → j ≤ m → blocksAt (operationsOf R l M x h w) m k i j ≡ blockAt (lineAt l m k) (sequential R l m M k) i j
 
-  rot-after : (k : ℕ) → Same k → (i j : ℕ) → i ≤ m → j ≤ m
-    → rotateAll (operationsOf R l M x h w) k (blocksAt (operationsOf R l M x h w) m k) i j ≡ blockAt (lineAt l m k) (sequential R l m M (suc k)) i j
+  rotated-after : (k : ℕ) → Same k → (i j : ℕ) → i ≤ m → j ≤ m
+      → rotateAll (operationsOf R l M x h w) k (blocksAt (operationsOf R l M x h w) m k) i j ≡ blockAt (lineAt l m k) (sequential R l m M (suc k)) i j
   unfolding sequential
-  rot-after k e i j p q =
-      rot-same k (blocksAt (operationsOf R l M x h w) m k) (blockAt (lineAt l m k) (sequential R l m M k)) e i j p q
-      ∙ step-is R k m (lineAt l m k) (line-one l m one k) (sequential R l m M k) l M x h w i j p q
+  rotated-after k e i j p q =
+      rotated-same k (blocksAt (operationsOf R l M x h w) m k) (blockAt (lineAt l m k) (sequential R l m M k)) e i j p q
+      ∙ step-agrees R k m (lineAt l m k) (line-one l m one k) (sequential R l m M k) l M x h w i j p q
 
-  moved-on : (k : ℕ)
-    → ((i j : ℕ) → i ≤ m → j ≤ m → rotateAll (operationsOf R l M x h w) k (blocksAt (operationsOf R l M x h w) m k) i j ≡ blockAt (lineAt l m k) (sequential R l m M (suc k)) i j)
-    → (i j : ℕ) → i ≤ m → j ≤ m
-    → moveAll m (rotateAll (operationsOf R l M x h w) k (blocksAt (operationsOf R l M x h w) m k)) i j ≡ blockAt (lineAt l m (suc k)) (sequential R l m M (suc k)) i j
+  moved-agrees : (k : ℕ)
+      → ((i j : ℕ) → i ≤ m → j ≤ m → rotateAll (operationsOf R l M x h w) k (blocksAt (operationsOf R l M x h w) m k) i j ≡ blockAt (lineAt l m k) (sequential R l m M (suc k)) i j)
+      → (i j : ℕ) → i ≤ m → j ≤ m
+      → moveAll m (rotateAll (operationsOf R l M x h w) k (blocksAt (operationsOf R l M x h w) m k)) i j ≡ blockAt (lineAt l m (suc k)) (sequential R l m M (suc k)) i j
   unfolding moveAll pick blockAt lineAt prior slot
-  moved-on k e i j p q =
+  moved-agrees k e i j p q =
       tab-ext _ _ (λ r s.
-        ap (cell (cameFrom m r i .side) (cameFrom m s j .side))
-          (e (cameFrom m r i .processor) (cameFrom m s j .processor) (prior-le m (slot i r) p) (prior-le m (slot j s) q))
-        ∙ cell-tab _ (cameFrom m r i .side) (cameFrom m s j .side))
+      ap (cell (cameFrom m r i .side) (cameFrom m s j .side))
+      (e (cameFrom m r i .processor) (cameFrom m s j .processor) (prior-le m (slot i r) p) (prior-le m (slot j s) q))
+      ∙ cell-tab _ (cameFrom m r i .side) (cameFrom m s j .side))
 
   -- the array's state between the steps, and after a rotation
-  pub blocks-plain : (k i j : ℕ) → i ≤ m → j ≤ m → blocksAt (operationsOf R l M x h w) m k i j ≡ blockAt (lineAt l m k) (sequential R l m M k) i j
+  pub blocks-sequential : (k i j : ℕ) → i ≤ m → j ≤ m → blocksAt (operationsOf R l M x h w) m k i j ≡ blockAt (lineAt l m k) (sequential R l m M k) i j
   unfolding blocksAt lineAt sequential operationsOf
-  blocks-plain zero i j p q = refl
-  blocks-plain (suc k) i j p q = moved-on k (rot-after k (blocks-plain k)) i j p q
+  blocks-sequential zero i j p q = refl
+  blocks-sequential (suc k) i j p q = moved-agrees k (rotated-after k (blocks-sequential k)) i j p q
 
-  pub rot-plain : (k i j : ℕ) → i ≤ m → j ≤ m → rotatedAt (operationsOf R l M x h w) m k i j ≡ blockAt (lineAt l m k) (sequential R l m M (suc k)) i j
+  pub rotated-sequential : (k i j : ℕ) → i ≤ m → j ≤ m → rotatedAt (operationsOf R l M x h w) m k i j ≡ blockAt (lineAt l m k) (sequential R l m M (suc k)) i j
   unfolding rotatedAt
-  rot-plain k i j p q = rot-after k (blocks-plain k) i j p q
+  rotated-sequential k i j p q = rotated-after k (blocks-sequential k) i j p q
 
-  -- AGREE: after the last tick of n sweeps every tile holds its cells of the plain run's matrix
-  pub agree-block : (n i j : ℕ) → i ≤ m → j ≤ m
-    → arrayAfter (operationsOf R l M x h w) m (n * (2 * m + 1)) (3 * (n * (2 * m + 1)) + suc m) i j .cells ≡ blockAt l (sequential R l m M (n * (2 * m + 1))) i j
-  agree-block n i j p q =
-      A-end (operationsOf R l M x h w) m (n * (2 * m + 1)) i j p q ∙ blocks-plain (n * (2 * m + 1)) i j p q ∙ home n i j p q
+  -- after the last tick of n sweeps every tile holds its part of the sequential run's matrix
+  pub block-agrees : (n i j : ℕ) → i ≤ m → j ≤ m
+      → arrayAfter (operationsOf R l M x h w) m (n * (2 * m + 1)) (3 * (n * (2 * m + 1)) + suc m) i j .cells ≡ blockAt l (sequential R l m M (n * (2 * m + 1))) i j
+  block-agrees n i j p q =
+      cells-end (operationsOf R l M x h w) m (n * (2 * m + 1)) i j p q ∙ blocks-sequential (n * (2 * m + 1)) i j p q ∙ home n i j p q
     where
       home : (n i j : ℕ) → i ≤ m → j ≤ m
-        → blockAt (lineAt l m (n * (2 * m + 1))) (sequential R l m M (n * (2 * m + 1))) i j ≡ blockAt l (sequential R l m M (n * (2 * m + 1))) i j
+          → blockAt (lineAt l m (n * (2 * m + 1))) (sequential R l m M (n * (2 * m + 1))) i j ≡ blockAt l (sequential R l m M (n * (2 * m + 1))) i j
       home n i j p q =
           unfold blockAt in (tab-ext _ _ (λ r s. rw (line-sweeps l m n (slot i r) (unfold slot in p), line-sweeps l m n (slot j s) (unfold slot in q))))
 
-  pub agree : (n : ℕ) (u z : Slot) → u .processor ≤ m → z .processor ≤ m
-    → pick (λ i j. arrayAfter (operationsOf R l M x h w) m (n * (2 * m + 1)) (3 * (n * (2 * m + 1)) + suc m) i j .cells) u z
-    ≡ sequential R l m M (n * (2 * m + 1)) (l u) (l z)
+  pub cell-agrees : (n : ℕ) (u z : Slot) → u .processor ≤ m → z .processor ≤ m
+      → pick (λ i j. arrayAfter (operationsOf R l M x h w) m (n * (2 * m + 1)) (3 * (n * (2 * m + 1)) + suc m) i j .cells) u z
+      ≡ sequential R l m M (n * (2 * m + 1)) (l u) (l z)
   unfolding pick blockAt slot
-  agree n u z p q = ap (cell (u .side) (z .side)) (agree-block n (u .processor) (z .processor) p q) ∙ cell-tab _ (u .side) (z .side)
+  cell-agrees n u z p q = ap (cell (u .side) (z .side)) (block-agrees n (u .processor) (z .processor) p q) ∙ cell-tab _ (u .side) (z .side)
 
-  -- THE MARKS
+  -- ---- the marks
   -- no entry fails after k steps
   abbrev pub Clean : ℕ → Type 0
   Clean k = (u z : Slot) → u .processor ≤ m → z .processor ≤ m → R .fails (sequential R l m M k (l u) (l z)) ≡ false
@@ -134,36 +107,36 @@ module _ {X H W : Type 0} (R : Rules X H W) (l : Slot → ℕ) (m : ℕ) (one : 
   clean-to : (k s : ℕ) → Clean k → (i j : ℕ) → i ≤ m → j ≤ m → anyFails R (blockAt (lineAt l m s) (sequential R l m M k) i j) ≡ false
   clean-to k s c i j p q =
       block-from (lineAt l m s) (sequential R l m M k) i j (λ a b.
-        let u = line-from l m s (slot i a) (unfold slot in p) in
-        let z = line-from l m s (slot j b) (unfold slot in q) in
-        rw (u .2, z .2) (c (u .0) (z .0) (u .1) (z .1)))
+      let u = line-from l m s (slot i a) (unfold slot in p) in
+      let z = line-from l m s (slot j b) (unfold slot in q) in
+      rw (u .2, z .2) (c (u .0) (z .0) (u .1) (z .1)))
 
   clean-from : (k s : ℕ) → ((i j : ℕ) → i ≤ m → j ≤ m → anyFails R (blockAt (lineAt l m s) (sequential R l m M k) i j) ≡ false) → Clean k
   unfolding slot
   clean-from k s f u z p q =
       rw (← (line-at l m s u p), ← (line-at l m s z q))
       (block-to (lineAt l m s) (sequential R l m M k) (nextBy m s u .processor) (nextBy m s z .processor)
-        (f _ _ (nextBy-le m s u p) (nextBy-le m s z q)) (nextBy m s u .side) (nextBy m s z .side))
+      (f _ _ (nextBy-le m s u p) (nextBy-le m s z q)) (nextBy m s u .side) (nextBy m s z .side))
 
   last-clean : (K : ℕ) → Clean 0 → ((k : ℕ) → k < K → Clean (suc k)) → Clean K
   last-clean zero c g = c
   last-clean (suc k) c g = g k (omega arith)
 
   -- no tile is marked at the end exactly if no entry fails after a step
-  pub marks-are : (K : ℕ) → Clean 0
-    → ((i j : ℕ) → i ≤ m → j ≤ m → arrayAfter (operationsOf R l M x h w) m K (3 * K + suc m) i j .mark ≡ false) ↔ ((k : ℕ) → k < K → Clean (suc k))
+  pub marks-agree : (K : ℕ) → Clean 0
+      → ((i j : ℕ) → i ≤ m → j ≤ m → arrayAfter (operationsOf R l M x h w) m K (3 * K + suc m) i j .mark ≡ false) ↔ ((k : ℕ) → k < K → Clean (suc k))
   unfolding operationsOf blocksAt
-  marks-are K c = (
+  marks-agree K c = (
     λ f k o. clean-from (suc k) k (λ i j p q.
-      ap (anyFails R) (sym (rot-plain k i j p q)) ∙ theorem-B (operationsOf R l M x h w) m K .0 f i j p q .turns k o),
-    λ g. theorem-B (operationsOf R l M x h w) m K .1 (λ i j p q. record {
-      first = λ _. ap (anyFails R) (blocks-plain 0 i j p q) ∙ clean-to 0 0 c i j p q;
-      turns = λ k o. ap (anyFails R) (rot-plain k i j p q) ∙ clean-to (suc k) k (g k o) i j p q;
-      final = ap (anyFails R) (blocks-plain K i j p q) ∙ clean-to K K (last-clean K c g) i j p q
+        ap (anyFails R) (sym (rotated-sequential k i j p q)) ∙ marks-fine (operationsOf R l M x h w) m K .0 f i j p q .turns k o),
+    λ g. marks-fine (operationsOf R l M x h w) m K .1 (λ i j p q. record {
+      start = λ _. ap (anyFails R) (blocks-sequential 0 i j p q) ∙ clean-to 0 0 c i j p q;
+      turns = λ k o. ap (anyFails R) (rotated-sequential k i j p q) ∙ clean-to (suc k) k (g k o) i j p q;
+      end = ap (anyFails R) (blocks-sequential K i j p q) ∙ clean-to K K (last-clean K c g) i j p q;
     }),
   )
 
--- THE LINES b .. b + 2 N - 1: the array's mark is the plain run's test
+-- ---- the lines b to b + 2 N - 1 in order: some tile is marked exactly where some entry failed after a step
 module _ {X H W : Type 0} (R : Rules X H W) (b m : ℕ) (M : ℕ → ℕ → X) (x : X) (h : H) (w : W) where
   fails-to : (A : ℕ → ℕ → X) → failsIn R b (2 * suc m) A ≡ false → (u z : Slot) → u .processor ≤ m → z .processor ≤ m → R .fails (A (inOrder b u) (inOrder b z)) ≡ false
   unfolding failsIn
@@ -178,37 +151,40 @@ module _ {X H W : Type 0} (R : Rules X H W) (b m : ℕ) (M : ℕ → ℕ → X) 
   unfolding failsIn
   fails-from A f =
       any-from (2 * suc m) _ (λ r o. any-from (2 * suc m) _ (λ c o′.
-        let u = inOrder-of b m (b + r) (omega arith) (omega arith) in
-        let z = inOrder-of b m (b + c) (omega arith) (omega arith) in
-        rw (← (u .2), ← (z .2)) (f (u .0) (z .0) (u .1) (z .1))))
+      let u = inOrder-of b m (b + r) (omega arith) (omega arith) in
+      let z = inOrder-of b m (b + c) (omega arith) (omega arith) in
+      rw (← (u .2), ← (z .2)) (f (u .0) (z .0) (u .1) (z .1))))
 
-  pub mark-is : (K : ℕ) → failsIn R b (2 * suc m) M ≡ false
-    → any (suc m) (λ i. any (suc m) (λ j. arrayAfter (operationsOf R (inOrder b) M x h w) m K (3 * K + suc m) i j .mark))
-    ≡ any K (λ k. failsIn R b (2 * suc m) (sequential R (inOrder b) m M (suc k)))
-  mark-is K e = same-bool _ _ to from
+  pub mark-agrees : (K : ℕ) → failsIn R b (2 * suc m) M ≡ false
+      → any (suc m) (λ i. any (suc m) (λ j. arrayAfter (operationsOf R (inOrder b) M x h w) m K (3 * K + suc m) i j .mark))
+      ≡ any K (λ k. failsIn R b (2 * suc m) (sequential R (inOrder b) m M (suc k)))
+  mark-agrees K e = same-bool _ _ to from
     where
       both : ((i j : ℕ) → i ≤ m → j ≤ m → arrayAfter (operationsOf R (inOrder b) M x h w) m K (3 * K + suc m) i j .mark ≡ false)
-        ↔ ((k : ℕ) → k < K → Clean R (inOrder b) m (inOrder-one b m) M x h w (suc k))
-      both = marks-are R (inOrder b) m (inOrder-one b m) M x h w K (unfold sequential in (fails-to M e))
+          ↔ ((k : ℕ) → k < K → Clean R (inOrder b) m (inOrder-one b m) M x h w (suc k))
+      both = marks-agree R (inOrder b) m (inOrder-one b m) M x h w K (unfold sequential in (fails-to M e))
+
       to : any (suc m) (λ i. any (suc m) (λ j. arrayAfter (operationsOf R (inOrder b) M x h w) m K (3 * K + suc m) i j .mark)) ≡ false
-        → any K (λ k. failsIn R b (2 * suc m) (sequential R (inOrder b) m M (suc k))) ≡ false
+          → any K (λ k. failsIn R b (2 * suc m) (sequential R (inOrder b) m M (suc k))) ≡ false
       to f =
           any-from K _ (λ k o. fails-from (sequential R (inOrder b) m M (suc k))
-            (both .0 (λ i j p q. any-to (suc m) _ (any-to (suc m) _ f i (omega arith)) j (omega arith)) k o))
+          (both .0 (λ i j p q. any-to (suc m) _ (any-to (suc m) _ f i (omega arith)) j (omega arith)) k o))
+
       from : any K (λ k. failsIn R b (2 * suc m) (sequential R (inOrder b) m M (suc k))) ≡ false
-        → any (suc m) (λ i. any (suc m) (λ j. arrayAfter (operationsOf R (inOrder b) M x h w) m K (3 * K + suc m) i j .mark)) ≡ false
+          → any (suc m) (λ i. any (suc m) (λ j. arrayAfter (operationsOf R (inOrder b) M x h w) m K (3 * K + suc m) i j .mark)) ≡ false
       from f =
           any-from (suc m) _ (λ i o. any-from (suc m) _ (λ j o′.
-            both .1 (λ k y. fails-to (sequential R (inOrder b) m M (suc k)) (any-to K _ f k y)) i j (omega arith) (omega arith)))
+          both .1 (λ k y. fails-to (sequential R (inOrder b) m M (suc k)) (any-to K _ f k y)) i j (omega arith) (omega arith)))
 
-  -- THE THEOREM: n sweeps of the array are n sweeps of the plain run, cell by cell and in the mark
+  -- After n sweeps, 3 K + N ticks, each cell of the array is the sequential run's entry at its lines; and given a start without failing entries, some tile
+  -- is marked exactly if an entry failed after some step.
   pub record Agreement (n : ℕ) : Type 0 where
     pub cells : (u z : Slot) → u .processor ≤ m → z .processor ≤ m
-      → pick (λ i j. arrayAfter (operationsOf R (inOrder b) M x h w) m (n * (2 * m + 1)) (3 * (n * (2 * m + 1)) + suc m) i j .cells) u z
-      ≡ sequential R (inOrder b) m M (n * (2 * m + 1)) (inOrder b u) (inOrder b z)
+        → pick (λ i j. arrayAfter (operationsOf R (inOrder b) M x h w) m (n * (2 * m + 1)) (3 * (n * (2 * m + 1)) + suc m) i j .cells) u z
+        ≡ sequential R (inOrder b) m M (n * (2 * m + 1)) (inOrder b u) (inOrder b z)
     pub mark : failsIn R b (2 * suc m) M ≡ false
-      → any (suc m) (λ i. any (suc m) (λ j. arrayAfter (operationsOf R (inOrder b) M x h w) m (n * (2 * m + 1)) (3 * (n * (2 * m + 1)) + suc m) i j .mark))
-      ≡ any (n * (2 * m + 1)) (λ k. failsIn R b (2 * suc m) (sequential R (inOrder b) m M (suc k)))
+        → any (suc m) (λ i. any (suc m) (λ j. arrayAfter (operationsOf R (inOrder b) M x h w) m (n * (2 * m + 1)) (3 * (n * (2 * m + 1)) + suc m) i j .mark))
+        ≡ any (n * (2 * m + 1)) (λ k. failsIn R b (2 * suc m) (sequential R (inOrder b) m M (suc k)))
 
-  pub AGREE : (n : ℕ) → Agreement n
-  AGREE n = record { cells = agree R (inOrder b) m (inOrder-one b m) M x h w n; mark = mark-is (n * (2 * m + 1)) }
+  pub agreement : (n : ℕ) → Agreement n
+  agreement n = record { cells = cell-agrees R (inOrder b) m (inOrder-one b m) M x h w n; mark = mark-agrees (n * (2 * m + 1)) }

@@ -1,10 +1,12 @@
+pub mod Bounded
+pub mod Cells
 pub mod Movement
 pub mod Lines
 pub mod Clock
 pub mod Wires
 pub mod Skew
 pub mod Ticks
-pub mod Steps
-pub mod Agreement
 pub mod Printed
 pub mod Neighbourhood
+pub mod Steps
+pub mod Agreement

@@ -3,10 +3,11 @@ use Prim.Native.Nat.{ℕ, zero, suc, _+_, _-_, _*_, _/_, _%_, _≤_, _<_}
 use mathlib.Core.Path.{_≡_, refl, sym, _∙_, ap}
 use mathlib.Core.Bool.{Bool, true, false, _||_, _&&_, true≢false}
 use native.Mathlib.Omega.{arith}
-use borrow.Author.Tests.{eqb-true, eqb-false, eq-eqb, ltb-true, ltb-false}
-use lib.Dec.{eqb, ltb}
-use Rattle.systolic.specs.Slots.{Side, left, right, Slot, slot, next, prior, nextBy, lineAt, inOrderAt, inOrder, count, any, meetIn, meetB, Meet, meet, teem}
-use Rattle.systolic.proofs.Movement.{prior-next, next-prior, prior-le, nextBy-le, period, nextBy-one, meets, count-one}
+use borrow.Author.Tests.{eqb-true, eqb-false, eq-eqb}
+use lib.Dec.{eqb}
+use Rattle.systolic.specs.Slots.{Side, left, right, Slot, slot, next, prior, nextBy, lineAt, inOrderAt, inOrder, count, meetIn, meetAt, Meet, in-order, reversed}
+use Rattle.systolic.proofs.Bounded.{any-hit, any-find, count-one}
+use Rattle.systolic.proofs.Movement.{prior-next, next-prior, prior-le, nextBy-le, period, nextBy-one, meets}
 
 abbrev pub Distinct : ℕ → (Slot → ℕ) → Type 0
 Distinct m f = (u w : Slot) → u .processor ≤ m → w .processor ≤ m → f u ≡ f w → u ≡ w
@@ -15,10 +16,6 @@ module _ (l : Slot → ℕ) (m : ℕ) where
   pub line-next : (s : ℕ) (u : Slot) → u .processor ≤ m → lineAt l m (suc s) (next m u) ≡ lineAt l m s u
   unfolding lineAt
   line-next s u h = ap (lineAt l m s) (prior-next m u h)
-
-  pub line-prior : (s : ℕ) (u : Slot) → lineAt l m (suc s) u ≡ lineAt l m s (prior m u)
-  unfolding lineAt
-  line-prior s u = refl
 
   pub line-start : (u : Slot) → lineAt l m 0 u ≡ l u
   unfolding lineAt
@@ -31,7 +28,7 @@ module _ (l : Slot → ℕ) (m : ℕ) where
       let e : z + suc s ≡ suc (z + s) = omega arith in
       rw e (line-next (z + s) (nextBy m s u) (nextBy-le m s u h) ∙ line-nextBy z s u h)
 
-  -- the label of u stands in `nexts m s u`
+  -- every line stands somewhere: that of u in `nextBy m s u`
   pub line-at : (s : ℕ) (u : Slot) → u .processor ≤ m → lineAt l m s (nextBy m s u) ≡ l u
   unfolding nextBy lineAt
   line-at zero u h = refl
@@ -61,68 +58,46 @@ module _ (l : Slot → ℕ) (m : ℕ) where
 
     -- two different slots of one processor
     apart : (s p q : ℕ) (h g : Side) (i j : ℕ) → i ≤ m → i ≡ j → ¬ (slot i h ≡ slot j g) → lineAt l m s (slot i h) ≡ p → lineAt l m s (slot j g) ≡ q
-      → Meet l m s p q
+        → Meet l m s p q
     apart s p q left left i j o e n a b = absurd (n (ap (λ x. slot x left) e))
-    apart s p q left right i j o e n a b = meet i o a (rw e b)
-    apart s p q right left i j o e n a b = teem i o (rw e b) a
+    apart s p q left right i j o e n a b = in-order i o a (rw e b)
+    apart s p q right left i j o e n a b = reversed i o (rw e b) a
     apart s p q right right i j o e n a b = absurd (n (ap (λ x. slot x right) e))
 
     same-processor : (s : ℕ) (u w : Slot) → u .processor ≤ m → w .processor ≤ m → Meet l m s (l u) (l w) → nextBy m s u .processor ≡ nextBy m s w .processor
     unfolding slot
-    same-processor s u w h k (meet i o a b) =
+    same-processor s u w h k (in-order i o a b) =
         let x : slot i left ≡ nextBy m s u = line-one s (slot i left) (nextBy m s u) o (nextBy-le m s u h) (a ∙ sym (line-at s u h)) in
         let y : slot i right ≡ nextBy m s w = line-one s (slot i right) (nextBy m s w) o (nextBy-le m s w k) (b ∙ sym (line-at s w k)) in
         sym (ap (λ v. v .processor) x) ∙ ap (λ v. v .processor) y
-    same-processor s u w h k (teem i o a b) =
+    same-processor s u w h k (reversed i o a b) =
         let x : slot i right ≡ nextBy m s u = line-one s (slot i right) (nextBy m s u) o (nextBy-le m s u h) (b ∙ sym (line-at s u h)) in
         let y : slot i left ≡ nextBy m s w = line-one s (slot i left) (nextBy m s w) o (nextBy-le m s w k) (a ∙ sym (line-at s w k)) in
         sym (ap (λ v. v .processor) x) ∙ ap (λ v. v .processor) y
 
-    -- TWO LABELS MEET ONCE in every 2 m + 1 steps
+    -- two lines meet in one of 2 m + 1 steps, and in no other
     pub lines-meet : (z : ℕ) (u w : Slot) → u .processor ≤ m → w .processor ≤ m → ¬ (u ≡ w)
-      → (s : ℕ) × (s < 2 * m + 1) × Meet l m (z + s) (l u) (l w) × ((t : ℕ) → t < 2 * m + 1 → Meet l m (z + t) (l u) (l w) → t ≡ s)
+        → (s : ℕ) × (s < 2 * m + 1) × Meet l m (z + s) (l u) (l w) × ((t : ℕ) → t < 2 * m + 1 → Meet l m (z + t) (l u) (l w) → t ≡ s)
     unfolding slot
     lines-meet z u w h k n =
         let f = meets m z u w h k n in (
           f .0,
           f .1,
           apart (z + f .0) (l u) (l w) (nextBy m (z + f .0) u .side) (nextBy m (z + f .0) w .side) _ _ (nextBy-le m (z + f .0) u h) (f .2)
-            (λ e. n (nextBy-one m (z + f .0) u w h k e)) (line-at (z + f .0) u h) (line-at (z + f .0) w k),
+              (λ e. n (nextBy-one m (z + f .0) u w h k e)) (line-at (z + f .0) u h) (line-at (z + f .0) w k),
           λ t o e. f .3 t o (same-processor (z + t) u w h k e),
         )
 
--- THE MEETING AS A TEST
+-- ---- the meeting as a test
 and-to : (a b : Bool) → (a && b) ≡ true → (a ≡ true) × (b ≡ true)
 and-to true b e = (refl, e)
 and-to false b e = absurd (true≢false (sym e))
 
-any-hit : (n : ℕ) (f : ℕ → Bool) (i : ℕ) → i < n → f i ≡ true → any n f ≡ true
-unfolding any
-any-hit zero f i l e = absurd (omega arith)
-any-hit (suc n) f i l e = go (any n f) refl (ltb i n) refl (λ h. any-hit n f i h e)
-  where
-    go : (b : Bool) → any n f ≡ b → (c : Bool) → ltb i n ≡ c → (i < n → any n f ≡ true) → (b || f n) ≡ true
-    go true z c y r = refl
-    go false z true y r = absurd (true≢false (sym (r (ltb-true _ _ y)) ∙ z))
-    go false z false y r =
-        let w : n ≤ i = ltb-false _ _ y in
-        let w′ : i ≡ n = omega arith in
-        sym (ap f w′) ∙ e
-
-any-find : (n : ℕ) (f : ℕ → Bool) → any n f ≡ true → (i : ℕ) × (i < n) × (f i ≡ true)
-unfolding any
-any-find zero f e = absurd (true≢false (sym e))
-any-find (suc n) f e = go (any n f) refl e (λ z. any-find n f z)
-  where
-    go : (b : Bool) → any n f ≡ b → (b || f n) ≡ true → (any n f ≡ true → (i : ℕ) × (i < n) × (f i ≡ true)) → (i : ℕ) × (i < suc n) × (f i ≡ true)
-    go true z y r = let w = r z in (w .0, omega (arith, w .1), w .2)
-    go false z y r = (n, omega arith, y)
-
 module _ (l : Slot → ℕ) (m s p q : ℕ) where
-  meet-test : Meet l m s p q → meetB l m s p q ≡ true
-  unfolding meetB meetIn
-  meet-test (meet i o a b) = any-hit (suc m) (meetIn l m s p q) i (omega arith) (rw (eq-eqb _ _ a, eq-eqb _ _ b))
-  meet-test (teem i o a b) =
+  meet-test : Meet l m s p q → meetAt l m s p q ≡ true
+  unfolding meetAt meetIn
+  meet-test (in-order i o a b) = any-hit (suc m) (meetIn l m s p q) i (omega arith) (rw (eq-eqb _ _ a, eq-eqb _ _ b))
+  meet-test (reversed i o a b) =
       any-hit (suc m) (meetIn l m s p q) i (omega arith)
       (or-right (eqb (lineAt l m s (slot i left)) p && eqb (lineAt l m s (slot i right)) q) _ (rw (eq-eqb _ _ a, eq-eqb _ _ b)))
     where
@@ -130,19 +105,26 @@ module _ (l : Slot → ℕ) (m s p q : ℕ) where
       or-right true b e = refl
       or-right false b e = e
 
-  test-meet : meetB l m s p q ≡ true → Meet l m s p q
-  unfolding meetB
+  test-meet : meetAt l m s p q ≡ true → Meet l m s p q
+  unfolding meetAt
   test-meet e = let w = any-find (suc m) (meetIn l m s p q) e in of (w .0) (omega (arith, w .1)) (w .2)
     where
       of : (i : ℕ) → i ≤ m → meetIn l m s p q i ≡ true → Meet l m s p q
       of i o e = go (eqb (lineAt l m s (slot i left)) p && eqb (lineAt l m s (slot i right)) q) refl (unfold meetIn in e)
         where
           go : (b : Bool) → (eqb (lineAt l m s (slot i left)) p && eqb (lineAt l m s (slot i right)) q) ≡ b
-            → (b || (eqb (lineAt l m s (slot i left)) q && eqb (lineAt l m s (slot i right)) p)) ≡ true → Meet l m s p q
-          go true z y = let w = and-to _ _ z in meet i o (eqb-true _ _ (w .0)) (eqb-true _ _ (w .1))
-          go false z y = let w = and-to _ _ y in teem i o (eqb-true _ _ (w .0)) (eqb-true _ _ (w .1))
+              → (b || (eqb (lineAt l m s (slot i left)) q && eqb (lineAt l m s (slot i right)) p)) ≡ true → Meet l m s p q
+          go true z y = let w = and-to _ _ z in in-order i o (eqb-true _ _ (w .0)) (eqb-true _ _ (w .1))
+          go false z y = let w = and-to _ _ y in reversed i o (eqb-true _ _ (w .0)) (eqb-true _ _ (w .1))
 
--- THE LABELS b .. b + 2 N - 1
+-- For any one-to-one labelling, two lines meet in exactly one of any 2 m + 1 steps in a row.
+pub lines-meet-once : (l : Slot → ℕ) (m : ℕ) (one : Distinct m l) (z : ℕ) (u w : Slot) → u .processor ≤ m → w .processor ≤ m → ¬ (u ≡ w)
+    → count (λ s. meetAt l m (z + s) (l u) (l w)) (2 * m + 1) ≡ 1
+lines-meet-once l m one z u w h k n =
+    let f = lines-meet l m one z u w h k n in
+    count-one (λ s. meetAt l m (z + s) (l u) (l w)) (2 * m + 1) (f .0) (f .1) (meet-test l m (z + f .0) (l u) (l w) (f .2)) (λ t o e. f .3 t o (test-meet l m (z + t) (l u) (l w) e))
+
+-- ---- the lines b to b + 2 N - 1 in order
 inOrderAt-one : (b : ℕ) (h g : Side) (i j : ℕ) → inOrderAt b h i ≡ inOrderAt b g j → slot i h ≡ slot j g
 unfolding inOrderAt
 inOrderAt-one b left left i j e = ap (λ x. slot x left) (omega arith)
@@ -171,18 +153,11 @@ inOrder-of b m p x y = go (eqb ((p - b) % 2) 0) refl
     go true e = let z : (p - b) % 2 ≡ 0 = eqb-true _ _ e in (slot ((p - b) / 2) left, omega arith, omega arith)
     go false e = let z : ¬ ((p - b) % 2 ≡ 0) = eqb-false _ _ e in (slot ((p - b) / 2) right, omega arith, omega arith)
 
--- two different lines meet once in a sweep
-pub numbers-meet : (b m z p q : ℕ) → b ≤ p → p < b + 2 * suc m → b ≤ q → q < b + 2 * suc m → ¬ (p ≡ q)
-  → (s : ℕ) × (s < 2 * m + 1) × Meet (inOrder b) m (z + s) p q × ((t : ℕ) → t < 2 * m + 1 → Meet (inOrder b) m (z + t) p q → t ≡ s)
-numbers-meet b m z p q p1 p2 q1 q2 n =
+-- Two different lines meet once in every sweep.
+pub numbers-meet-once : (b m z p q : ℕ) → b ≤ p → p < b + 2 * suc m → b ≤ q → q < b + 2 * suc m → ¬ (p ≡ q)
+    → count (λ s. meetAt (inOrder b) m (z + s) p q) (2 * m + 1) ≡ 1
+numbers-meet-once b m z p q p1 p2 q1 q2 n =
     let u = inOrder-of b m p p1 p2 in
     let w = inOrder-of b m q q1 q2 in
-    let f = lines-meet (inOrder b) m (inOrder-one b m) z (u .0) (w .0) (u .1) (w .1) (λ e. n (sym (u .2) ∙ ap (inOrder b) e ∙ w .2)) in
+    let f = lines-meet-once (inOrder b) m (inOrder-one b m) z (u .0) (w .0) (u .1) (w .1) (λ e. n (sym (u .2) ∙ ap (inOrder b) e ∙ w .2)) in
     rw (← (u .2), ← (w .2)) f
-
-pub numbers-meet-once : (b m z p q : ℕ) → b ≤ p → p < b + 2 * suc m → b ≤ q → q < b + 2 * suc m → ¬ (p ≡ q)
-  → count (λ s. meetB (inOrder b) m (z + s) p q) (2 * m + 1) ≡ 1
-numbers-meet-once b m z p q p1 p2 q1 q2 n =
-    let f = numbers-meet b m z p q p1 p2 q1 q2 n in
-    count-one (λ s. meetB (inOrder b) m (z + s) p q) (2 * m + 1) (f .0) (f .1) (meet-test (inOrder b) m (z + f .0) p q (f .2))
-      (λ t o e. f .3 t o (test-meet (inOrder b) m (z + t) p q e))

@@ -1,20 +1,21 @@
 -- The movement is a cycle of 2 m + 1 slots and a slot at rest, and two slots meet once in 2 m + 1 steps. Assumes nothing.
 use Prim.Native.Nat.{ℕ, zero, suc, _+_, _-_, _*_, _/_, _%_, _≤_, _<_}
 use mathlib.Core.Path.{_≡_, refl, sym, _∙_, ap}
-use mathlib.Core.Bool.{Bool, true, false, cond, true≢false}
+use mathlib.Core.Bool.{Bool, true, false, cond}
 use native.Mathlib.Omega.{arith}
 use borrow.Author.Tests.{ltb-true, ltb-false, eqb-true, eqb-false, eq-eqb, ne-eqb}
 use lib.Dec.{ltb, eqb}
-use Rattle.systolic.specs.Slots.{Side, left, right, Slot, slot, moved, intoLast, cameFrom, next, prior, nextBy, count, together, meet}
+use Rattle.systolic.specs.Slots.{Side, left, right, Slot, slot, moved, intoLast, cameFrom, next, prior, nextBy, count, together}
+use Rattle.systolic.proofs.Bounded.{count-one}
 
--- `mv` and `back` undo each other
+-- ---- `moved` and `cameFrom` undo each other
 pub cameFrom-moved : (m : ℕ) (h : Side) (i : ℕ) → i ≤ m → cameFrom m (moved m h i .side) (moved m h i .processor) ≡ slot i h
 unfolding cameFrom moved slot intoLast
 cameFrom-moved m left zero l = refl
 cameFrom-moved m left (suc i) l = go (eqb (suc i) m) refl m refl
   where
     go : (b : Bool) → eqb (suc i) m ≡ b → (n : ℕ) → n ≡ m
-      → cameFrom n (cond b (slot n right) (slot (suc (suc i)) left) .side) (cond b (slot n right) (slot (suc (suc i)) left) .processor) ≡ slot (suc i) left
+        → cameFrom n (cond b (slot n right) (slot (suc (suc i)) left) .side) (cond b (slot n right) (slot (suc (suc i)) left) .processor) ≡ slot (suc i) left
     go true e zero z = let w : suc i ≡ m = eqb-true _ _ e in absurd (omega arith)
     go true e (suc n) z =
         let w : suc i ≡ m = eqb-true _ _ e in
@@ -35,7 +36,7 @@ moved-cameFrom m left (suc (suc i)) l = rw (ne-eqb (suc i) m (λ e. omega arith)
 moved-cameFrom m right i l = go (eqb i m) refl m refl
   where
     go : (b : Bool) → eqb i m ≡ b → (n : ℕ) → n ≡ m
-      → moved n (cond b (intoLast n) (slot (suc i) right) .side) (cond b (intoLast n) (slot (suc i) right) .processor) ≡ slot i right
+        → moved n (cond b (intoLast n) (slot (suc i) right) .side) (cond b (intoLast n) (slot (suc i) right) .processor) ≡ slot i right
     go true e zero z = let w : i ≡ m = eqb-true _ _ e in ap (λ x. slot x right) (omega arith)
     go true e (suc n) z =
         let w : i ≡ m = eqb-true _ _ e in
@@ -94,7 +95,7 @@ unfolding nextBy
 nextBy-add m zero t u = let e : t + 0 ≡ t = omega arith in rw e
 nextBy-add m (suc s) t u = let e : t + suc s ≡ suc (t + s) = omega arith in rw e (ap (next m) (nextBy-add m s t u))
 
--- THE NUMBER OF A SLOT: the cycle is 0 .. 2 m, and the slot at rest is 2 m + 1
+-- ---- the number of a slot: the cycle is 0 to 2 m, and the slot at rest is 2 m + 1
 num : ℕ → Side → ℕ → ℕ
 num m left zero = 2 * m + 1
 num m left (suc i) = i
@@ -114,7 +115,7 @@ num-moved m left zero l = rest refl refl
 num-moved m left (suc i) l = go (eqb (suc i) m) refl
   where
     go : (b : Bool) → eqb (suc i) m ≡ b
-      → Move m i (num m (cond b (slot m right) (slot (suc (suc i)) left) .side) (cond b (slot m right) (slot (suc (suc i)) left) .processor))
+        → Move m i (num m (cond b (slot m right) (slot (suc (suc i)) left) .side) (cond b (slot m right) (slot (suc (suc i)) left) .processor))
     go true e = let w : suc i ≡ m = eqb-true _ _ e in up (omega arith) (omega arith)
     go false e = up (omega arith) refl
 num-moved zero right i l = over (omega arith) (omega arith)
@@ -167,22 +168,22 @@ at-more m s x y z l (a-over a b k) (up c d) = a-over a (omega arith) (omega arit
 at-more m s x y z l (a-over a b k) (over c d) = absurd (omega arith)
 at-more m s x y z l (a-over a b k) (rest c d) = absurd (omega arith)
 
-pub-at : (m s : ℕ) (u : Slot) → u .processor ≤ m → s ≤ 2 * m + 1 → At m s (pos m u) (pos m (nextBy m s u))
+at-step : (m s : ℕ) (u : Slot) → u .processor ≤ m → s ≤ 2 * m + 1 → At m s (pos m u) (pos m (nextBy m s u))
 unfolding nextBy next
-pub-at m zero u l k = at-start m (pos m u) (pos-le m (u .side) (u .processor) l)
-pub-at m (suc s) u l k =
-    at-more m s _ _ _ (omega arith) (pub-at m s u l (omega arith)) (num-moved m (nextBy m s u .side) (nextBy m s u .processor) (nextBy-le m s u l))
+at-step m zero u l k = at-start m (pos m u) (pos-le m (u .side) (u .processor) l)
+at-step m (suc s) u l k =
+    at-more m s _ _ _ (omega arith) (at-step m s u l (omega arith)) (num-moved m (nextBy m s u .side) (nextBy m s u .processor) (nextBy-le m s u l))
 
--- THE PERIOD
+-- ---- the period
 at-period : (m x y : ℕ) → At m (2 * m + 1) x y → y ≡ x
 at-period m x y (a-rest a b) = b
 at-period m x y (a-up a b) = absurd (omega arith)
 at-period m x y (a-over a b c) = omega arith
 
 pub period : (m : ℕ) (u : Slot) → u .processor ≤ m → nextBy m (2 * m + 1) u ≡ u
-period m u l = pos-one m _ _ (nextBy-le m (2 * m + 1) u l) l (at-period m _ _ (pub-at m (2 * m + 1) u l (omega arith)))
+period m u l = pos-one m _ _ (nextBy-le m (2 * m + 1) u l) l (at-period m _ _ (at-step m (2 * m + 1) u l (omega arith)))
 
--- THE MEETING, by numbers
+-- ---- the meeting, by numbers
 data Sum (m x y : ℕ) : Type 0 where
   inner : x + y + 1 ≡ 2 * m → Sum m x y
   outer : x + y ≡ 4 * m + 1 → Sum m x y
@@ -316,7 +317,7 @@ find : (m x y : ℕ) → x ≤ 2 * m + 1 → y ≤ 2 * m + 1 → ¬ (x ≡ y) �
 find m x y l k n = go (ltb x (2 * m + 1)) (ltb y (2 * m + 1)) (eqb ((x + y) % 2) 0) (ltb (x + y) (2 * m)) refl refl refl refl
   where
     go : (b c d f : Bool) → ltb x (2 * m + 1) ≡ b → ltb y (2 * m + 1) ≡ c → eqb ((x + y) % 2) 0 ≡ d → ltb (x + y) (2 * m) ≡ f
-      → (s : ℕ) × (s ≤ 2 * m) × Time m s x y
+        → (s : ℕ) × (s ≤ 2 * m) × Time m s x y
     go false false d f e1 e2 e3 e4 =
         let w : 2 * m + 1 ≤ x = ltb-false _ _ e1 in let w′ : 2 * m + 1 ≤ y = ltb-false _ _ e2 in absurd (omega arith)
     go false true d f e1 e2 e3 e4 =
@@ -347,7 +348,7 @@ find m x y l k n = go (ltb x (2 * m + 1)) (ltb y (2 * m + 1)) (eqb ((x + y) % 2)
         let r′ : (x + y) % 2 ≡ 1 = omega arith in
         (3 * m - (x + y) / 2, omega arith, n-2 (omega arith) (omega arith) (omega arith))
 
--- THE MEETING
+-- ---- the meeting
 pub nextBy-one : (m s : ℕ) (u w : Slot) → u .processor ≤ m → w .processor ≤ m → nextBy m s u ≡ nextBy m s w → u ≡ w
 unfolding nextBy
 nextBy-one m zero u w l k e = e
@@ -357,61 +358,45 @@ nextBy-one m (suc s) u w l k e =
 
 -- they meet in the window from z on, once
 pub meets : (m z : ℕ) (u w : Slot) → u .processor ≤ m → w .processor ≤ m → ¬ (u ≡ w)
-  → (s : ℕ) × (s < 2 * m + 1) × (nextBy m (z + s) u .processor ≡ nextBy m (z + s) w .processor)
+    → (s : ℕ) × (s < 2 * m + 1) × (nextBy m (z + s) u .processor ≡ nextBy m (z + s) w .processor)
     × ((t : ℕ) → t < 2 * m + 1 → nextBy m (z + t) u .processor ≡ nextBy m (z + t) w .processor → t ≡ s)
 meets m z u w l k n = (f .0, omega (arith, f .1), hit, once)
   where
     a : Slot
     a = nextBy m z u
+
     b : Slot
     b = nextBy m z w
+
     la : nextBy m z u .processor ≤ m
     la = nextBy-le m z u l
+
     lb : nextBy m z w .processor ≤ m
     lb = nextBy-le m z w k
+
     differ : ¬ (pos m (nextBy m z u) ≡ pos m (nextBy m z w))
     differ e = n (nextBy-one m z u w l k (pos-one m _ _ la lb e))
+
     f : (s : ℕ) × (s ≤ 2 * m) × Time m s (pos m (nextBy m z u)) (pos m (nextBy m z w))
     f = find m _ _ (pos-le m _ _ la) (pos-le m _ _ lb) differ
+
     hit : nextBy m (z + f .0) u .processor ≡ nextBy m (z + f .0) w .processor
     hit =
         let o : f .0 ≤ 2 * m = f .1 in
         rw (nextBy-add m (f .0) z u, nextBy-add m (f .0) z w)
         (sum-from m _ _ _ _ (nextBy-le m (f .0) _ la) (nextBy-le m (f .0) _ lb)
-          (from-time m (f .0) _ _ _ _ o differ (f .2) (pub-at m (f .0) _ la (omega arith)) (pub-at m (f .0) _ lb (omega arith))))
+        (from-time m (f .0) _ _ _ _ o differ (f .2) (at-step m (f .0) _ la (omega arith)) (at-step m (f .0) _ lb (omega arith))))
+
     once : (t : ℕ) → t < 2 * m + 1 → nextBy m (z + t) u .processor ≡ nextBy m (z + t) w .processor → t ≡ f .0
     once t o e =
         one-time m _ _ t (f .0) (omega arith) (f .1)
-        (to-time m t _ _ _ _ (omega arith) differ (pub-at m t _ la (omega arith)) (pub-at m t _ lb (omega arith))
-          (sum-to m _ _ _ _ (nextBy-le m t _ la) (rw (nextBy-add m t z u, nextBy-add m t z w) at e)
-            (λ q. differ (ap (pos m) (nextBy-one m t _ _ la lb (pos-one m _ _ (nextBy-le m t _ la) (nextBy-le m t _ lb) q))))))
+        (to-time m t _ _ _ _ (omega arith) differ (at-step m t _ la (omega arith)) (at-step m t _ lb (omega arith))
+        (sum-to m _ _ _ _ (nextBy-le m t _ la) (rw (nextBy-add m t z u, nextBy-add m t z w) at e)
+        (λ q. differ (ap (pos m) (nextBy-one m t _ _ la lb (pos-one m _ _ (nextBy-le m t _ la) (nextBy-le m t _ lb) q))))))
         (f .2)
 
--- a test that passes at one s < n only is counted once
-count-none : (f : ℕ → Bool) (n : ℕ) → ((t : ℕ) → t < n → f t ≡ false) → count f n ≡ 0
-unfolding count
-count-none f zero g = refl
-count-none f (suc n) g = let e : count f n ≡ 0 = count-none f n (λ t l. g t (omega arith)) in rw (g n (omega arith), e)
-
-pub count-one : (f : ℕ → Bool) (n s : ℕ) → s < n → f s ≡ true → ((t : ℕ) → t < n → f t ≡ true → t ≡ s) → count f n ≡ 1
-unfolding count
-count-one f zero s l e g = absurd (omega arith)
-count-one f (suc n) s l e g = go (f n) refl (λ h. count-one f n s h e (λ t o. g t (omega arith)))
-  where
-    false-of : (b : Bool) → ¬ (b ≡ true) → b ≡ false
-    false-of true h = absurd (h refl)
-    false-of false h = refl
-    go : (b : Bool) → f n ≡ b → (s < n → count f n ≡ 1) → cond b 1 0 + count f n ≡ 1
-    go true z r =
-        let w : n ≡ s = g n (omega arith) z in
-        rw (count-none f n (λ t o. false-of (f t) (λ q. let w′ : t ≡ s = g t (omega arith) q in omega arith)))
-    go false z r =
-        let w : ¬ (s ≡ n) = λ q. true≢false (sym e ∙ ap f q ∙ z) in
-        let h : count f n ≡ 1 = r (omega arith) in
-        rw h
-
 pub meets-once : (m z : ℕ) (u w : Slot) → u .processor ≤ m → w .processor ≤ m → ¬ (u ≡ w)
-  → count (λ s. together (nextBy m (z + s) u) (nextBy m (z + s) w)) (2 * m + 1) ≡ 1
+    → count (λ s. together (nextBy m (z + s) u) (nextBy m (z + s) w)) (2 * m + 1) ≡ 1
 meets-once m z u w l k n =
     let p = meets m z u w l k n in
     count-one (λ s. together (nextBy m (z + s) u) (nextBy m (z + s) w)) (2 * m + 1) (p .0) (p .1) (eq-eqb _ _ (p .2)) (λ t o e. p .3 t o (eqb-true _ _ e))

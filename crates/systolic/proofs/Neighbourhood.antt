@@ -4,12 +4,12 @@ use mathlib.Core.Path.{_≡_, refl, sym, ap}
 use mathlib.Core.Bool.{Bool, true, false, cond}
 use borrow.Author.Tests.{eqb-false}
 use lib.Dec.{eqb}
-use Rattle.systolic.specs.Slots.{Side, Slot}
-use Rattle.systolic.specs.Blocks.{Block, cell, tab, pick}
+use Rattle.systolic.specs.Slots.{Side}
+use Rattle.systolic.specs.Blocks.{Block, cell, pick}
 use Rattle.systolic.specs.Synchronous.{Operations}
 use Rattle.systolic.specs.Tiles.{distance, Tile, joined, Action, idle, first, rotate, second, third, final, stepAt, turnTile, newCells, newParameter, newTile, tickTile}
 use Rattle.systolic.specs.Arrays.{nearer, incoming, tick}
-use Rattle.systolic.proofs.Skew.{tab-ext}
+use Rattle.systolic.proofs.Cells.{tab-ext}
 use Rattle.systolic.proofs.Wires.{joined-le, nearer-ok}
 
 -- a value that only an off-diagonal tile uses
@@ -45,7 +45,7 @@ parameter-same s i j h h′ o f third b x = refl
 parameter-same s i j h h′ o f final b x = refl
 
 tile-same : {X H W : Type 0} (S : Operations X H W) (m k i j : ℕ) (a : Action) (o : Tile X H W) (x : Block X) (h h′ : H) (v v′ : W)
-  → (¬ (i ≡ j) → h ≡ h′) → (¬ (i ≡ j) → v ≡ v′) → newTile S m k i j a o x h v ≡ newTile S m k i j a o x h′ v′
+    → (¬ (i ≡ j) → h ≡ h′) → (¬ (i ≡ j) → v ≡ v′) → newTile S m k i j a o x h v ≡ newTile S m k i j a o x h′ v′
 unfolding newTile
 tile-same S m k i j a o x h h′ v v′ f g =
     rw (cells-same S k i j h h′ v v′ f g a (o .cells) x, parameter-same (S .sendsRow k i) i j h h′ (o .rowLine) f a (o .cells) x, parameter-same (S .sendsColumn k i) i j v v′ (o .columnLine) g a (o .cells) x)
@@ -65,12 +65,12 @@ neighbourhood S m K t A B i j e =
 
 -- Arrays that are alike in all their tiles stay so.
 pub tick-same : {X H W : Type 0} (S : Operations X H W) (m K t : ℕ) (A B : ℕ → ℕ → Tile X H W)
-  → ((i j : ℕ) → i ≤ m → j ≤ m → A i j ≡ B i j) → (i j : ℕ) → i ≤ m → j ≤ m → tick S m K t A i j ≡ tick S m K t B i j
+    → ((i j : ℕ) → i ≤ m → j ≤ m → A i j ≡ B i j) → (i j : ℕ) → i ≤ m → j ≤ m → tick S m K t A i j ≡ tick S m K t B i j
 unfolding pick
 tick-same S m K t A B e i j p q =
     neighbourhood S m K t A B i j (record {
       tile = e i j p q;
       lines = λ h g. ap (λ (x : Tile _ _ _). cell (joined m h i .side) (joined m g j .side) (x .lines)) (e _ _ (joined-le m h i p) (joined-le m g j q));
       row = λ n. ap (λ (x : Tile _ _ _). x .rowLine) (e i (nearer i j) p (nearer-ok m i j p q n .0));
-      column = λ n. ap (λ (x : Tile _ _ _). x .columnLine) (e (nearer j i) j (nearer-ok m j i q p (λ w. n (sym w)) .0) q)
+      column = λ n. ap (λ (x : Tile _ _ _). x .columnLine) (e (nearer j i) j (nearer-ok m j i q p (λ w. n (sym w)) .0) q);
     })

@@ -1,15 +1,16 @@
--- The processors one after the other do what the rotation does at once. Assumes nothing.
-use Prim.Native.Nat.{ℕ, zero, suc, _+_, _-_, _*_, _≤_, _<_}
+-- The pairs one after the other do what the rotation of all blocks does at once. Assumes nothing.
+use Prim.Native.Nat.{ℕ, zero, suc, _≤_, _<_}
 use mathlib.Core.Path.{_≡_, refl, sym, _∙_, ap}
-use mathlib.Core.Bool.{Bool, true, false, cond, _||_, true≢false}
+use mathlib.Core.Bool.{Bool, true, false, cond, true≢false}
 use native.Mathlib.Omega.{arith}
-use borrow.Author.Tests.{ltb-true, ltb-false, eqb-true, eqb-false, eq-eqb, ne-eqb, lt-ltb, le-ltb}
+use borrow.Author.Tests.{ltb-true, ltb-false, eqb-true, eqb-false, eq-eqb, ne-eqb}
 use lib.Dec.{ltb, eqb}
 use Rattle.systolic.specs.Slots.{Side, left, right, Slot, slot}
 use Rattle.systolic.specs.Blocks.{Block, cell, tab}
 use Rattle.systolic.specs.Synchronous.{rotateAll}
 use Rattle.systolic.specs.Sequential.{Rules, turnRows, turnColumns, pairBlock, place, pairStep, pairsStep, blockAt, turnBlockRows, turnBlockColumns, operationsOf}
-use Rattle.systolic.proofs.Skew.{cell-tab, tab-ext}
+use Rattle.systolic.proofs.Cells.{cell-tab, tab-ext, tab-cell}
+use Rattle.systolic.proofs.Bounded.{up-to}
 use Rattle.systolic.proofs.Lines.{Distinct}
 
 -- the one line or the other
@@ -21,47 +22,40 @@ side-no : Side → Bool
 side-no left = true
 side-no right = false
 
-lo≢hi : ¬ (left ≡ right)
+left≢right : ¬ (left ≡ right)
 unfolding side-no
-lo≢hi e = true≢false (ap side-no e)
+left≢right e = true≢false (ap side-no e)
 
-tab-cell : {X : Type 0} (b : Block X) → tab (λ r s. cell r s b) ≡ b
-unfolding tab cell
-tab-cell b = refl
-
--- ONE PROCESSOR, cell by cell
+-- ---- one pair, entry by entry
 module _ {X H W : Type 0} (R : Rules X H W) (k i p q : ℕ) (ne : ¬ (p ≡ q)) (M : ℕ → ℕ → X) where
   qp : eqb q p ≡ false
   qp = ne-eqb q p (λ e. ne (sym e))
 
-  pq : eqb p q ≡ false
-  pq = ne-eqb p q ne
-
-  one-none : (r c : ℕ) → ¬ (r ≡ p) → ¬ (r ≡ q) → ¬ (c ≡ p) → ¬ (c ≡ q) → pairStep R k i p q M r c ≡ M r c
+  pair-none : (r c : ℕ) → ¬ (r ≡ p) → ¬ (r ≡ q) → ¬ (c ≡ p) → ¬ (c ≡ q) → pairStep R k i p q M r c ≡ M r c
   unfolding pairStep place turnColumns turnRows
-  one-none r c a b d e = rw (ne-eqb r p a, ne-eqb r q b, ne-eqb c p d, ne-eqb c q e)
+  pair-none r c a b d e = rw (ne-eqb r p a, ne-eqb r q b, ne-eqb c p d, ne-eqb c q e)
 
-  one-row : (s : Side) (r c : ℕ) → r ≡ end s p q → ¬ (c ≡ p) → ¬ (c ≡ q)
-    → pairStep R k i p q M r c ≡ R .rowTurn (R .sendsRow k i (pairBlock p q M)) s (M p c) (M q c)
+  pair-row : (s : Side) (r c : ℕ) → r ≡ end s p q → ¬ (c ≡ p) → ¬ (c ≡ q)
+      → pairStep R k i p q M r c ≡ R .rowTurn (R .sendsRow k i (pairBlock p q M)) s (M p c) (M q c)
   unfolding pairStep place turnColumns turnRows end
-  one-row left r c z d e = rw (z, eq-eqb p p refl, ne-eqb c p d, ne-eqb c q e)
-  one-row right r c z d e = rw (z, qp, eq-eqb q q refl, ne-eqb c p d, ne-eqb c q e)
+  pair-row left r c z d e = rw (z, eq-eqb p p refl, ne-eqb c p d, ne-eqb c q e)
+  pair-row right r c z d e = rw (z, qp, eq-eqb q q refl, ne-eqb c p d, ne-eqb c q e)
 
-  one-col : (s : Side) (r c : ℕ) → c ≡ end s p q → ¬ (r ≡ p) → ¬ (r ≡ q)
-    → pairStep R k i p q M r c ≡ R .columnTurn (R .sendsColumn k i (pairBlock p q M)) s (M r p) (M r q)
+  pair-column : (s : Side) (r c : ℕ) → c ≡ end s p q → ¬ (r ≡ p) → ¬ (r ≡ q)
+      → pairStep R k i p q M r c ≡ R .columnTurn (R .sendsColumn k i (pairBlock p q M)) s (M r p) (M r q)
   unfolding pairStep place turnColumns turnRows end
-  one-col left r c z d e = rw (z, eq-eqb p p refl, qp, eq-eqb q q refl, ne-eqb r p d, ne-eqb r q e)
-  one-col right r c z d e = rw (z, eq-eqb p p refl, qp, eq-eqb q q refl, ne-eqb r p d, ne-eqb r q e)
+  pair-column left r c z d e = rw (z, eq-eqb p p refl, qp, eq-eqb q q refl, ne-eqb r p d, ne-eqb r q e)
+  pair-column right r c z d e = rw (z, eq-eqb p p refl, qp, eq-eqb q q refl, ne-eqb r p d, ne-eqb r q e)
 
-  one-cells : (s t : Side) (r c : ℕ) → r ≡ end s p q → c ≡ end t p q
-    → pairStep R k i p q M r c ≡ cell s t (R .diagonal k i (pairBlock p q M))
+  pair-cells : (s t : Side) (r c : ℕ) → r ≡ end s p q → c ≡ end t p q
+      → pairStep R k i p q M r c ≡ cell s t (R .diagonal k i (pairBlock p q M))
   unfolding pairStep place cell end
-  one-cells left left r c y z = rw (y, z, eq-eqb p p refl)
-  one-cells left right r c y z = rw (y, z, eq-eqb p p refl, qp, eq-eqb q q refl)
-  one-cells right left r c y z = rw (y, z, eq-eqb p p refl, qp, eq-eqb q q refl)
-  one-cells right right r c y z = rw (y, z, qp, eq-eqb q q refl)
+  pair-cells left left r c y z = rw (y, z, eq-eqb p p refl)
+  pair-cells left right r c y z = rw (y, z, eq-eqb p p refl, qp, eq-eqb q q refl)
+  pair-cells right left r c y z = rw (y, z, eq-eqb p p refl, qp, eq-eqb q q refl)
+  pair-cells right right r c y z = rw (y, z, qp, eq-eqb q q refl)
 
--- ONE PROCESSOR, block by block
+-- ---- one pair, block by block
 module _ {X H W : Type 0} (R : Rules X H W) (k m : ℕ) (L : Slot → ℕ) (one : Distinct m L) where
   end-of : (n : ℕ) (s : Side) → L (slot n s) ≡ end s (L (slot n left)) (L (slot n right))
   unfolding end
@@ -70,7 +64,7 @@ module _ {X H W : Type 0} (R : Rules X H W) (k m : ℕ) (L : Slot → ℕ) (one 
 
   ends : (n : ℕ) → n ≤ m → ¬ (L (slot n left) ≡ L (slot n right))
   unfolding slot
-  ends n l e = lo≢hi (ap (λ u. u .side) (one (slot n left) (slot n right) l l e))
+  ends n l e = left≢right (ap (λ u. u .side) (one (slot n left) (slot n right) l l e))
 
   other : (n i : ℕ) → n ≤ m → i ≤ m → ¬ (i ≡ n) → (s t : Side) → ¬ (L (slot i s) ≡ L (slot n t))
   unfolding slot
@@ -85,31 +79,31 @@ module _ {X H W : Type 0} (R : Rules X H W) (k m : ℕ) (L : Slot → ℕ) (one 
 
   module _ (n : ℕ) (l : n ≤ m) (M : ℕ → ℕ → X) where
     -- it changes the blocks of its row and its column only
-    act-none : (i j : ℕ) → i ≤ m → j ≤ m → ¬ (i ≡ n) → ¬ (j ≡ n) → blockAt L (acted n M) i j ≡ blockAt L M i j
+    step-none : (i j : ℕ) → i ≤ m → j ≤ m → ¬ (i ≡ n) → ¬ (j ≡ n) → blockAt L (acted n M) i j ≡ blockAt L M i j
     unfolding blockAt
-    act-none i j h g d e =
-        tab-ext _ _ (λ r s. one-none R k n _ _ (ends n l) M _ _ (other n i l h d r left) (other n i l h d r right) (other n j l g e s left) (other n j l g e s right))
+    step-none i j h g d e =
+        tab-ext _ _ (λ r s. pair-none R k n _ _ (ends n l) M _ _ (other n i l h d r left) (other n i l h d r right) (other n j l g e s left) (other n j l g e s right))
 
-    act-row : (j : ℕ) → j ≤ m → ¬ (j ≡ n) → blockAt L (acted n M) n j ≡ turnBlockRows R (R .sendsRow k n (blockAt L M n n)) (blockAt L M n j)
+    step-row : (j : ℕ) → j ≤ m → ¬ (j ≡ n) → blockAt L (acted n M) n j ≡ turnBlockRows R (R .sendsRow k n (blockAt L M n n)) (blockAt L M n j)
     unfolding turnBlockRows
-    act-row j g e =
+    step-row j g e =
         rw (← (pair-block n M))
         (unfold blockAt in (tab-ext _ _ (λ r s.
-          one-row R k n _ _ (ends n l) M r _ _ (end-of n r) (other n j l g e s left) (other n j l g e s right) ∙ rw (cell-tab _ left s, cell-tab _ right s))))
+        pair-row R k n _ _ (ends n l) M r _ _ (end-of n r) (other n j l g e s left) (other n j l g e s right) ∙ rw (cell-tab _ left s, cell-tab _ right s))))
 
-    act-col : (i : ℕ) → i ≤ m → ¬ (i ≡ n) → blockAt L (acted n M) i n ≡ turnBlockColumns R (R .sendsColumn k n (blockAt L M n n)) (blockAt L M i n)
+    step-column : (i : ℕ) → i ≤ m → ¬ (i ≡ n) → blockAt L (acted n M) i n ≡ turnBlockColumns R (R .sendsColumn k n (blockAt L M n n)) (blockAt L M i n)
     unfolding turnBlockColumns
-    act-col i h d =
+    step-column i h d =
         rw (← (pair-block n M))
         (unfold blockAt in (tab-ext _ _ (λ r s.
-          one-col R k n _ _ (ends n l) M s _ _ (end-of n s) (other n i l h d r left) (other n i l h d r right) ∙ rw (cell-tab _ r left, cell-tab _ r right))))
+        pair-column R k n _ _ (ends n l) M s _ _ (end-of n s) (other n i l h d r left) (other n i l h d r right) ∙ rw (cell-tab _ r left, cell-tab _ r right))))
 
-    act-diag : blockAt L (acted n M) n n ≡ R .diagonal k n (blockAt L M n n)
-    act-diag =
+    step-diagonal : blockAt L (acted n M) n n ≡ R .diagonal k n (blockAt L M n n)
+    step-diagonal =
         rw (← (pair-block n M))
-        (unfold blockAt in (tab-ext _ _ (λ r s. one-cells R k n _ _ (ends n l) M r s _ _ (end-of n r) (end-of n s)) ∙ tab-cell (R .diagonal k n (pairBlock (L (slot n left)) (L (slot n right)) M))))
+        (unfold blockAt in (tab-ext _ _ (λ r s. pair-cells R k n _ _ (ends n l) M r s _ _ (end-of n r) (end-of n s)) ∙ tab-cell (R .diagonal k n (pairBlock (L (slot n left)) (L (slot n right)) M))))
 
-  -- THE PROCESSORS 0 .. n - 1, one after the other
+  -- ---- the first n pairs, one after the other
   module _ (M : ℕ → ℕ → X) where
     abbrev h : ℕ → H
     h i = R .sendsRow k i (blockAt L M i i)
@@ -119,9 +113,9 @@ module _ {X H W : Type 0} (R : Rules X H W) (k m : ℕ) (L : Slot → ℕ) (one 
 
     record Mid (n : ℕ) (A : ℕ → ℕ → X) : Type 0 where
       same : (i j : ℕ) → i ≤ m → j ≤ m → n ≤ i → n ≤ j → blockAt L A i j ≡ blockAt L M i j
-      diag : (i : ℕ) → i ≤ m → i < n → blockAt L A i i ≡ R .diagonal k i (blockAt L M i i)
+      diagonal : (i : ℕ) → i ≤ m → i < n → blockAt L A i i ≡ R .diagonal k i (blockAt L M i i)
       row : (i j : ℕ) → j ≤ m → i < n → n ≤ j → blockAt L A i j ≡ turnBlockRows R (h i) (blockAt L M i j)
-      col : (i j : ℕ) → i ≤ m → j < n → n ≤ i → blockAt L A i j ≡ turnBlockColumns R (v j) (blockAt L M i j)
+      column : (i j : ℕ) → i ≤ m → j < n → n ≤ i → blockAt L A i j ≡ turnBlockColumns R (v j) (blockAt L M i j)
       upper : (i j : ℕ) → j ≤ m → i < j → j < n → blockAt L A i j ≡ turnBlockColumns R (v j) (turnBlockRows R (h i) (blockAt L M i j))
       lower : (i j : ℕ) → i ≤ m → j < i → i < n → blockAt L A i j ≡ turnBlockRows R (h i) (turnBlockColumns R (v j) (blockAt L M i j))
 
@@ -129,46 +123,38 @@ module _ {X H W : Type 0} (R : Rules X H W) (k m : ℕ) (L : Slot → ℕ) (one 
       here : blockAt L A n n ≡ blockAt L M n n
       here = z .same n n l l (omega arith) (omega arith)
 
-      row-now : (j : ℕ) → j ≤ m → ¬ (j ≡ n) → (b : Block X) → blockAt L A n j ≡ b → blockAt L (acted n A) n j ≡ turnBlockRows R (h n) b
-      row-now j g d b e = act-row n l A j g d ∙ ap (λ x. turnBlockRows R (R .sendsRow k n x) (blockAt L A n j)) here ∙ ap (turnBlockRows R (h n)) e
+      row-turned : (j : ℕ) → j ≤ m → ¬ (j ≡ n) → (b : Block X) → blockAt L A n j ≡ b → blockAt L (acted n A) n j ≡ turnBlockRows R (h n) b
+      row-turned j g d b e = step-row n l A j g d ∙ ap (λ x. turnBlockRows R (R .sendsRow k n x) (blockAt L A n j)) here ∙ ap (turnBlockRows R (h n)) e
 
-      col-now : (i : ℕ) → i ≤ m → ¬ (i ≡ n) → (b : Block X) → blockAt L A i n ≡ b → blockAt L (acted n A) i n ≡ turnBlockColumns R (v n) b
-      col-now i g d b e = act-col n l A i g d ∙ ap (λ x. turnBlockColumns R (R .sendsColumn k n x) (blockAt L A i n)) here ∙ ap (turnBlockColumns R (v n)) e
+      column-turned : (i : ℕ) → i ≤ m → ¬ (i ≡ n) → (b : Block X) → blockAt L A i n ≡ b → blockAt L (acted n A) i n ≡ turnBlockColumns R (v n) b
+      column-turned i g d b e = step-column n l A i g d ∙ ap (λ x. turnBlockColumns R (R .sendsColumn k n x) (blockAt L A i n)) here ∙ ap (turnBlockColumns R (v n)) e
 
-      diag-now : blockAt L (acted n A) n n ≡ R .diagonal k n (blockAt L M n n)
-      diag-now = rw (← here) (act-diag n l A)
-
-      -- a fact for all that is below n, and for n
-      upto : (Q : ℕ → Type 0) (i : ℕ) → i < suc n → (i < n → Q i) → Q n → Q i
-      upto Q i o f x = go (ltb i n) refl
-        where
-          go : (b : Bool) → ltb i n ≡ b → Q i
-          go true e = f (ltb-true _ _ e)
-          go false e = let w : n ≤ i = ltb-false _ _ e in let w′ : i ≡ n = omega arith in rw w′ x
+      diagonal-turned : blockAt L (acted n A) n n ≡ R .diagonal k n (blockAt L M n n)
+      diagonal-turned = rw (← here) (step-diagonal n l A)
 
       mid-more : Mid (suc n) (acted n A)
       mid-more =
           record {
-            same = λ i j p q o o′. act-none n l A i j p q (λ e. omega arith) (λ e. omega arith) ∙ z .same i j p q (omega arith) (omega arith);
-            diag = λ i p o.
-              upto (λ a. blockAt L (acted n A) a a ≡ R .diagonal k a (blockAt L M a a)) i o
-              (λ u. act-none n l A i i p p (λ e. omega arith) (λ e. omega arith) ∙ z .diag i p u) diag-now;
+            same = λ i j p q o o′. step-none n l A i j p q (λ e. omega arith) (λ e. omega arith) ∙ z .same i j p q (omega arith) (omega arith);
+            diagonal = λ i p o.
+                up-to (λ a. blockAt L (acted n A) a a ≡ R .diagonal k a (blockAt L M a a)) n i o
+                (λ u. step-none n l A i i p p (λ e. omega arith) (λ e. omega arith) ∙ z .diagonal i p u) diagonal-turned;
             row = λ i j q o o′.
-              upto (λ a. blockAt L (acted n A) a j ≡ turnBlockRows R (h a) (blockAt L M a j)) i o
-              (λ u. act-none n l A i j (omega arith) q (λ e. omega arith) (λ e. omega arith) ∙ z .row i j q u (omega arith))
-              (row-now j q (λ e. omega arith) _ (z .same n j l q (omega arith) (omega arith)));
-            col = λ i j p o o′.
-              upto (λ a. blockAt L (acted n A) i a ≡ turnBlockColumns R (v a) (blockAt L M i a)) j o
-              (λ u. act-none n l A i j p (omega arith) (λ e. omega arith) (λ e. omega arith) ∙ z .col i j p u (omega arith))
-              (col-now i p (λ e. omega arith) _ (z .same i n p l (omega arith) (omega arith)));
+                up-to (λ a. blockAt L (acted n A) a j ≡ turnBlockRows R (h a) (blockAt L M a j)) n i o
+                (λ u. step-none n l A i j (omega arith) q (λ e. omega arith) (λ e. omega arith) ∙ z .row i j q u (omega arith))
+                (row-turned j q (λ e. omega arith) _ (z .same n j l q (omega arith) (omega arith)));
+            column = λ i j p o o′.
+                up-to (λ a. blockAt L (acted n A) i a ≡ turnBlockColumns R (v a) (blockAt L M i a)) n j o
+                (λ u. step-none n l A i j p (omega arith) (λ e. omega arith) (λ e. omega arith) ∙ z .column i j p u (omega arith))
+                (column-turned i p (λ e. omega arith) _ (z .same i n p l (omega arith) (omega arith)));
             upper = λ i j q w o.
-              upto (λ a. i < a → blockAt L (acted n A) i a ≡ turnBlockColumns R (v a) (turnBlockRows R (h i) (blockAt L M i a))) j o
-              (λ u w′. act-none n l A i j (omega arith) q (λ e. omega arith) (λ e. omega arith) ∙ z .upper i j q w′ u)
-              (λ w′. col-now i (omega arith) (λ e. omega arith) _ (z .row i n l w′ (omega arith))) w;
+                up-to (λ a. i < a → blockAt L (acted n A) i a ≡ turnBlockColumns R (v a) (turnBlockRows R (h i) (blockAt L M i a))) n j o
+                (λ u w′. step-none n l A i j (omega arith) q (λ e. omega arith) (λ e. omega arith) ∙ z .upper i j q w′ u)
+                (λ w′. column-turned i (omega arith) (λ e. omega arith) _ (z .row i n l w′ (omega arith))) w;
             lower = λ i j p w o.
-              upto (λ a. j < a → blockAt L (acted n A) a j ≡ turnBlockRows R (h a) (turnBlockColumns R (v j) (blockAt L M a j))) i o
-              (λ u w′. act-none n l A i j p (omega arith) (λ e. omega arith) (λ e. omega arith) ∙ z .lower i j p w′ u)
-              (λ w′. row-now j (omega arith) (λ e. omega arith) _ (z .col n j l w′ (omega arith))) w
+                up-to (λ a. j < a → blockAt L (acted n A) a j ≡ turnBlockRows R (h a) (turnBlockColumns R (v j) (blockAt L M a j))) n i o
+                (λ u w′. step-none n l A i j p (omega arith) (λ e. omega arith) (λ e. omega arith) ∙ z .lower i j p w′ u)
+                (λ w′. row-turned j (omega arith) (λ e. omega arith) _ (z .column n j l w′ (omega arith))) w;
           }
 
     mid : (n : ℕ) → n ≤ suc m → Mid n (pairsStep R k L n M)
@@ -176,26 +162,27 @@ module _ {X H W : Type 0} (R : Rules X H W) (k m : ℕ) (L : Slot → ℕ) (one 
     mid zero o =
         record {
           same = λ i j p q o o′. refl;
-          diag = λ i p o. absurd (omega arith);
+          diagonal = λ i p o. absurd (omega arith);
           row = λ i j q o o′. absurd (omega arith);
-          col = λ i j p o o′. absurd (omega arith);
+          column = λ i j p o o′. absurd (omega arith);
           upper = λ i j q w o. absurd (omega arith);
-          lower = λ i j p w o. absurd (omega arith)
+          lower = λ i j p w o. absurd (omega arith);
         }
     mid (suc n) o = mid-more n (omega arith) (pairsStep R k L n M) (mid n (omega arith))
 
-    -- THE STEP: the blocks after all the processors are the rotated blocks
-    pub step-is : (l : Slot → ℕ) (M₀ : ℕ → ℕ → X) (x : X) (h₀ : H) (w₀ : W) (i j : ℕ) → i ≤ m → j ≤ m
-      → rotateAll (operationsOf R l M₀ x h₀ w₀) k (blockAt L M) i j ≡ blockAt L (pairsStep R k L (suc m) M) i j
+    -- the blocks after all pairs are the rotated blocks
+    pub step-agrees : (l : Slot → ℕ) (M₀ : ℕ → ℕ → X) (x : X) (h₀ : H) (w₀ : W) (i j : ℕ) → i ≤ m → j ≤ m
+        → rotateAll (operationsOf R l M₀ x h₀ w₀) k (blockAt L M) i j ≡ blockAt L (pairsStep R k L (suc m) M) i j
     unfolding rotateAll operationsOf
-    step-is l M₀ x h₀ w₀ i j p q = go (eqb i j) (ltb i j) refl refl
+    step-agrees l M₀ x h₀ w₀ i j p q = go (eqb i j) (ltb i j) refl refl
       where
         z : Mid (suc m) (pairsStep R k L (suc m) M)
         z = mid (suc m) (omega arith)
+
         go : (b c : Bool) → eqb i j ≡ b → ltb i j ≡ c
-          → cond b (R .diagonal k i (blockAt L M i i)) (cond c (turnBlockColumns R (v j) (turnBlockRows R (h i) (blockAt L M i j))) (turnBlockRows R (h i) (turnBlockColumns R (v j) (blockAt L M i j))))
-          ≡ blockAt L (pairsStep R k L (suc m) M) i j
-        go true c e f = let w : i ≡ j = eqb-true _ _ e in rw (← w) (sym (z .diag i p (omega arith)))
+            → cond b (R .diagonal k i (blockAt L M i i)) (cond c (turnBlockColumns R (v j) (turnBlockRows R (h i) (blockAt L M i j))) (turnBlockRows R (h i) (turnBlockColumns R (v j) (blockAt L M i j))))
+            ≡ blockAt L (pairsStep R k L (suc m) M) i j
+        go true c e f = let w : i ≡ j = eqb-true _ _ e in rw (← w) (sym (z .diagonal i p (omega arith)))
         go false true e f = let w : i < j = ltb-true _ _ f in sym (z .upper i j q w (omega arith))
         go false false e f =
             let w : ¬ (i ≡ j) = eqb-false _ _ e in let w′ : j ≤ i = ltb-false _ _ f in sym (z .lower i j p (omega arith) (omega arith))

@@ -1,9 +1,9 @@
 -- Where the lines lead, and when. Assumes nothing.
-use Prim.Native.Nat.{ℕ, zero, suc, _+_, _-_, _*_, _≤_, _<_}
+use Prim.Native.Nat.{ℕ, zero, suc, _+_, _-_, _≤_, _<_}
 use mathlib.Core.Path.{_≡_, refl}
 use mathlib.Core.Bool.{Bool, true, false, cond}
 use native.Mathlib.Omega.{arith}
-use borrow.Author.Tests.{ltb-true, ltb-false, eqb-true, eqb-false, eq-eqb, ne-eqb, lt-ltb, le-ltb}
+use borrow.Author.Tests.{ltb-true, ltb-false, eqb-true, eqb-false}
 use lib.Dec.{ltb, eqb}
 use Rattle.systolic.specs.Slots.{Side, left, right, flip, Slot, slot, intoLast, cameFrom}
 use Rattle.systolic.specs.Tiles.{distance, carried, joined, phaseOf}
@@ -18,7 +18,7 @@ link m left (suc (suc i)) = refl
 link m right i = go (eqb i m) m
   where
     go : (b : Bool) (n : ℕ) → cond b (intoLast n) (slot (suc i) right)
-      ≡ slot (cond b (slot n right) (slot (suc i) left) .processor) (carried (cond b (slot n right) (slot (suc i) left) .processor) (cond b (slot n right) (slot (suc i) left) .side))
+        ≡ slot (cond b (slot n right) (slot (suc i) left) .processor) (carried (cond b (slot n right) (slot (suc i) left) .processor) (cond b (slot n right) (slot (suc i) left) .side))
     go true zero = refl
     go true (suc n) = refl
     go false n = refl
@@ -45,7 +45,7 @@ by-lt x y D D' f g = go (ltb x y) refl
     go false e = g (ltb-false _ _ e)
 
 by-ends : (i j m D D' : ℕ) → (i ≡ m → InTime D 1 D') → (j ≡ m → InTime D 1 D') → (¬ (i ≡ m) → ¬ (j ≡ m) → InTime D 2 D')
-  → InTime D (cond (eqb i m) 1 (cond (eqb j m) 1 2)) D'
+    → InTime D (cond (eqb i m) 1 (cond (eqb j m) 1 2)) D'
 by-ends i j m D D' f g k = go (eqb i m) (eqb j m) refl refl
   where
     go : (b c : Bool) → eqb i m ≡ b → eqb j m ≡ c → InTime D (cond b 1 (cond c 1 2)) D'
@@ -56,41 +56,41 @@ by-ends i j m D D' f g k = go (eqb i m) (eqb j m) refl refl
 abbrev OK : ℕ → ℕ → ℕ → Slot → Slot → Type 0
 OK m i j ρ κ = InTime (distance (ρ .processor) (κ .processor)) (phaseOf m (ρ .side) (κ .side) (ρ .processor) (κ .processor)) (distance i j)
 
-lo-hi : (m i j : ℕ) → i ≤ m → j ≤ m → (b : Bool) → eqb j m ≡ b → OK m i j (joined m left i) (cond b (slot m right) (slot (suc j) left))
+left-right : (m i j : ℕ) → i ≤ m → j ≤ m → (b : Bool) → eqb j m ≡ b → OK m i j (joined m left i) (cond b (slot m right) (slot (suc j) left))
 unfolding joined phaseOf slot
-lo-hi m zero j p q true e = let w : j ≡ m = eqb-true _ _ e in by-lt m 0 _ _ (omega arith) (omega arith)
-lo-hi m zero j p q false e = omega arith
-lo-hi m (suc i) j p q true e = let w : j ≡ m = eqb-true _ _ e in by-ends i m m _ _ (omega arith) (omega arith) (omega arith)
-lo-hi m (suc i) j p q false e = let w : ¬ (j ≡ m) = eqb-false _ _ e in by-lt i (suc j) _ _ (omega arith) (omega arith)
+left-right m zero j p q true e = let w : j ≡ m = eqb-true _ _ e in by-lt m 0 _ _ (omega arith) (omega arith)
+left-right m zero j p q false e = omega arith
+left-right m (suc i) j p q true e = let w : j ≡ m = eqb-true _ _ e in by-ends i m m _ _ (omega arith) (omega arith) (omega arith)
+left-right m (suc i) j p q false e = let w : ¬ (j ≡ m) = eqb-false _ _ e in by-lt i (suc j) _ _ (omega arith) (omega arith)
 
-hi-lo : (m i j : ℕ) → i ≤ m → j ≤ m → (b : Bool) → eqb i m ≡ b → OK m i j (cond b (slot m right) (slot (suc i) left)) (joined m left j)
+right-left : (m i j : ℕ) → i ≤ m → j ≤ m → (b : Bool) → eqb i m ≡ b → OK m i j (cond b (slot m right) (slot (suc i) left)) (joined m left j)
 unfolding joined phaseOf slot
-hi-lo m i zero p q true e = let w : i ≡ m = eqb-true _ _ e in by-lt m 0 _ _ (omega arith) (omega arith)
-hi-lo m i zero p q false e = omega arith
-hi-lo m i (suc j) p q true e = let w : i ≡ m = eqb-true _ _ e in by-ends m j m _ _ (omega arith) (omega arith) (omega arith)
-hi-lo m i (suc j) p q false e = let w : ¬ (i ≡ m) = eqb-false _ _ e in by-lt j (suc i) _ _ (omega arith) (omega arith)
+right-left m i zero p q true e = let w : i ≡ m = eqb-true _ _ e in by-lt m 0 _ _ (omega arith) (omega arith)
+right-left m i zero p q false e = omega arith
+right-left m i (suc j) p q true e = let w : i ≡ m = eqb-true _ _ e in by-ends m j m _ _ (omega arith) (omega arith) (omega arith)
+right-left m i (suc j) p q false e = let w : ¬ (i ≡ m) = eqb-false _ _ e in by-lt j (suc i) _ _ (omega arith) (omega arith)
 
-hi-hi : (m i j : ℕ) → i ≤ m → j ≤ m → (b c : Bool) → eqb i m ≡ b → eqb j m ≡ c
-  → OK m i j (cond b (slot m right) (slot (suc i) left)) (cond c (slot m right) (slot (suc j) left))
+right-right : (m i j : ℕ) → i ≤ m → j ≤ m → (b c : Bool) → eqb i m ≡ b → eqb j m ≡ c
+    → OK m i j (cond b (slot m right) (slot (suc i) left)) (cond c (slot m right) (slot (suc j) left))
 unfolding joined phaseOf slot
-hi-hi m i j p q true true e e' =
+right-right m i j p q true true e e' =
     let w : i ≡ m = eqb-true _ _ e in let w' : j ≡ m = eqb-true _ _ e' in by-ends m m m _ _ (omega arith) (omega arith) (omega arith)
-hi-hi m i j p q true false e e' =
+right-right m i j p q true false e e' =
     let w : i ≡ m = eqb-true _ _ e in let w' : ¬ (j ≡ m) = eqb-false _ _ e' in by-lt m (suc j) _ _ (omega arith) (omega arith)
-hi-hi m i j p q false true e e' =
+right-right m i j p q false true e e' =
     let w : ¬ (i ≡ m) = eqb-false _ _ e in let w' : j ≡ m = eqb-true _ _ e' in by-lt m (suc i) _ _ (omega arith) (omega arith)
-hi-hi m i j p q false false e e' = omega arith
+right-right m i j p q false false e e' = omega arith
 
 pub in-time : (m : ℕ) (h g : Side) (i j : ℕ) → i ≤ m → j ≤ m
-  → InTime (distance (joined m h i .processor) (joined m g j .processor)) (phaseOf m (joined m h i .side) (joined m g j .side) (joined m h i .processor) (joined m g j .processor)) (distance i j)
+    → InTime (distance (joined m h i .processor) (joined m g j .processor)) (phaseOf m (joined m h i .side) (joined m g j .side) (joined m h i .processor) (joined m g j .processor)) (distance i j)
 unfolding joined phaseOf slot
 in-time m left left zero zero p q = omega arith
 in-time m left left zero (suc j) p q = by-lt j 0 _ _ (omega arith) (omega arith)
 in-time m left left (suc i) zero p q = by-lt i 0 _ _ (omega arith) (omega arith)
 in-time m left left (suc i) (suc j) p q = by-ends i j m _ _ (omega arith) (omega arith) (omega arith)
-in-time m left right i j p q = lo-hi m i j p q (eqb j m) refl
-in-time m right left i j p q = hi-lo m i j p q (eqb i m) refl
-in-time m right right i j p q = hi-hi m i j p q (eqb i m) (eqb j m) refl refl
+in-time m left right i j p q = left-right m i j p q (eqb j m) refl
+in-time m right left i j p q = right-left m i j p q (eqb i m) refl
+in-time m right right i j p q = right-right m i j p q (eqb i m) (eqb j m) refl refl
 
 -- a phase is 0, 1 or 2
 pub phase-lt : (m : ℕ) (r s : Side) (i j : ℕ) → phaseOf m r s i j < 3
@@ -123,30 +123,3 @@ nearer-ok m i j p q n = go (ltb i j) refl
     go : (b : Bool) → ltb i j ≡ b → (cond b (j - 1) (suc j) ≤ m) × (suc (distance i (cond b (j - 1) (suc j))) ≡ distance i j)
     go true e = let w : i < j = ltb-true _ _ e in omega arith
     go false e = let w : j ≤ i = ltb-false _ _ e in omega arith
-
--- the source, from facts on numbers
-pub joined-hi-end : (m i : ℕ) → i ≡ m → joined m right i ≡ slot m right
-unfolding joined
-joined-hi-end m i e = rw (eq-eqb i m e)
-
-pub joined-hi : (m i : ℕ) → ¬ (i ≡ m) → joined m right i ≡ slot (i + 1) left
-unfolding joined
-joined-hi m i e = let z : suc i ≡ i + 1 = omega arith in rw (ne-eqb i m e, ← z)
-
-pub joined-lo-end : (m i : ℕ) → i ≡ 0 → joined m left i ≡ slot 0 left
-unfolding joined
-joined-lo-end m zero e = refl
-joined-lo-end m (suc i) e = absurd (omega arith)
-
-pub joined-lo : (m i : ℕ) → ¬ (i ≡ 0) → joined m left i ≡ slot (i - 1) right
-unfolding joined
-joined-lo m zero e = absurd (e refl)
-joined-lo m (suc i) e = let z : suc i - 1 ≡ i = omega arith in rw z
-
-pub nearer-up : (i j : ℕ) → i < j → nearer i j ≡ j - 1
-unfolding nearer
-nearer-up i j l = rw (lt-ltb i j l)
-
-pub nearer-down : (i j : ℕ) → j ≤ i → nearer i j ≡ j + 1
-unfolding nearer
-nearer-down i j l = let z : suc j ≡ j + 1 = omega arith in rw (le-ltb i j l, ← z)

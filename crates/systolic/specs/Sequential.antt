@@ -85,5 +85,5 @@ operationsOf R l M x h w =
       sendsRow = R .sendsRow;
       sendsColumn = R .sendsColumn;
       offDiagonal = λ k i j p q b. cond (ltb i j) (turnBlockColumns R q (turnBlockRows R p b)) (turnBlockRows R p (turnBlockColumns R q b));
-      bad = anyFails R
+      bad = anyFails R;
     }

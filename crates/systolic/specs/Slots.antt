@@ -2,7 +2,7 @@
 -- There are N = m + 1 processors. They are numbered from 0 here, so document 01's processor k is k - 1.
 use Prim.Native.Nat.{ℕ, zero, suc, _+_, _*_, _≤_}
 use mathlib.Core.Path.{_≡_}
-use mathlib.Core.Bool.{Bool, true, false, cond, _||_, _&&_}
+use mathlib.Core.Bool.{Bool, false, cond, _||_, _&&_}
 use lib.Dec.{eqb}
 
 -- The left or the right register of a processor. Of a wire, the end that points to lower or to higher processors.
@@ -85,10 +85,10 @@ meetIn l m s p q i =
     (eqb (lineAt l m s (slot i left)) p && eqb (lineAt l m s (slot i right)) q) || (eqb (lineAt l m s (slot i left)) q && eqb (lineAt l m s (slot i right)) p)
 
 -- They meet in step s.
-unfoldable pub meetB : (Slot → ℕ) → ℕ → ℕ → ℕ → ℕ → Bool
-meetB l m s p q = any (suc m) (meetIn l m s p q)
+unfoldable pub meetAt : (Slot → ℕ) → ℕ → ℕ → ℕ → ℕ → Bool
+meetAt l m s p q = any (suc m) (meetIn l m s p q)
 
 -- the same as a proposition
 pub data Meet (l : Slot → ℕ) (m s p q : ℕ) : Type 0 where
-  meet : (i : ℕ) → i ≤ m → lineAt l m s (slot i left) ≡ p → lineAt l m s (slot i right) ≡ q → Meet l m s p q
-  teem : (i : ℕ) → i ≤ m → lineAt l m s (slot i left) ≡ q → lineAt l m s (slot i right) ≡ p → Meet l m s p q
+  in-order : (i : ℕ) → i ≤ m → lineAt l m s (slot i left) ≡ p → lineAt l m s (slot i right) ≡ q → Meet l m s p q
+  reversed : (i : ℕ) → i ≤ m → lineAt l m s (slot i left) ≡ q → lineAt l m s (slot i right) ≡ p → Meet l m s p q

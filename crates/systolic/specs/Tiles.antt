@@ -102,7 +102,7 @@ newTile S m k i j a old ins h v =
       lines = newLines m i j a (newCells S k i j a (old .cells) ins h v) (old .lines);
       rowLine = newParameter (S .sendsRow k i) i j a (old .cells) ins h (old .rowLine);
       columnLine = newParameter (S .sendsColumn k i) i j a (old .cells) ins v (old .columnLine);
-      mark = old .mark || S .bad (newCells S k i j a (old .cells) ins h v)
+      mark = old .mark || S .bad (newCells S k i j a (old .cells) ins h v);
     }
 
 -- Tile (i, j) after tick t of an array of m + 1 by m + 1 tiles that runs K steps: a function of the tile and what comes in, and of nothing else.
