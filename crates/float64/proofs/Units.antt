@@ -22,6 +22,12 @@ units-is nan n h = absurd h
 units-is (inf s) n h = absurd h
 units-is (fin s m e) n h = ap (λ (x : ℕ). x / down e) h ∙ mul-div-cancel n (down-pos e)
 
+zero-value : (e : ℤ) → 0 * up e * 2 ^ 1074 ≡ 0 * down e
+zero-value e = ap (λ (x : ℕ). x * 2 ^ 1074) (zero-mul (up e)) ∙ zero-mul (2 ^ 1074) ∙ sym (zero-mul (down e))
+
+pub zero-units : (s : Bool) (e : ℤ) → unitsOf (fin s 0 e) ≡ 0
+zero-units s e = units-is (fin s 0 e) 0 (zero-value e)
+
 -- ---- what `fits` says of a value
 record Fitted (m : ℕ) (e : ℤ) : Type 0 where
   digits : suc m < 2 ^ 53
@@ -56,9 +62,8 @@ unfolding finite
 held nan f t = absurd f
 held (inf s) f t = absurd f
 held (fin s zero e) f t =
-    let v : zero * up e * 2 ^ 1074 ≡ 0 * down e = ap (λ (x : ℕ). x * 2 ^ 1074) (zero-mul (up e)) ∙ zero-mul (2 ^ 1074) ∙ sym (zero-mul (down e)) in
-    let u : 0 ≡ unitsOf (fin s zero e) = sym (units-is (fin s zero e) 0 v) in
-    record { grid = subst Grid u zero-grid; value = (refl, v ∙ ap (λ (x : ℕ). x * down e) u); below = subst (λ (x : ℕ). x < 2 ^ 2098) u (pow-pos 2098) }
+    let u : 0 ≡ unitsOf (fin s zero e) = sym (zero-units s e) in
+    record { grid = subst Grid u zero-grid; value = (refl, zero-value e ∙ ap (λ (x : ℕ). x * down e) u); below = subst (λ (x : ℕ). x < 2 ^ 2098) u (pow-pos 2098) }
 held (fin s (suc m) e) f t =
     let p = fitted s m e t in
     let q = power-units e (p .lowest) in

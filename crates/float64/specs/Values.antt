@@ -20,6 +20,12 @@ isZero nan = false
 isZero (inf s) = false
 isZero (fin s m e) = eqb m 0
 
+-- The absolute value.
+abbrev pub magnitude : Float → Float
+magnitude nan = nan
+magnitude (inf s) = inf false
+magnitude (fin s m e) = fin false m e
+
 -- The sign bit; the NaN counts as positive.
 abbrev pub signOf : Float → Bool
 signOf nan = false

@@ -2,7 +2,7 @@
 // it, so these are the only places that read or make the bits of a value that may be a NaN.
 ghost use mathlib.Core.Path.{_≡_};
 ghost use lib.Ieee.{nan, binary64, toBits, ofBits};
-ghost use Rattle.float64.specs.Values.{finite, sameBits};
+ghost use Rattle.float64.specs.Values.{finite, magnitude, sameBits};
 
 // Whether x is neither a NaN nor an infinity.
 pub fn is_finite(x: f64) -> bool
@@ -43,4 +43,17 @@ pub fn same_bits(x: f64, y: f64) -> bool
     ensures { λ r. ⌜ r ≡ sameBits x y ⌝ }
 {
     to_bits(x) == to_bits(y)
+}
+
+// The absolute value of x.
+pub fn magnitude(x: f64) -> f64
+    ensures { λ r. ⌜ r ≡ magnitude x ⌝ }
+{
+    if x < 0.0 {
+        return -x;
+    }
+    if x == 0.0 {
+        return 0.0;
+    }
+    x
 }

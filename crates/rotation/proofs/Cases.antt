@@ -1,0 +1,55 @@
+-- The parameters by the tests that tell their cases apart. Assumes nothing.
+use mathlib.Core.Path.{_≡_, refl, sym, ap, _∙_}
+use mathlib.Core.Bool.{Bool, true, false, cond}
+use lib.Ieee.{Float, nan, binary64, add, mul, div, lt, eq, ofBits}
+use Rattle.float64.specs.Values.{plusZero, isZero}
+use Rattle.float64.proofs.Zeros.{equal-zero}
+use Rattle.root.specs.Sqrt.{sqrtOf}
+use Rattle.rotation.specs.declared.Parameters.{Parameters}
+use Rattle.rotation.specs.declared.Parameters.the-variants.{Still, Turn}
+use Rattle.rotation.specs.Rotation.{rootOf, signum, tangentOf, cosineOf, quotient, tangent, ofTangent, ofPair, sent}
+
+module _ (t : Float) where
+  pub still-at : eq t plusZero ≡ true → Still ≡ ofTangent t
+  unfolding ofTangent
+  still-at h = ap (λ (z : Bool). cond z Still (Turn t (cosineOf t) (mul binary64 t (cosineOf t)))) (sym h ∙ equal-zero t)
+
+  pub turn-at : (c : Float) → eq t plusZero ≡ false → c ≡ cosineOf t → Turn t c (mul binary64 t c) ≡ ofTangent t
+  unfolding ofTangent
+  turn-at c h e =
+      ap (λ (c : Float). Turn t c (mul binary64 t c)) e ∙ ap (λ (z : Bool). cond z Still (Turn t (cosineOf t) (mul binary64 t (cosineOf t)))) (sym h ∙ equal-zero t)
+
+still-zero : Still ≡ ofTangent plusZero
+unfolding ofTangent ofBits
+still-zero = refl
+
+module _ (a d b : Float) where
+  pub still-pair : eq b plusZero ≡ true → Still ≡ ofPair a d b
+  unfolding ofPair tangent
+  still-pair h = still-zero ∙ ap (λ (z : Bool). ofTangent (cond z plusZero (tangentOf (quotient a d b)))) (sym h ∙ equal-zero b)
+
+  pub other-pair : (t : Float) → eq b plusZero ≡ false → t ≡ tangentOf (quotient a d b) → ofTangent t ≡ ofPair a d b
+  unfolding ofPair tangent
+  other-pair t h e = ap ofTangent e ∙ ap (λ (z : Bool). ofTangent (cond z plusZero (tangentOf (quotient a d b)))) (sym h ∙ equal-zero b)
+
+-- ---- A tile that receives the tangent of a pair has the pair's own parameters.
+pub received : (t : Float) → ofTangent (sent (ofTangent t)) ≡ ofTangent t
+received t = go (isZero t) refl
+  where
+    go : (z : Bool) → isZero t ≡ z → ofTangent (sent (ofTangent t)) ≡ ofTangent t
+    go true h = let e = still-at t (equal-zero t ∙ h) in ap (λ (p : Parameters). ofTangent (sent p)) (sym e) ∙ sym still-zero ∙ e
+    go false h = let e = turn-at t (cosineOf t) (equal-zero t ∙ h) refl in ap (λ (p : Parameters). ofTangent (sent p)) (sym e)
+
+pub received-pair : (a d b : Float) → ofTangent (sent (ofPair a d b)) ≡ ofPair a d b
+unfolding ofPair
+received-pair a d b = received (tangent a d b)
+
+-- ---- A tangent that isn't a number counts as a turn with three of them.
+pub turn-nan : ofTangent nan ≡ Turn nan nan nan
+unfolding ofTangent cosineOf rootOf sqrtOf add mul div ofBits
+turn-nan = refl
+
+-- ---- If ξ isn't a number, neither is t.
+pub tangent-nan : tangentOf nan ≡ nan
+unfolding tangentOf signum lt div add ofBits
+tangent-nan = refl

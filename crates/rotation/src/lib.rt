@@ -1,0 +1,108 @@
+// One rotation of a pair of lines (document 01, "One rotation"; document 003, (5.1)).
+ghost use mathlib.Core.Path.{_≡_};
+ghost use lib.Ieee.{Float};
+ghost use Rattle.rotation.specs.Rotation.{rootOf, signum, tangentOf, cosineOf, ofTangent, ofPair, sent, diagonalOf, turnOf};
+use root::Root;
+
+// Still, or a turn with the tangent, the cosine and the sine of its angle.
+pub enum Parameters {
+    Still,
+    Turn(f64, f64, f64),
+}
+
+// A value at the left line of a pair and one at the right.
+pub struct Sides {
+    pub left: f64,
+    pub right: f64,
+}
+
+// The parameters of a pair, from a = a_pp, d = a_qq and b = a_pq.
+pub fn of_pair(a: f64, d: f64, b: f64) -> Parameters
+    ensures { λ r. ⌜ r ≡ ofPair a d b ⌝ }
+{
+    if b == 0.0 {
+        return Parameters::Still;
+    }
+    let difference = d - a;
+    let double = 2.0 * b;
+    let quotient = difference / double;
+    of_tangent(tangent(quotient))
+}
+
+// The parameters of a pair whose tangent is t.
+pub fn of_tangent(t: f64) -> Parameters
+    ensures { λ r. ⌜ r ≡ ofTangent t ⌝ }
+{
+    if t == 0.0 {
+        return Parameters::Still;
+    }
+    let c = cosine(t);
+    let s = t * c;
+    Parameters::Turn(t, c, s)
+}
+
+// The tangent that a diagonal tile passes on.
+pub fn passed_on(p: Parameters) -> f64
+    ensures { λ r. ⌜ r ≡ sent p ⌝ }
+{
+    match p {
+        Parameters::Still => 0.0,
+        Parameters::Turn(t, _, _) => t,
+    }
+}
+
+// The new a_pp and a_qq.
+pub fn diagonal(p: Parameters, a: f64, d: f64, b: f64) -> Sides
+    ensures { λ r. ⌜ r ≡ diagonalOf p a d b ⌝ }
+{
+    match p {
+        Parameters::Still => Sides { left: a, right: d },
+        Parameters::Turn(t, _, _) => Sides {
+            left: a - t * b,
+            right: d + t * b,
+        },
+    }
+}
+
+// The values x at the left line and y at the right, turned.
+pub fn turn(p: Parameters, x: f64, y: f64) -> Sides
+    ensures { λ r. ⌜ r ≡ turnOf p x y ⌝ }
+{
+    match p {
+        Parameters::Still => Sides { left: x, right: y },
+        Parameters::Turn(_, c, s) => Sides {
+            left: c * x - s * y,
+            right: s * x + c * y,
+        },
+    }
+}
+
+fn tangent(xi: f64) -> f64
+    ensures { λ r. ⌜ r ≡ tangentOf xi ⌝ }
+{
+    sign(xi) / (float64::magnitude(xi) + root_or_nan(1.0 + xi * xi))
+}
+
+fn cosine(t: f64) -> f64
+    ensures { λ r. ⌜ r ≡ cosineOf t ⌝ }
+{
+    1.0 / root_or_nan(1.0 + t * t)
+}
+
+fn sign(xi: f64) -> f64
+    ensures { λ r. ⌜ r ≡ signum xi ⌝ }
+{
+    if xi < 0.0 {
+        return -1.0;
+    }
+    1.0
+}
+
+fn root_or_nan(x: f64) -> f64
+    ensures { λ r. ⌜ r ≡ rootOf x ⌝ }
+{
+    match root::sqrt(x) {
+        Root::Of(y) => y,
+        Root::Refused(_) => float64::not_a_number(),
+    }
+}
