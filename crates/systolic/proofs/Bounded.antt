@@ -57,8 +57,23 @@ any-find (suc n) f e = go (any n f) refl e (λ z. any-find n f z)
     go true z y r = let w = r z in (w .0, omega (arith, w .1), w .2)
     go false z y r = (n, omega arith, y)
 
+-- a longer range, where the test fails above n
+pub any-within : (a n : ℕ) (f g : ℕ → Bool) → n ≤ a → ((i : ℕ) → i < n → f i ≡ g i) → ((i : ℕ) → n ≤ i → i < a → f i ≡ false) → any a f ≡ any n g
+any-within a n f g h same above =
+    same-bool _ _ (λ e. any-from n g (λ i l. sym (same i l) ∙ any-to a f e i (omega arith))) (λ e. any-from a f (λ i l. go e i l (ltb i n) refl))
+  where
+    go : any n g ≡ false → (i : ℕ) → i < a → (b : Bool) → ltb i n ≡ b → f i ≡ false
+    go e i l true z = let w : i < n = ltb-true _ _ z in same i w ∙ any-to n g e i w
+    go e i l false z = above i (ltb-false _ _ z) l
+
+-- ---- how many pass
+pub count-ext : (f g : ℕ → Bool) (n : ℕ) → ((i : ℕ) → f i ≡ g i) → count f n ≡ count g n
+unfolding count
+count-ext f g zero e = refl
+count-ext f g (suc n) e = rw (e n, count-ext f g n e)
+
 -- a test that passes at one s < n only is counted once
-count-none : (f : ℕ → Bool) (n : ℕ) → ((t : ℕ) → t < n → f t ≡ false) → count f n ≡ 0
+pub count-none : (f : ℕ → Bool) (n : ℕ) → ((t : ℕ) → t < n → f t ≡ false) → count f n ≡ 0
 unfolding count
 count-none f zero g = refl
 count-none f (suc n) g = let e : count f n ≡ 0 = count-none f n (λ t l. g t (omega arith)) in rw (g n (omega arith), e)

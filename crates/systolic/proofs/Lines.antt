@@ -3,6 +3,7 @@ use Prim.Native.Nat.{ℕ, zero, suc, _+_, _-_, _*_, _/_, _%_, _≤_, _<_}
 use mathlib.Core.Path.{_≡_, refl, sym, _∙_, ap}
 use mathlib.Core.Bool.{Bool, true, false, _||_, _&&_, true≢false}
 use native.Mathlib.Omega.{arith}
+use native.Mathlib.Nat.{div-add-mod', add-comm}
 use borrow.Author.Tests.{eqb-true, eqb-false, eq-eqb}
 use lib.Dec.{eqb}
 use Rattle.systolic.specs.Slots.{Side, left, right, Slot, slot, next, prior, nextBy, lineAt, inOrderAt, inOrder, count, meetIn, meetAt, Meet, in-order, reversed}
@@ -43,11 +44,20 @@ module _ (l : Slot → ℕ) (m : ℕ) where
   pub line-period : (z : ℕ) (u : Slot) → u .processor ≤ m → lineAt l m (z + (2 * m + 1)) u ≡ lineAt l m z u
   line-period z u h = ap (lineAt l m (z + (2 * m + 1))) (sym (period m u h)) ∙ line-nextBy z (2 * m + 1) u h
 
+  pub line-periods : (n z : ℕ) (u : Slot) → u .processor ≤ m → lineAt l m (z + n * (2 * m + 1)) u ≡ lineAt l m z u
+  line-periods zero z u h = let e : z + 0 * (2 * m + 1) ≡ z = omega arith in rw e
+  line-periods (suc n) z u h =
+      let e : z + suc n * (2 * m + 1) ≡ z + n * (2 * m + 1) + (2 * m + 1) = omega arith in
+      rw e (line-period (z + n * (2 * m + 1)) u h ∙ line-periods n z u h)
+
+  -- the step within its sweep is enough
+  pub line-within : (z : ℕ) (u : Slot) → u .processor ≤ m → lineAt l m (z % (2 * m + 1)) u ≡ lineAt l m z u
+  line-within z u h =
+      let d : z % (2 * m + 1) + z / (2 * m + 1) * (2 * m + 1) ≡ z = add-comm (z % (2 * m + 1)) (z / (2 * m + 1) * (2 * m + 1)) ∙ div-add-mod' z (2 * m + 1) in
+      sym (line-periods (z / (2 * m + 1)) (z % (2 * m + 1)) u h) ∙ ap (λ (x : ℕ). lineAt l m x u) d
+
   pub line-sweeps : (n : ℕ) (u : Slot) → u .processor ≤ m → lineAt l m (n * (2 * m + 1)) u ≡ l u
-  line-sweeps zero u h = let e : 0 * (2 * m + 1) ≡ 0 = omega arith in rw e (line-start u)
-  line-sweeps (suc n) u h =
-      let e : suc n * (2 * m + 1) ≡ n * (2 * m + 1) + (2 * m + 1) = omega arith in
-      rw e (line-period (n * (2 * m + 1)) u h ∙ line-sweeps n u h)
+  line-sweeps n u h = let e : n * (2 * m + 1) ≡ 0 + n * (2 * m + 1) = omega arith in rw e (line-periods n 0 u h ∙ line-start u)
 
   module _ (one : Distinct m l) where
     pub line-one : (s : ℕ) → Distinct m (lineAt l m s)
@@ -161,3 +171,12 @@ numbers-meet-once b m z p q p1 p2 q1 q2 n =
     let w = inOrder-of b m q q1 q2 in
     let f = lines-meet-once (inOrder b) m (inOrder-one b m) z (u .0) (w .0) (u .1) (w .1) (λ e. n (sym (u .2) ∙ ap (inOrder b) e ∙ w .2)) in
     rw (← (u .2), ← (w .2)) f
+
+-- Each line stands in one slot in each step.
+pub numbers-stand : (b m s p : ℕ) → b ≤ p → p < b + 2 * suc m
+    → (u : Slot) × (u .processor ≤ m) × (lineAt (inOrder b) m s u ≡ p) × ((w : Slot) → w .processor ≤ m → lineAt (inOrder b) m s w ≡ p → w ≡ u)
+numbers-stand b m s p x y =
+    let u = inOrder-of b m p x y in
+    let o = nextBy-le m s (u .0) (u .1) in
+    let e = line-at (inOrder b) m s (u .0) (u .1) ∙ u .2 in
+    (nextBy m s (u .0), o, e, λ w h z. line-one (inOrder b) m (inOrder-one b m) s w (nextBy m s (u .0)) h o (z ∙ sym e))

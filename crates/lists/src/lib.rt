@@ -1,0 +1,1 @@
+// No code: lists given by a formula, and their laws.

@@ -1,0 +1,4 @@
+pub mod Columns
+pub mod Coming
+pub mod Orders
+pub mod Meetings

@@ -1,0 +1,49 @@
+-- Document 01: the list of pairs of an order and a step. Definitions only.
+use Prim.Native.Nat.{ℕ, _+_, _-_, _/_, _%_}
+use mathlib.Core.Path.{_≡_}
+use mathlib.Core.Bool.{Bool, cond, _||_, _&&_}
+use lib.Dec.{ltb, eqb}
+use lib.ListN.{getD}
+use Rattle.refusal.specs.Refusal.{Told, given, told}
+use Rattle.refusal.specs.declared.Refusal.the-variants.{Order}
+use Rattle.systolic.specs.Slots.{lineAt, inOrder, any, count}
+use Rattle.ordering.specs.declared.Registers.{Registers}
+use Rattle.ordering.specs.declared.Answer.{Answer}
+use Rattle.ordering.specs.declared.Answer.the-variants.{Given, Refused}
+use Rattle.ordering.specs.declared.Listed.{Listed}
+use Rattle.ordering.specs.Registers.{registersOf}
+
+-- The largest order.
+abbrev pub limit : ℕ
+limit = 32
+
+-- Refusal 1: not even, or outside 2 to the limit.
+unfoldable pub noOrder : ℕ → Bool
+noOrder n = eqb (n % 2) 1 || (ltb n 2 || ltb limit n)
+
+-- The registers at a step: at first left k has 2 k - 1 and right k has 2 k, and all move after each step.
+unfoldable pub registersAt : ℕ → ℕ → Registers
+registersAt n step = registersOf (n / 2) (lineAt (inOrder 1) (n / 2 - 1) step)
+
+-- Zeros only.
+unfoldable pub noRegisters : Registers
+noRegisters = registersOf 0 (λ u. 0)
+
+-- What an answer tells.
+abbrev pub toldAnswer : Answer → Told ℕ
+toldAnswer Given = given 0
+toldAnswer (Refused r) = told r
+
+-- What the list of pairs answers, and the registers beside the answer.
+pub record Lists (n step : ℕ) (r : Listed) : Type 0 where
+  pub answers : toldAnswer (r .answer) ≡ cond (noOrder n) (told Order) (given 0)
+  pub lists : r .registers ≡ cond (noOrder n) noRegisters (registersAt n step)
+
+-- The lines p and q meet: they stand in the two registers of one processor of a list.
+unfoldable pub meetInList : Registers → ℕ → ℕ → Bool
+meetInList r p q =
+    any 16 (λ k. (eqb (getD (r .left) k 0) p && eqb (getD (r .right) k 0) q) || (eqb (getD (r .left) k 0) q && eqb (getD (r .right) k 0) p))
+
+-- In how many registers a line stands.
+unfoldable pub standsIn : Registers → ℕ → ℕ
+standsIn r p = count (λ k. eqb (getD (r .left) k 0) p) 16 + count (λ k. eqb (getD (r .right) k 0) p) 16

@@ -1,0 +1,328 @@
+#!/usr/bin/env python3
+"""Writes crates/rotation_vectors/stdin and crates/rotation_vectors/stdout: bit patterns of f64
+values a = a_pp, d = a_qq and b = a_pq of pairs, and what the parameters of each pair are by
+document 01, "One rotation".
+
+The operations are worked out here with whole numbers alone. Python's own are only held against
+them.
+"""
+import itertools
+import math
+import pathlib
+import random
+import struct
+
+HIDDEN = 1 << 52  # the leading digit of a normal value, which its pattern leaves out
+SIGN = 1 << 63
+ZERO = 0
+ONE = 0x3FF << 52
+TWO = 0x400 << 52
+HALF = 0x3FE << 52
+LARGEST = (0x7FF << 52) - 1
+INFINITY = 0x7FF << 52
+NAN = 0x7FF8 << 48
+STILL = None
+
+# Patterns of a, d and b, and the parameters by document 01: from its printed sheet, and from its
+# entries to try, a pair that stays still and the pair of the largest values.
+EXAMPLES = [
+    ((ONE, ONE, ONE), (ONE, 0x3FE6A09E667F3BCC, 0x3FE6A09E667F3BCC)),
+    ((ONE, 0x4008000000000000, ZERO), STILL),
+    ((LARGEST, LARGEST, LARGEST), (ONE, 0x3FE6A09E667F3BCC, 0x3FE6A09E667F3BCC)),
+]
+
+
+# The model. A value is its pattern, and the only pattern of a NaN is NAN. The size of a finite
+# value, without its sign, is a whole number of units of 2^-1074.
+
+
+def read(pattern):
+    """The pattern as a value: every NaN's is NAN."""
+    return NAN if pattern % SIGN > INFINITY else pattern
+
+
+def sign_of(value):
+    return value // SIGN
+
+
+def size_of(value):
+    """The pattern of the value without its sign."""
+    return value % SIGN
+
+
+def negated(value):
+    return NAN if value == NAN else value ^ SIGN
+
+
+def is_finite(value):
+    return size_of(value) < INFINITY
+
+
+def units_of(value):
+    """The units of a finite value, without its sign."""
+    field, mantissa = divmod(size_of(value), HIDDEN)
+    return mantissa if field == 0 else (HIDDEN + mantissa) << (field - 1)
+
+
+def step_at(units):
+    """The units from one f64 to the next, at that many units and above."""
+    return 1 << max(units.bit_length() - 53, 0)
+
+
+def size_with(units):
+    """The pattern of the f64 of that many units, or of infinity from the next above LARGEST on."""
+    step = step_at(units)
+    assert units % step == 0
+    return min((step.bit_length() - 1) * HIDDEN + units // step, INFINITY)
+
+
+def rounded(sign, numerator, denominator):
+    """The f64 nearest to numerator / denominator units, of two as near the even one."""
+    whole = numerator // denominator
+    step = step_at(whole)
+    low = whole - whole % step
+    high = low + step
+    twice, middle = 2 * numerator, (low + high) * denominator
+    up = twice > middle or (twice == middle and low // step % 2 == 1)
+    return sign * SIGN + size_with(high if up else low)
+
+
+def add(x, y):
+    if NAN in (x, y):
+        return NAN
+    if not is_finite(x) or not is_finite(y):
+        if is_finite(x):
+            return y
+        return x if is_finite(y) or x == y else NAN
+    total = (-1) ** sign_of(x) * units_of(x) + (-1) ** sign_of(y) * units_of(y)
+    if total == 0:
+        return x if x == y else ZERO  # the sum of two of -0 is -0
+    return rounded(int(total < 0), abs(total), 1)
+
+
+def sub(x, y):
+    return add(x, negated(y))
+
+
+def mul(x, y):
+    if NAN in (x, y):
+        return NAN
+    sign = sign_of(x) ^ sign_of(y)
+    if not is_finite(x) or not is_finite(y):
+        return NAN if ZERO in (size_of(x), size_of(y)) else sign * SIGN + INFINITY
+    return rounded(sign, units_of(x) * units_of(y), 1 << 1074)
+
+
+def div(x, y):
+    if NAN in (x, y):
+        return NAN
+    sign = sign_of(x) ^ sign_of(y)
+    if not is_finite(x):
+        return sign * SIGN + INFINITY if is_finite(y) else NAN
+    if not is_finite(y):
+        return sign * SIGN
+    if size_of(y) == ZERO:
+        return NAN if size_of(x) == ZERO else sign * SIGN + INFINITY
+    return rounded(sign, units_of(x) << 1074, units_of(y))
+
+
+def sqrt(x):
+    """The root of a value from 1 on, or of the NaN."""
+    if x in (NAN, INFINITY):
+        return x
+    assert ONE <= x < INFINITY
+    square = units_of(x) << 1074  # of the root's units
+    whole = math.isqrt(square)
+    step = step_at(whole)
+    low = whole - whole % step
+    middle = 2 * low + step  # twice the units, and never the root itself
+    assert middle * middle != 4 * square
+    return size_with(low + step if middle * middle < 4 * square else low)
+
+
+def quotient(a, d, b):
+    """xi, for a b that is not zero."""
+    return div(sub(d, a), mul(TWO, b))
+
+
+def tangent(a, d, b):
+    if size_of(b) == ZERO:
+        return ZERO
+    xi = quotient(a, d, b)
+    if xi == NAN:
+        return NAN
+    sign = SIGN + ONE if sign_of(xi) and size_of(xi) != ZERO else ONE
+    return div(sign, add(size_of(xi), sqrt(add(ONE, mul(xi, xi)))))
+
+
+def parameters(pair):
+    """STILL, or the tangent, the cosine and the sine."""
+    t = tangent(*map(read, pair))
+    if size_of(t) == ZERO:
+        return STILL
+    c = div(ONE, sqrt(add(ONE, mul(t, t))))
+    return t, c, mul(t, c)
+
+
+# The pairs. With a = 0, d = xi and b = 1/2 the quotient is xi.
+
+
+def signed(rng, size):
+    return rng.getrandbits(1) * SIGN + size
+
+
+def within(rng, low, high):
+    """A random value of either sign, its exponent field from low to high."""
+    return signed(rng, rng.randint(low, high) * HIDDEN + rng.getrandbits(52))
+
+
+def special_places():
+    """Zeros, infinities, the NaN and values of the extreme sizes in each place."""
+    values = [ZERO, SIGN, ONE, SIGN + LARGEST, 1, INFINITY, SIGN + INFINITY, NAN]
+    yield from itertools.product(values, repeat=3)
+
+
+def nan_places(rng):
+    """Other patterns of NaNs in each place, and b zero beside them."""
+    for nan in [SIGN + NAN, INFINITY + 1, SIGN + INFINITY + 1, 2 * SIGN - 1, SIGN - 1]:
+        for place in range(3):
+            pair = [within(rng, 1000, 1040) for _ in range(3)]
+            pair[place] = nan
+            yield tuple(pair)
+        yield nan, within(rng, 1000, 1040), ZERO
+        yield within(rng, 1000, 1040), nan, SIGN
+
+
+def small_numbers():
+    """The whole numbers from -2 to 2."""
+    values = [SIGN + TWO, SIGN + ONE, ZERO, ONE, TWO]
+    yield from itertools.product(values, repeat=3)
+
+
+def equal_diagonals(rng):
+    """a = d, so that the quotient is +0 where b is positive and -0 where it is negative."""
+    for low, high in [(0, 0), (1, 1), (900, 1100), (2046, 2046), (0, 2046)]:
+        for _ in range(8):
+            a = within(rng, low, high)
+            yield a, a, within(rng, low, high)
+    for a, d in [(ZERO, SIGN), (SIGN, ZERO), (ZERO, ZERO), (SIGN, SIGN)]:
+        for b in [1, SIGN + 1, LARGEST, SIGN + LARGEST, within(rng, 900, 1100)]:
+            yield a, d, b
+
+
+def zero_entries(rng):
+    """b zero of either sign."""
+    for _ in range(20):
+        yield within(rng, 0, 2046), within(rng, 0, 2046), ZERO
+        yield within(rng, 0, 2046), within(rng, 0, 2046), SIGN
+
+
+def of_like_size(rng):
+    """Random values of like size: ordinary ones, the largest, the subnormal, the least, and any."""
+    for count, low, high in [(500, 1013, 1033), (160, 2042, 2046), (100, 0, 0), (100, 0, 60)]:
+        for _ in range(count):
+            yield tuple(within(rng, low, high) for _ in range(3))
+    for _ in range(200):
+        field = rng.randint(0, 2040)
+        yield tuple(within(rng, field, field + 6) for _ in range(3))
+
+
+def huge(rng):
+    """d - a infinite and b finite, d - a finite and 2 * b infinite, and both infinite."""
+    for _ in range(15):
+        a, b = SIGN + LARGEST - rng.getrandbits(50), LARGEST - rng.getrandbits(50)
+        d = LARGEST - rng.getrandbits(50)
+        x = within(rng, 1000, 1040)
+        yield from [(a, d, x), (d, a, x), (x, d, b), (a, x, SIGN + b), (a, d, b), (d, a, b)]
+
+
+def near(size):
+    """A size with its neighbours, of either sign."""
+    for neighbour in range(size - 2, size + 3):
+        yield neighbour
+        yield SIGN + neighbour
+
+
+def boundary_quotients():
+    """1, the quotients beside which a term is first lost or a square first leaves its range, and the
+    extremes."""
+    small = [-26, -27, -53, -54, -511, -512, -537, -538]
+    large = [26, 27, 52, 53, 54, 511, 512, 513, 1023]
+    for exponent in [0, *small, *large]:
+        yield from near(ONE + exponent * HIDDEN)
+    for size in [1, 2, 3, HIDDEN - 1, HIDDEN, HIDDEN + 1, LARGEST - 1, LARGEST, INFINITY]:
+        yield from (size, SIGN + size)
+
+
+def quotients(rng):
+    """Pairs by their quotient, of every size."""
+    for xi in boundary_quotients():
+        yield ZERO, xi, HALF
+    for field in range(0, 2047, 13):
+        yield ZERO, within(rng, field, field), HALF
+    for _ in range(150):
+        yield ZERO, within(rng, 990, 1056), HALF
+
+
+def random_patterns(rng):
+    for _ in range(150):
+        yield tuple(rng.getrandbits(64) for _ in range(3))
+
+
+def pairs():
+    """All pairs, in order and each once."""
+    rng = random.Random(1985)
+    found = [pair for pair, _ in EXAMPLES]
+    found += special_places()
+    found += nan_places(rng)
+    found += small_numbers()
+    found += equal_diagonals(rng)
+    found += zero_entries(rng)
+    found += of_like_size(rng)
+    found += huge(rng)
+    found += quotients(rng)
+    found += random_patterns(rng)
+    return list(dict.fromkeys(found))
+
+
+# The files.
+
+
+def float_of(pattern):
+    return struct.unpack(">d", pattern.to_bytes(8, "big"))[0]
+
+
+def pattern_of(number):
+    return NAN if number != number else int.from_bytes(struct.pack(">d", number), "big")
+
+
+def check(pair, answer):
+    """Holds the parameters of a pair against Python's f64 operations."""
+    a, d, b = map(float_of, pair)
+    t = 0.0
+    if b != 0:
+        xi = (d - a) / (2 * b)
+        t = (-1.0 if xi < 0 else 1.0) / (abs(xi) + math.sqrt(1 + xi * xi))
+    c = 1 / math.sqrt(1 + t * t)
+    found = STILL if t == 0 else tuple(map(pattern_of, (t, c, t * c)))
+    assert found == answer, pair
+
+
+def main():
+    for pair, answer in EXAMPLES:
+        assert parameters(pair) == answer, pair
+    still = "still\n"
+    lines, answers = [], []
+    for pair in pairs():
+        answer = parameters(pair)
+        check(pair, answer)
+        lines += [f"{pattern:016X}\n" for pattern in pair]
+        answers += [still] if answer == STILL else [f"{pattern:016X}\n" for pattern in answer]
+    crate = pathlib.Path(__file__).resolve().parent.parent / "crates" / "rotation_vectors"
+    (crate / "stdin").write_text("".join(lines), encoding="ascii")
+    (crate / "stdout").write_text("".join(answers), encoding="ascii")
+    print(f"{len(lines) // 3} pairs, {answers.count(still)} of them still")
+
+
+if __name__ == "__main__":
+    main()
