@@ -3,17 +3,23 @@ use Prim.Native.Nat.{ℕ}
 use mathlib.Core.Path.{_≡_}
 use mathlib.Core.List.{List, [], _∷_}
 use lib.Ieee.{binary64, ofBits}
+use lib.ListN.{getD}
+use Rattle.lists.specs.Tabulate.{tabulate}
 use Rattle.refusal.specs.Refusal.{given}
 use Rattle.root.specs.Sqrt.{sqrtOf}
+use Rattle.ordering.specs.Pairs.{registersAt}
 
 pub data Example : Type 0 where
   -- the value with the first pattern has the root with the second
   root : ℕ → ℕ → Example
+  -- the list of pairs of an order and a step
+  pairs : ℕ → ℕ → List (ℕ × ℕ) → Example
 
 abbrev pub Holds : Example → Type 0
 Holds (root x r) = sqrtOf (ofBits binary64 x) ≡ given (ofBits binary64 r)
+Holds (pairs n step ps) = registersAt n step ≡ record { left = tabulate 16 (λ k. getD ps k (0, 0) .0); right = tabulate 16 (λ k. getD ps k (0, 0) .1) }
 
--- 4 (it is 2), -0 (-0), 2, 2 ^ -1074 (2 ^ -537), 1 - 2 ^ -53 (itself), 1 + 2 ^ -52 (1)
+-- Roots: 4 (it is 2), -0 (-0), 2, 2 ^ -1074 (2 ^ -537), 1 - 2 ^ -53 (itself), 1 + 2 ^ -52 (1)
 abbrev pub examples : List Example
 examples =
     root 0x4010_0000_0000_0000 0x4000_0000_0000_0000
@@ -22,6 +28,10 @@ examples =
     ∷ root 0x0000_0000_0000_0001 0x1e60_0000_0000_0000
     ∷ root 0x3fef_ffff_ffff_ffff 0x3fef_ffff_ffff_ffff
     ∷ root 0x3ff0_0000_0000_0001 0x3ff0_0000_0000_0000
+    ∷ pairs 4 0 ((1, 2) ∷ (3, 4) ∷ [])
+    ∷ pairs 4 1 ((1, 4) ∷ (2, 3) ∷ [])
+    ∷ pairs 4 2 ((1, 3) ∷ (4, 2) ∷ [])
+    ∷ pairs 8 1 ((1, 4) ∷ (2, 6) ∷ (3, 8) ∷ (5, 7) ∷ [])
     ∷ []
 
 abbrev pub All : List Example → Type 0
