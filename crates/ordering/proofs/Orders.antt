@@ -1,13 +1,13 @@
 -- Which numbers are no orders, and the registers of an order. Assumes nothing.
 use Prim.Native.Nat.{ℕ, _+_, _-_, _*_, _/_, _%_, _≤_, _<_}
-use mathlib.Core.Path.{_≡_, refl, sym, ap, _∙_}
-use mathlib.Core.Bool.{Bool, true, false, _||_}
+use mathlib.Core.Path.{_≡_, _∙_}
+use mathlib.Core.Bool.{true, false}
 use native.Mathlib.Omega.{arith}
 use borrow.Author.Tests.{eq-eqb, ne-eqb, lt-ltb, le-ltb, eqb-false, ltb-false}
 use lib.Dec.{ltb, eqb}
 use native.Mathlib.Nat.{div-add-mod', mod-lt}
 use Rattle.systolic.proofs.Bounded.{or-false}
-use Rattle.systolic.specs.Slots.{Side, Slot, slot, lineAt, inOrder}
+use Rattle.systolic.specs.Slots.{Side, slot, lineAt, inOrder}
 use Rattle.systolic.proofs.Lines.{line-within}
 use Rattle.ordering.specs.Registers.{registersOf}
 use Rattle.refusal.specs.declared.Refusal.the-variants.{Order}

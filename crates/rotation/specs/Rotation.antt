@@ -1,6 +1,6 @@
 -- Document 01, "One rotation": tangent, cosine and sine of a pair, and what they do to two values. Definitions only.
 -- Each operation is rounded, in the order of document 003, (5.1).
-use mathlib.Core.Bool.{Bool, true, false, cond}
+use mathlib.Core.Bool.{cond}
 use lib.Ieee.{Float, nan, binary64, neg, add, sub, mul, div, lt, ofBits}
 use Rattle.refusal.specs.Refusal.{Told, given, refused}
 use Rattle.float64.specs.Values.{plusZero, one, isZero, magnitude}

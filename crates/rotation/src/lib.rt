@@ -1,6 +1,5 @@
 // One rotation of a pair of lines (document 01, "One rotation"; document 003, (5.1)).
 ghost use mathlib.Core.Path.{_≡_};
-ghost use lib.Ieee.{Float};
 ghost use Rattle.rotation.specs.Rotation.{rootOf, signum, tangentOf, cosineOf, ofTangent, ofPair, sent, diagonalOf, turnOf};
 use root::Root;
 

@@ -2,38 +2,28 @@ use Rattle.ordering.proofs.Coming.{left-first, left-second, left-other}
 use borrow.Author.Needs.{needs}
 use Rattle.ordering.proofs.into_left.Statement.{statement}
 use Rattle.ordering.proofs.into_left.Tie as tie
-use Rattle.ordering.proofs.into_left.Reads as reads
-use Rattle.ordering.proofs.into_left.Lts as lts
 
--- src/lib.rt:129:16
 element-copy-out-result : tie.Need-element-copy-out-result
 element-copy-out-result c = search needs
 
--- src/lib.rt:129:9
 returns : tie.Need-returns
 returns c = λ m. left-first _ _ m _ (c .before .if1 .taken)
 
--- src/lib.rt:132:16
 element-copy-out-result-2 : tie.Need-element-copy-out-result-2
 element-copy-out-result-2 c = search needs
 
--- src/lib.rt:132:9
 returns-2 : tie.Need-returns-2
 returns-2 c = λ m. left-second _ _ m _ (c .before .if2 .taken)
 
--- src/lib.rt:134:11
 sub-result : tie.Need-sub-result
 sub-result c = search needs
 
--- src/lib.rt:134:5
 mul-result : tie.Need-mul-result
 mul-result c = search needs
 
--- src/lib.rt:134:5
 element-copy-out-result-3 : tie.Need-element-copy-out-result-3
 element-copy-out-result-3 c = search needs
 
--- src/lib.rt:124:1
 returns-3 : tie.Need-returns-3
 returns-3 c = λ m. left-other _ _ m _ (c .before .before .if1 .left) (c .before .if2 .left)
 

@@ -3,42 +3,31 @@ use Rattle.ordering.proofs.Coming.{right-other, right-only, right-last}
 use borrow.Author.Needs.{needs}
 use Rattle.ordering.proofs.into_right.Statement.{statement}
 use Rattle.ordering.proofs.into_right.Tie as tie
-use Rattle.ordering.proofs.into_right.Reads as reads
-use Rattle.ordering.proofs.into_right.Lts as lts
 
--- src/lib.rt:143:23
 add-result : tie.Need-add-result
 add-result c = search needs
 
--- src/lib.rt:143:16
 mul-result : tie.Need-mul-result
 mul-result c = search needs
 
--- src/lib.rt:143:16
 element-copy-out-result : tie.Need-element-copy-out-result
 element-copy-out-result c = search needs
 
--- src/lib.rt:143:9
 returns : tie.Need-returns
 returns c = right-other _ _ _ _ (c .before .if1 .taken)
 
--- src/lib.rt:146:16
 element-copy-out-result-2 : tie.Need-element-copy-out-result-2
 element-copy-out-result-2 c = search needs
 
--- src/lib.rt:146:9
 returns-2 : tie.Need-returns-2
 returns-2 c = right-only _ _ _ _ (c .before .if2 .taken) (omega arith)
 
--- src/lib.rt:148:5
 mul-result-2 : tie.Need-mul-result-2
 mul-result-2 c = search needs
 
--- src/lib.rt:148:5
 element-copy-out-result-3 : tie.Need-element-copy-out-result-3
 element-copy-out-result-3 c = search needs
 
--- src/lib.rt:138:1
 returns-3 : tie.Need-returns-3
 returns-3 c = right-last _ _ _ _ (c .before .if2 .left) (omega arith)
 

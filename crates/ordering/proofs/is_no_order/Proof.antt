@@ -1,18 +1,13 @@
 use Rattle.ordering.proofs.Orders.{odd-refused, small-refused, large-refused}
 use Rattle.ordering.proofs.is_no_order.Statement.{statement}
 use Rattle.ordering.proofs.is_no_order.Tie as tie
-use Rattle.ordering.proofs.is_no_order.Reads as reads
-use Rattle.ordering.proofs.is_no_order.Lts as lts
 
--- src/lib.rt:48:9
 returns : tie.Need-returns
 returns c = odd-refused _ (c .if1 .taken)
 
--- src/lib.rt:51:9
 returns-2 : tie.Need-returns-2
 returns-2 c = small-refused _ (c .before .if1 .left) (c .if2 .taken)
 
--- src/lib.rt:44:1
 returns-3 : tie.Need-returns-3
 returns-3 c = large-refused _ (c .before .if1 .left) (c .if2 .left)
 

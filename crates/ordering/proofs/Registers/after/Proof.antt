@@ -1,15 +1,11 @@
 use Prim.Native.Nat.{_-_, _≤_}
-use mathlib.Core.Path.{_≡_, refl, _∙_}
+use mathlib.Core.Path.{_≡_, _∙_}
 use native.Mathlib.Omega.{arith}
 use Rattle.systolic.specs.Slots.{inOrder, lineAt}
 use Rattle.ordering.specs.Registers.{registersOf}
 use Rattle.ordering.proofs.Coming.{at-start, next-step, same-step}
 use Rattle.ordering.proofs.Registers.after.Statement.{statement}
 use Rattle.ordering.proofs.Registers.after.Tie as tie
-use Rattle.ordering.proofs.Registers.after.Reads as reads
-use Rattle.ordering.proofs.Registers.after.Lts as lts
-use Rattle.ordering.proofs.Registers.moved.Reads as moved-reads
-use Rattle.ordering.proofs.Registers.start.Reads as start-reads
 
 abbrev Inv-loop : tie.InvT-loop
 Inv-loop processors step registers₀ s₀ registers s = (s ≤ step) × (1 ≤ processors) × (processors ≤ 16) × (registers ≡ registersOf processors (lineAt (inOrder 1) (processors - 1) s))
@@ -17,33 +13,26 @@ Inv-loop processors step registers₀ s₀ registers s = (s ≤ step) × (1 ≤ 
 abbrev μ-loop : tie.MeasureT-loop
 μ-loop processors step registers₀ s₀ registers s = step - s
 
--- src/lib.rt:112:13
 start-requires : tie.Need-start-requires Inv-loop μ-loop
 start-requires c κs = omega arith
 
--- src/lib.rt:114:9
 loop-holds : tie.Need-loop-holds Inv-loop μ-loop
 loop-holds c = (omega arith, omega arith, omega arith, c .start .ensures ∙ at-start _ _)
 
--- src/lib.rt:115:17
 moved-requires : tie.Need-moved-requires Inv-loop μ-loop
 moved-requires c κs = (omega arith, omega arith)
 
--- src/lib.rt:117:13
 add-s : tie.Need-add-s Inv-loop μ-loop
 add-s c = omega arith
 
--- src/lib.rt:114:9
 loop-less : tie.Need-loop-less Inv-loop μ-loop
 loop-less c = omega arith
 
--- src/lib.rt:114:9
 loop-again : tie.Need-loop-again Inv-loop μ-loop
 loop-again c =
     let i = c .before .before .loop .inv in
     (omega arith, omega arith, omega arith, c .moved .ensures ∙ next-step _ _ _ (omega arith) (omega arith) (i .3))
 
--- src/lib.rt:108:5
 returns : tie.Need-returns Inv-loop μ-loop
 returns c = let i = c .before .loop .inv in same-step _ _ _ _ (i .3) (omega arith)
 

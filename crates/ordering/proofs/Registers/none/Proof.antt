@@ -2,10 +2,7 @@ use Rattle.lists.specs.Tabulate.{tabulate}
 use Rattle.ordering.proofs.Columns.{none-are}
 use Rattle.ordering.proofs.Registers.none.Statement.{statement}
 use Rattle.ordering.proofs.Registers.none.Tie as tie
-use Rattle.ordering.proofs.Registers.none.Reads as reads
-use Rattle.ordering.proofs.Registers.none.Lts as lts
 
--- src/lib.rt:58:5
 returns : tie.Need-returns
 unfolding tabulate
 returns c = none-are

@@ -1,7 +1,3 @@
-use mathlib.Core.Path.{ap, _∙_}
-use mathlib.Core.List.{List}
-use Prim.Native.Nat.{ℕ}
-use lib.ListN.{set}
 use Rattle.lists.specs.Tabulate.{tabulate}
 use Prim.Native.Nat.{_-_, _≤_}
 use mathlib.Core.Path.{_≡_}
@@ -12,8 +8,6 @@ use Rattle.ordering.proofs.Columns.{column-none, column-next, registers
 use Rattle.ordering.proofs.Coming.{start-left, start-right}
 use Rattle.ordering.proofs.Registers.start.Statement.{statement}
 use Rattle.ordering.proofs.Registers.start.Tie as tie
-use Rattle.ordering.proofs.Registers.start.Reads as reads
-use Rattle.ordering.proofs.Registers.start.Lts as lts
 
 abbrev Inv-loop : tie.InvT-loop
 Inv-loop processors lefts₀ rights₀ k₀ lefts rights k = (k ≤ processors) × (lefts ≡ column k (λ i. inOrder 1 (slot i left))) × (rights ≡ column k (λ i. inOrder 1 (slot i right)))
@@ -21,59 +15,46 @@ Inv-loop processors lefts₀ rights₀ k₀ lefts rights k = (k ≤ processors) 
 abbrev μ-loop : tie.MeasureT-loop
 μ-loop processors lefts₀ rights₀ k₀ lefts rights k = processors - k
 
--- src/lib.rt:75:9
 loop-holds : tie.Need-loop-holds Inv-loop μ-loop
 unfolding tabulate
 loop-holds c = (omega arith, column-none _, column-none _)
 
--- src/lib.rt:76:24
 mul-lefts : tie.Need-mul-lefts Inv-loop μ-loop
 mul-lefts c = omega arith
 
--- src/lib.rt:76:24
 add-lefts : tie.Need-add-lefts Inv-loop μ-loop
 add-lefts c = omega arith
 
--- src/lib.rt:76:13
 mul-lefts-2 : tie.Need-mul-lefts-2 Inv-loop μ-loop
 mul-lefts-2 c = omega arith
 
--- src/lib.rt:76:13
 array-write-lefts : tie.Need-array-write-lefts Inv-loop μ-loop
 array-write-lefts c = omega arith
 
--- src/lib.rt:77:25
 mul-rights : tie.Need-mul-rights Inv-loop μ-loop
 mul-rights c = omega arith
 
--- src/lib.rt:77:25
 add-rights : tie.Need-add-rights Inv-loop μ-loop
 add-rights c = omega arith
 
--- src/lib.rt:77:13
 mul-rights-2 : tie.Need-mul-rights-2 Inv-loop μ-loop
 mul-rights-2 c = omega arith
 
--- src/lib.rt:77:13
 array-write-rights : tie.Need-array-write-rights Inv-loop μ-loop
 array-write-rights c = omega arith
 
--- src/lib.rt:78:13
 add-k : tie.Need-add-k Inv-loop μ-loop
 add-k c = omega arith
 
--- src/lib.rt:75:9
 loop-less : tie.Need-loop-less Inv-loop μ-loop
 loop-less c = omega arith
 
--- src/lib.rt:75:9
 loop-again : tie.Need-loop-again Inv-loop μ-loop
 loop-again c =
     let k = c .before .loop .k in
     let i = c .before .loop .inv in
     (omega arith, column-next _ k _ _ (i .1) (omega arith) (start-left k), column-next _ k _ _ (i .2) (omega arith) (start-right k))
 
--- src/lib.rt:68:5
 returns : tie.Need-returns Inv-loop μ-loop
 returns c = let i = c .before .loop .inv in registers-are _ _ _ (omega arith) (i .1) (i .2)
 
