@@ -186,7 +186,7 @@ period m u l = pos-one m _ _ (nextBy-le m (2 * m + 1) u l) l (at-period m _ _ (a
 -- ---- the meeting, by numbers
 data Sum (m x y : ℕ) : Type 0 where
   inner : x + y + 1 ≡ 2 * m → Sum m x y
-  outer : x + y ≡ 4 * m + 1 → Sum m x y
+  outer : x + y ≡ 2 * (2 * m) + 1 → Sum m x y
 
 sum-to : (m : ℕ) (h g : Side) (i j : ℕ) → i ≤ m → i ≡ j → ¬ (num m h i ≡ num m g j) → Sum m (num m h i) (num m g j)
 unfolding num
@@ -226,8 +226,8 @@ data Time (m s x y : ℕ) : Type 0 where
   n-x : x ≡ 2 * m + 1 → y + s ≡ 2 * m → Time m s x y
   n-y : y ≡ 2 * m + 1 → x + s ≡ 2 * m → Time m s x y
   n-0 : x ≤ 2 * m → y ≤ 2 * m → x + y + 2 * s + 1 ≡ 2 * m → Time m s x y
-  n-1 : x ≤ 2 * m → y ≤ 2 * m → x + y + 2 * s ≡ 4 * m → Time m s x y
-  n-2 : x ≤ 2 * m → y ≤ 2 * m → x + y + 2 * s ≡ 6 * m + 1 → Time m s x y
+  n-1 : x ≤ 2 * m → y ≤ 2 * m → x + y + 2 * s ≡ 2 * (2 * m) → Time m s x y
+  n-2 : x ≤ 2 * m → y ≤ 2 * m → x + y + 2 * s ≡ 3 * (2 * m) + 1 → Time m s x y
 
 -- when they meet, it is that time
 to-time : (m s x y x′ y′ : ℕ) → s ≤ 2 * m → ¬ (x ≡ y) → At m s x x′ → At m s y y′ → Sum m x′ y′ → Time m s x y
