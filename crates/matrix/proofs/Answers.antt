@@ -1,0 +1,24 @@
+-- The answers of the tests, in their order. Assumes nothing.
+use Prim.Native.Nat.{ℕ, _*_}
+use mathlib.Core.Path.{_≡_}
+use mathlib.Core.Bool.{true, false}
+use mathlib.Core.List.{List}
+use lib.Dec.{eqb}
+use lib.ListN.{length}
+use lib.Ieee.{Float}
+use Rattle.refusal.specs.Refusal.{Told, given, refused, told}
+use Rattle.refusal.specs.declared.Refusal.the-variants.{Length}
+use Rattle.matrix.specs.Entries.{firstPlace, notFiniteAt, notMirroredAt, entriesOf}
+
+module _ (n : ℕ) (l : List Float) where
+  pub wrong-length : false ≡ eqb (length l) (n * n) → told Length ≡ entriesOf n l
+  unfolding entriesOf
+  wrong-length e = rw (← e)
+
+  pub refused-5 : {x : ℕ} {values : List ℕ} → true ≡ eqb (length l) (n * n) → refused x values ≡ firstPlace n (notFiniteAt n l) → refused x values ≡ entriesOf n l
+  unfolding entriesOf
+  refused-5 e f = rw (← e, ← f)
+
+  pub refused-6 : {a : Told ℕ} → true ≡ eqb (length l) (n * n) → given 0 ≡ firstPlace n (notFiniteAt n l) → a ≡ firstPlace n (notMirroredAt n l) → a ≡ entriesOf n l
+  unfolding entriesOf
+  refused-6 e f g = rw (← e, ← f) g

@@ -1,0 +1,97 @@
+-- What the loops over the lines leave is the row turn and the column turn. Assumes nothing.
+use Prim.Native.Nat.{ℕ, _+_, _*_, _/_, _%_, _<_}
+use mathlib.Core.Path.{_≡_, refl, sym, ap, _∙_}
+use mathlib.Core.Bool.{Bool, true, false}
+use mathlib.Core.List.{List}
+use mathlib.Core.Logic.{_≢_}
+use native.Mathlib.Omega.{arith}
+use native.Mathlib.Nat.{le-refl}
+use borrow.Author.Tests.{eqb-true, eqb-false, eq-eqb, ne-eqb}
+use lib.Arith.{digits-lt, digits-div, digits-mod}
+use lib.Dec.{eqb}
+use lib.ListN.{length, getD}
+use lib.Ieee.{Float, nan}
+use Rattle.rotation.specs.declared.Parameters.{Parameters}
+use Rattle.matrix.specs.Matrix.{at, flat}
+use Rattle.matrix.specs.Turns.{turnedAt, isOne, rowTurn, columnTurn, columnTurnAll, turnLines}
+use Rattle.matrix.proofs.Flat.{at-offset, flat-is}
+use Rattle.matrix.proofs.Lines.{Grid, turned-length, lines-done}
+
+-- ---- where the places of a line are
+abbrev inColumn : ℕ → ℕ → ℕ → ℕ
+inColumn n r i = i * n + r * 1
+
+abbrev inRow : ℕ → ℕ → ℕ → ℕ
+inRow n r i = i + r * n
+
+column-place : (n r i : ℕ) → inColumn n r i ≡ i * n + r
+column-place n r i = omega arith
+
+row-place : (n r i : ℕ) → inRow n r i ≡ r * n + i
+row-place n r i = omega arith
+
+module _ (n : ℕ) where
+  -- an index has one row and one column
+  index-one : (i j i′ j′ : ℕ) → j < n → j′ < n → i * n + j ≡ i′ * n + j′ → (i ≡ i′) × (j ≡ j′)
+  index-one i j i′ j′ h h′ e = (
+    sym (digits-div i h) ∙ ap (λ (k : ℕ). k / n) e ∙ digits-div i′ h′,
+    sym (digits-mod i h) ∙ ap (λ (k : ℕ). k % n) e ∙ digits-mod i′ h′,
+  )
+
+  columns : Grid n (n * n) (inColumn n)
+  columns = record {
+    inside = λ r i hr hi. rw (column-place n r i) (digits-lt hi hr);
+    apart = λ r i r′ i′ hr hi hr′ hi′ e. let t = index-one i r i′ r′ hr hr′ (sym (column-place n r i) ∙ e ∙ column-place n r′ i′) in (t .1, t .0);
+  }
+
+  rows : Grid n (n * n) (inRow n)
+  rows = record {
+    inside = λ r i hr hi. rw (row-place n r i) (digits-lt hr hi);
+    apart = λ r i r′ i′ hr hi hr′ hi′ e. index-one r i r′ i′ hi hi′ (sym (row-place n r i) ∙ e ∙ row-place n r′ i′);
+  }
+
+at-column : (n : ℕ) (l : List Float) (i j : ℕ) → at n l (i + 1) (j + 1) ≡ getD l (inColumn n j i) nan
+at-column n l i j = at-offset n l i j ∙ ap (λ (k : ℕ). getD l k nan) (sym (column-place n j i))
+
+at-row : (n : ℕ) (l : List Float) (i j : ℕ) → at n l (i + 1) (j + 1) ≡ getD l (inRow n i j) nan
+at-row n l i j = at-offset n l i j ∙ ap (λ (k : ℕ). getD l k nan) (sym (row-place n i j))
+
+-- offsets are equal where the numbers from 1 are
+from-1 : (i j : ℕ) → eqb (i + 1) (j + 1) ≡ eqb i j
+from-1 i j = go (eqb i j) refl
+  where
+    go : (b : Bool) → eqb i j ≡ b → eqb (i + 1) (j + 1) ≡ b
+    go true e = let z : i ≡ j = eqb-true _ _ e in eq-eqb (i + 1) (j + 1) (omega arith)
+    go false e = ne-eqb (i + 1) (j + 1) (λ z. eqb-false i j e (omega arith))
+
+turned-from-1 : (P : Parameters) (p q i : ℕ) (x y z : Float) → turnedAt P (p + 1) (q + 1) (i + 1) x y z ≡ turnedAt P p q i x y z
+unfolding turnedAt
+turned-from-1 P p q i x y z = rw (from-1 i p, from-1 i q)
+
+module _ (P : Parameters) (n p q : ℕ) (l : List Float) (long : length l ≡ n * n) (pn : p < n) (qn : q < n) (pq : p ≢ q) where
+  pub in-columns : (r : ℕ) → r < n → (inColumn n r p < length l) × (inColumn n r q < length l)
+  in-columns r h = rw long (columns n .inside r p h pn, columns n .inside r q h qn)
+
+  pub in-rows : (r : ℕ) → r < n → (inRow n r p < length l) × (inRow n r q < length l)
+  in-rows r h = rw long (rows n .inside r p h pn, rows n .inside r q h qn)
+
+  pub rows-turned : turnLines (λ r. inColumn n r p) (λ r. inColumn n r q) (isOne p q) P n l ≡ flat n (rowTurn P (p + 1) (q + 1) (at n l))
+  unfolding rowTurn
+  rows-turned =
+      flat-is n _ _ (turned-length _ _ _ P l n ∙ long)
+      (λ i j hi hj. at-column n _ i j ∙ lines-done (inColumn n) (columns n) (isOne p q) P p q pn qn pq n j i l long (le-refl n) hj hi
+      ∙ rw (from-1 j p, from-1 j q, turned-from-1 P p q i, at-column n l i j, at-column n l p j, at-column n l q j))
+
+  pub columns-turned : turnLines (λ r. inRow n r p) (λ r. inRow n r q) (isOne p q) P n l ≡ flat n (columnTurn P (p + 1) (q + 1) (at n l))
+  unfolding columnTurn
+  columns-turned =
+      flat-is n _ _ (turned-length _ _ _ P l n ∙ long)
+      (λ i j hi hj. at-row n _ i j ∙ lines-done (inRow n) (rows n) (isOne p q) P p q pn qn pq n i j l long (le-refl n) hi hj
+      ∙ rw (from-1 i p, from-1 i q, turned-from-1 P p q j, at-row n l i j, at-row n l i p, at-row n l i q))
+
+  pub all-columns-turned : turnLines (λ r. inRow n r p) (λ r. inRow n r q) (isOne n n) P n l ≡ flat n (columnTurnAll P (p + 1) (q + 1) (at n l))
+  unfolding columnTurnAll
+  all-columns-turned =
+      flat-is n _ _ (turned-length _ _ _ P l n ∙ long)
+      (λ i j hi hj. at-row n _ i j ∙ lines-done (inRow n) (rows n) (isOne n n) P p q pn qn pq n i j l long (le-refl n) hi hj
+      ∙ rw (ne-eqb i n (λ e. omega arith), turned-from-1 P p q j, at-row n l i j, at-row n l i p, at-row n l i q))

@@ -1,0 +1,112 @@
+use Prim.Native.Nat.{_+_, _-_, _<_, _≤_}
+use mathlib.Core.Path.{_≡_, refl, sym, ap, _∙_}
+use native.Mathlib.Omega.{arith}
+use native.Mathlib.Nat.{le-antisymm}
+use borrow.Author.Needs.{needs}
+use borrow.Author.Tests.{not-true, not-false}
+use Rattle.refusal.specs.Refusal.{given}
+use Rattle.matrix.specs.Matrix.{at}
+use Rattle.matrix.specs.Entries.{toldEntries, first, notMirroredAt}
+use Rattle.matrix.specs.declared.Entries.the-variants.{Fine}
+use Rattle.matrix.proofs.First.{first-none, first-more, first-found, same, is-mirrored, is-not-mirrored, not-compared}
+use Rattle.matrix.proofs.first_not_mirrored.Statement.{statement}
+use Rattle.matrix.proofs.first_not_mirrored.Tie as tie
+
+abbrev Inv-loop : tie.InvT-loop
+Inv-loop n a found₀ i j₀ found j = (i < j) × (j ≤ n) × (found ≡ Fine) × (first j (notMirroredAt n a (i + 1)) ≡ given 0)
+
+abbrev μ-loop : tie.MeasureT-loop
+μ-loop n a found₀ i j₀ found j = n - j
+
+abbrev Inv-rows : tie.InvT-rows
+Inv-rows n a found₀ i₀ found i = (i ≤ n) × (found ≡ Fine) × (first i (λ r. first n (notMirroredAt n a r)) ≡ given 0)
+
+abbrev μ-rows : tie.MeasureT-rows
+μ-rows n a found₀ i₀ found i = n - i
+
+rows-holds : tie.Need-rows-holds Inv-loop μ-loop Inv-rows μ-rows
+rows-holds c = (search needs, refl, first-none _)
+
+add-j : tie.Need-add-j Inv-loop μ-loop Inv-rows μ-rows
+add-j c = omega arith
+
+loop-holds : tie.Need-loop-holds Inv-loop μ-loop Inv-rows μ-rows
+loop-holds c = let r = c .before in let a = r .before .before .args in (omega arith, omega arith, search needs, not-compared (a .n) (a .a .now) (r .rows .i))
+
+entry-requires : tie.Need-entry-requires Inv-loop μ-loop Inv-rows μ-rows
+entry-requires c κs = omega arith
+
+entry-requires-2 : tie.Need-entry-requires-2 Inv-loop μ-loop Inv-rows μ-rows
+entry-requires-2 c κs = omega arith
+
+same-bits-requires : tie.Need-same-bits-requires Inv-loop μ-loop Inv-rows μ-rows
+same-bits-requires c κs = search needs
+
+add-t11 : tie.Need-add-t11 Inv-loop μ-loop Inv-rows μ-rows
+add-t11 c = omega arith
+
+add-t12 : tie.Need-add-t12 Inv-loop μ-loop Inv-rows μ-rows
+add-t12 c = omega arith
+
+add-j-2 : tie.Need-add-j-2 Inv-loop μ-loop Inv-rows μ-rows
+add-j-2 c = omega arith
+
+loop-less : tie.Need-loop-less Inv-loop μ-loop Inv-rows μ-rows
+loop-less c = omega arith
+
+loop-again : tie.Need-loop-again Inv-loop μ-loop Inv-rows μ-rows
+loop-again c =
+    let k = c .before .before .before .before .before in
+    let e = c .before .before .before .entry .ensures in
+    let d = c .before .before .entry2 .ensures in
+    let f = same (sym e) (sym d) ∙ sym (c .before .same-bits .ensures) ∙ not-false _ (c .if1 .left) in
+    (omega arith, omega arith, search needs, first-more _ _ (k .loop .inv .3) (is-mirrored _ _ _ _ (omega arith) f))
+
+add-i : tie.Need-add-i Inv-loop μ-loop Inv-rows μ-rows
+add-i c = omega arith
+
+rows-less : tie.Need-rows-less Inv-loop μ-loop Inv-rows μ-rows
+rows-less c = omega arith
+
+rows-again : tie.Need-rows-again Inv-loop μ-loop Inv-rows μ-rows
+rows-again c =
+    (omega arith, search needs, first-more _ _ (c .before .before .before .rows .inv .2) (rw (le-antisymm (c .before .loop .inv .1) (c .loop-test .left)) at (c .before .loop .inv .3)))
+
+returns : tie.Need-returns Inv-loop μ-loop Inv-rows μ-rows
+returns c =
+    ap toldEntries (c .before .rows .inv .1) ∙ sym (rw (le-antisymm (c .before .rows .inv .0) (c .rows-test .left)) at (c .before .rows .inv .2))
+
+returns-2 : tie.Need-returns-2 Inv-loop μ-loop Inv-rows μ-rows
+returns-2 c =
+    let k = c .before .before .before .before .before in
+    let r = k .before .before in
+    let e = c .before .before .before .entry .ensures in
+    let d = c .before .before .entry2 .ensures in
+    let f = same (sym e) (sym d) ∙ sym (c .before .same-bits .ensures) ∙ not-true _ (c .if1 .taken) in
+    sym (first-found _ _ _ _ _ (k .before .rows-test .taken) (r .rows .inv .2)
+    (first-found _ _ _ _ _ (c .before .before .before .before .loop-test .taken) (k .loop .inv .3) (is-not-mirrored _ _ _ _ (omega arith) f)))
+
+pub first-not-mirrored-spec : {M : Type 1} → statement M
+first-not-mirrored-spec =
+    tie.close
+    (tie.spec
+    Inv-loop
+    μ-loop
+    Inv-rows
+    μ-rows
+    rows-holds
+    add-j
+    loop-holds
+    entry-requires
+    entry-requires-2
+    same-bits-requires
+    add-t11
+    add-t12
+    add-j-2
+    loop-less
+    loop-again
+    add-i
+    rows-less
+    rows-again
+    returns
+    returns-2)

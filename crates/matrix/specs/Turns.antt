@@ -1,0 +1,43 @@
+-- Document 01, "One rotation": the row turn and the column turn of the lines p and q of a matrix. Definitions only.
+use Prim.Native.Nat.{ℕ, zero, suc}
+use mathlib.Core.Bool.{Bool, cond, _||_}
+use mathlib.Core.List.{List}
+use lib.Dec.{eqb}
+use lib.ListN.{getD, set}
+use lib.Ieee.{Float, nan}
+use Rattle.rotation.specs.declared.Parameters.{Parameters}
+use Rattle.rotation.specs.Rotation.{turnOf}
+
+-- Place i of a line of which the places p and q are turned: x stood at p, y at q and z at i.
+unfoldable pub turnedAt : Parameters → ℕ → ℕ → ℕ → Float → Float → Float → Float
+turnedAt P p q i x y z = cond (eqb i p) (turnOf P x y .left) (cond (eqb i q) (turnOf P x y .right) z)
+
+abbrev pub isOne : ℕ → ℕ → ℕ → Bool
+isOne p q r = eqb r p || eqb r q
+
+-- For any other column.
+unfoldable pub rowTurn : Parameters → ℕ → ℕ → (ℕ → ℕ → Float) → ℕ → ℕ → Float
+rowTurn P p q A r c = cond (isOne p q c) (A r c) (turnedAt P p q r (A p c) (A q c) (A r c))
+
+-- The mirror of it, for any other row.
+unfoldable pub columnTurn : Parameters → ℕ → ℕ → (ℕ → ℕ → Float) → ℕ → ℕ → Float
+columnTurn P p q A r c = cond (isOne p q r) (A r c) (turnedAt P p q c (A r p) (A r q) (A r c))
+
+-- On all rows, as the eigenvectors are turned.
+unfoldable pub columnTurnAll : Parameters → ℕ → ℕ → (ℕ → ℕ → Float) → ℕ → ℕ → Float
+columnTurnAll P p q A r c = turnedAt P p q c (A r p) (A r q) (A r c)
+
+-- A list with the values at i and j turned.
+unfoldable pub placesTurned : Parameters → ℕ → ℕ → List Float → List Float
+placesTurned P i j l = set (set l i (turnOf P (getD l i nan) (getD l j nan) .left)) j (turnOf P (getD l i nan) (getD l j nan) .right)
+
+-- The same, unless r is skipped.
+unfoldable pub lineTurned : (ℕ → Bool) → Parameters → ℕ → ℕ → ℕ → List Float → List Float
+unfolding placesTurned
+lineTurned skips P r i j l = cond (skips r) l (placesTurned P i j l)
+
+-- The values at f r and g r turned for each r below n that is not skipped, one after the other.
+unfoldable pub turnLines : (ℕ → ℕ) → (ℕ → ℕ) → (ℕ → Bool) → Parameters → ℕ → List Float → List Float
+unfolding lineTurned
+turnLines f g skips P zero l = l
+turnLines f g skips P (suc r) l = lineTurned skips P r (f r) (g r) (turnLines f g skips P r l)

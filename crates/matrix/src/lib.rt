@@ -1,0 +1,148 @@
+// Lent matrices, row by row (document 01).
+ghost use mathlib.Core.Path.{_≡_};
+ghost use Prim.Native.Nat.{ℕ, _+_, _*_, _<_};
+ghost use lib.ListN.{length};
+ghost use lib.Dec.{eqb};
+ghost use Rattle.matrix.specs.Matrix.{at, flat};
+ghost use Rattle.matrix.specs.Turns.{isOne, rowTurn, columnTurn, columnTurnAll, lineTurned, turnLines};
+ghost use Rattle.matrix.specs.Entries.{toldEntries, firstPlace, notFiniteAt, notMirroredAt, entriesOf};
+use refusal::Refusal;
+use rotation::Parameters;
+
+pub enum Entries {
+    Fine,
+    Refused(Refusal),
+}
+
+// Refusals 3, 5 and 6 of a matrix of order n.
+pub fn tested(n: usize, a: &[f64]) -> Entries
+    ensures { λ r. ⌜ toldEntries r ≡ entriesOf n (now (a .entry)) ⌝ }
+{
+    if !is_square(n, a.len()) {
+        return Entries::Refused(Refusal::Length);
+    }
+    match first_not_finite(n, a) {
+        Entries::Fine => first_not_mirrored(n, a),
+        Entries::Refused(refused) => Entries::Refused(refused),
+    }
+}
+
+// Whether a length is n * n, which may be too large for the type.
+pub fn is_square(n: usize, length: usize) -> bool
+    ensures { λ r. ⌜ r ≡ eqb length (n * n) ⌝ }
+{
+    if n == 0 {
+        return length == 0;
+    }
+    if length % n > 0 {
+        return false;
+    }
+    length / n == n
+}
+
+// The entry in row i + 1 and column j + 1.
+fn entry(n: usize, i: usize, j: usize, a: &[f64]) -> f64
+    requires { ⌜ (length (now a) ≡ n * n) × (i < n) × (j < n) ⌝ }
+    ensures { λ r. ⌜ r ≡ at n (now (a .entry)) (i + 1) (j + 1) ⌝ }
+{
+    a[i * n + j]
+}
+
+fn first_not_finite(n: usize, a: &[f64]) -> Entries
+    requires { ⌜ length (now a) ≡ n * n ⌝ }
+    ensures { λ r. ⌜ toldEntries r ≡ firstPlace n (notFiniteAt n (now (a .entry))) ⌝ }
+{
+    let mut found = Entries::Fine;
+    'rows: for i in 0..n {
+        for j in 0..n {
+            if !float64::is_finite(entry(n, i, j, a)) {
+                found = Entries::Refused(Refusal::NotFinite(i + 1, j + 1));
+                break 'rows;
+            }
+        }
+    }
+    found
+}
+
+fn first_not_mirrored(n: usize, a: &[f64]) -> Entries
+    requires { ⌜ length (now a) ≡ n * n ⌝ }
+    ensures { λ r. ⌜ toldEntries r ≡ firstPlace n (notMirroredAt n (now (a .entry))) ⌝ }
+{
+    let mut found = Entries::Fine;
+    'rows: for i in 0..n {
+        for j in i + 1..n {
+            if !float64::same_bits(entry(n, i, j, a), entry(n, j, i, a)) {
+                found = Entries::Refused(Refusal::NotMirrored(i + 1, j + 1));
+                break 'rows;
+            }
+        }
+    }
+    found
+}
+
+// The row turn of the lines p + 1 and q + 1, for any other column.
+pub fn turn_rows(parameters: Parameters, n: usize, p: usize, q: usize, a: &mut [f64])
+    requires { ⌜ (length (now a) ≡ n * n) × (p < n) × (q < n) × (¬ (p ≡ q)) ⌝ }
+    ensures { λ _. ⌜ now (a .exit) ≡ flat n (rowTurn parameters (p + 1) (q + 1) (at n (now (a .entry)))) ⌝ }
+{
+    turn_lines(parameters, n, 1, p * n, q * n, p, q, a);
+}
+
+// The column turn of the lines p + 1 and q + 1, for any other row.
+pub fn turn_columns(parameters: Parameters, n: usize, p: usize, q: usize, a: &mut [f64])
+    requires { ⌜ (length (now a) ≡ n * n) × (p < n) × (q < n) × (¬ (p ≡ q)) ⌝ }
+    ensures { λ _. ⌜ now (a .exit) ≡ flat n (columnTurn parameters (p + 1) (q + 1) (at n (now (a .entry)))) ⌝ }
+{
+    turn_lines(parameters, n, n, p, q, p, q, a);
+}
+
+// The column turn on all rows: there is no row n + 1 to skip.
+pub fn turn_all_columns(parameters: Parameters, n: usize, p: usize, q: usize, a: &mut [f64])
+    requires { ⌜ (length (now a) ≡ n * n) × (p < n) × (q < n) × (¬ (p ≡ q)) ⌝ }
+    ensures { λ _. ⌜ now (a .exit) ≡ flat n (columnTurnAll parameters (p + 1) (q + 1) (at n (now (a .entry)))) ⌝ }
+{
+    turn_lines(parameters, n, n, p, q, n, n, a);
+}
+
+// Of each of n lines, the values at i and j, which are `step` farther in each line; the lines p and q are skipped.
+fn turn_lines(
+    parameters: Parameters,
+    n: usize,
+    step: usize,
+    i: usize,
+    j: usize,
+    p: usize,
+    q: usize,
+    a: &mut [f64],
+)
+    requires { ⌜ ((r : ℕ) → r < n → (i + r * step < length (now a)) × (j + r * step < length (now a))) ⌝ }
+    ensures { λ _. ⌜ now (a .exit) ≡ turnLines (λ r. i + r * step) (λ r. j + r * step) (isOne p q) parameters n (now (a .entry)) ⌝ }
+{
+    for r in 0..n {
+        turn_line(parameters, r, p, q, i + r * step, j + r * step, a);
+    }
+}
+
+// The values at the indices i and j, turned unless r is p or q.
+fn turn_line(
+    parameters: Parameters,
+    r: usize,
+    p: usize,
+    q: usize,
+    i: usize,
+    j: usize,
+    a: &mut [f64],
+)
+    requires { ⌜ (i < length (now a)) × (j < length (now a)) ⌝ }
+    ensures { λ _. ⌜ now (a .exit) ≡ lineTurned (isOne p q) parameters r i j (now (a .entry)) ⌝ }
+{
+    if r == p {
+        return;
+    }
+    if r == q {
+        return;
+    }
+    let sides = rotation::turn(parameters, a[i], a[j]);
+    a[i] = sides.left;
+    a[j] = sides.right;
+}
