@@ -4,3 +4,4 @@ pub mod First
 pub mod Answers
 pub mod Lines
 pub mod Turned
+pub mod Mirror
