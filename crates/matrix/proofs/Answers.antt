@@ -19,6 +19,6 @@ module _ (n : ℕ) (l : List Float) where
   unfolding entriesOf
   refused-5 e f = rw (← e, ← f)
 
-  pub refused-6 : {a : Told ℕ} → true ≡ eqb (length l) (n * n) → given 0 ≡ firstPlace n (notFiniteAt n l) → a ≡ firstPlace n (notMirroredAt n l) → a ≡ entriesOf n l
+  pub refused-6 : {a : Told Unit} → true ≡ eqb (length l) (n * n) → given tt ≡ firstPlace n (notFiniteAt n l) → a ≡ firstPlace n (notMirroredAt n l) → a ≡ entriesOf n l
   unfolding entriesOf
   refused-6 e f g = rw (← e, ← f) g

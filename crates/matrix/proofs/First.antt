@@ -14,20 +14,20 @@ use Rattle.float64.specs.Values.{finite, sameBits}
 use Rattle.matrix.specs.Matrix.{at}
 use Rattle.matrix.specs.Entries.{first, notFiniteAt, notMirroredAt}
 
-module _ (g : ℕ → Told ℕ) where
-  pub first-none : first 0 g ≡ given 0
+module _ (g : ℕ → Told Unit) where
+  pub first-none : first 0 g ≡ given tt
   unfolding first
   first-none = refl
 
-  next : (i : ℕ) → first i g ≡ given 0 → g (suc i) ≡ given 0 → first (suc i) g ≡ given 0
+  next : (i : ℕ) → first i g ≡ given tt → g (suc i) ≡ given tt → first (suc i) g ≡ given tt
   unfolding first
   next i e h = rw e h
 
-  pub first-more : (i : ℕ) → first i g ≡ given 0 → g (i + 1) ≡ given 0 → first (i + 1) g ≡ given 0
+  pub first-more : (i : ℕ) → first i g ≡ given tt → g (i + 1) ≡ given tt → first (i + 1) g ≡ given tt
   first-more i e h = let s : i + 1 ≡ suc i = omega arith in rw s (next i e (ap g (sym s) ∙ h))
 
   -- a refusal ends the search
-  pub first-found : (x : ℕ) (values : List ℕ) (n i : ℕ) → i < n → first i g ≡ given 0 → g (i + 1) ≡ refused x values → first n g ≡ refused x values
+  pub first-found : (x : ℕ) (values : List ℕ) (n i : ℕ) → i < n → first i g ≡ given tt → g (i + 1) ≡ refused x values → first n g ≡ refused x values
   unfolding first
   first-found x values zero i h f v = absurd (omega arith)
   first-found x values (suc n) i h f v =
@@ -37,14 +37,14 @@ module _ (g : ℕ → Told ℕ) where
       (λ u. rw (first-found x values n i u f v))
       (eq-or-lt-of-le (le-of-suc-le-suc h))
 
-  pub first-fine : (n : ℕ) → ((k : ℕ) → k < n → g (k + 1) ≡ given 0) → first n g ≡ given 0
+  pub first-fine : (n : ℕ) → ((k : ℕ) → k < n → g (k + 1) ≡ given tt) → first n g ≡ given tt
   unfolding first
   first-fine zero h = refl
   first-fine (suc n) h = let s : n + 1 ≡ suc n = omega arith in next n (first-fine n (λ k b. h k (omega arith))) (ap g (sym s) ∙ h n (omega arith))
 
 -- ---- one entry
 module _ (n : ℕ) (l : List Float) (r c : ℕ) where
-  pub is-finite : finite (at n l r c) ≡ true → notFiniteAt n l r c ≡ given 0
+  pub is-finite : finite (at n l r c) ≡ true → notFiniteAt n l r c ≡ given tt
   unfolding notFiniteAt
   is-finite e = rw e
 
@@ -52,7 +52,7 @@ module _ (n : ℕ) (l : List Float) (r c : ℕ) where
   unfolding notFiniteAt
   is-not-finite e = rw e
 
-  pub is-mirrored : r < c → sameBits (at n l r c) (at n l c r) ≡ true → notMirroredAt n l r c ≡ given 0
+  pub is-mirrored : r < c → sameBits (at n l r c) (at n l c r) ≡ true → notMirroredAt n l r c ≡ given tt
   unfolding notMirroredAt
   is-mirrored h e = rw (lt-ltb r c h, e)
 
@@ -61,10 +61,10 @@ module _ (n : ℕ) (l : List Float) (r c : ℕ) where
   is-not-mirrored h e = rw (lt-ltb r c h, e)
 
 -- on and below the diagonal nothing is compared
-pub not-compared : (n : ℕ) (l : List Float) (i : ℕ) → first (i + 1) (notMirroredAt n l (i + 1)) ≡ given 0
+pub not-compared : (n : ℕ) (l : List Float) (i : ℕ) → first (i + 1) (notMirroredAt n l (i + 1)) ≡ given tt
 not-compared n l i = first-fine (notMirroredAt n l (i + 1)) (i + 1) (λ k h. below k h)
   where
-    below : (k : ℕ) → k < i + 1 → notMirroredAt n l (i + 1) (k + 1) ≡ given 0
+    below : (k : ℕ) → k < i + 1 → notMirroredAt n l (i + 1) (k + 1) ≡ given tt
     below k h = unfold notMirroredAt in (rw (le-ltb (i + 1) (k + 1) (omega arith)))
 
 pub same : {x y z w : Float} → x ≡ z → y ≡ w → sameBits x y ≡ sameBits z w

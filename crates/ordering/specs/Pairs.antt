@@ -30,13 +30,13 @@ unfoldable pub noRegisters : Registers
 noRegisters = registersOf 0 (λ u. 0)
 
 -- What an answer tells.
-abbrev pub toldAnswer : Answer → Told ℕ
-toldAnswer Given = given 0
+abbrev pub toldAnswer : Answer → Told Unit
+toldAnswer Given = given tt
 toldAnswer (Refused r) = told r
 
 -- What the list of pairs answers, and the registers beside the answer.
 pub record Lists (n step : ℕ) (r : Listed) : Type 0 where
-  pub answers : toldAnswer (r .answer) ≡ cond (noOrder n) (told Order) (given 0)
+  pub answers : toldAnswer (r .answer) ≡ cond (noOrder n) (told Order) (given tt)
   pub lists : r .registers ≡ cond (noOrder n) noRegisters (registersAt n step)
 
 -- The lines p and q meet: they stand in the two registers of one processor of a list.

@@ -14,13 +14,13 @@ use Rattle.matrix.proofs.first_not_finite.Statement.{statement}
 use Rattle.matrix.proofs.first_not_finite.Tie as tie
 
 abbrev Inv-loop : tie.InvT-loop
-Inv-loop n a found₀ i j₀ found j = (j ≤ n) × (found ≡ Fine) × (first j (notFiniteAt n a (i + 1)) ≡ given 0)
+Inv-loop n a found₀ i j₀ found j = (j ≤ n) × (found ≡ Fine) × (first j (notFiniteAt n a (i + 1)) ≡ given tt)
 
 abbrev μ-loop : tie.MeasureT-loop
 μ-loop n a found₀ i j₀ found j = n - j
 
 abbrev Inv-rows : tie.InvT-rows
-Inv-rows n a found₀ i₀ found i = (i ≤ n) × (found ≡ Fine) × (first i (λ r. first n (notFiniteAt n a r)) ≡ given 0)
+Inv-rows n a found₀ i₀ found i = (i ≤ n) × (found ≡ Fine) × (first i (λ r. first n (notFiniteAt n a r)) ≡ given tt)
 
 abbrev μ-rows : tie.MeasureT-rows
 μ-rows n a found₀ i₀ found i = n - i
