@@ -8,6 +8,7 @@ use Rattle.lists.specs.Tabulate.{tabulate}
 use Rattle.refusal.specs.Refusal.{given}
 use Rattle.root.specs.Sqrt.{sqrtOf}
 use Rattle.ordering.specs.Pairs.{registersAt}
+use Rattle.ordering.specs.Registers.{most}
 
 pub data Example : Type 0 where
   -- the value with the first pattern has the root with the second
@@ -17,7 +18,7 @@ pub data Example : Type 0 where
 
 abbrev pub Holds : Example → Type 0
 Holds (root x r) = sqrtOf (ofBits binary64 x) ≡ given (ofBits binary64 r)
-Holds (pairs n step ps) = registersAt n step ≡ record { left = tabulate 16 (λ k. getD ps k (0, 0) .0); right = tabulate 16 (λ k. getD ps k (0, 0) .1) }
+Holds (pairs n step ps) = registersAt n step ≡ record { left = tabulate most (λ k. getD ps k (0, 0) .0); right = tabulate most (λ k. getD ps k (0, 0) .1) }
 
 -- Roots: 4 (it is 2), -0 (-0), 2, 2 ^ -1074 (2 ^ -537), 1 - 2 ^ -53 (itself), 1 + 2 ^ -52 (1)
 abbrev pub examples : List Example

@@ -12,6 +12,7 @@ use Rattle.rotation.specs.Rotation.{turnOf}
 unfoldable pub turnedAt : Parameters → ℕ → ℕ → ℕ → Float → Float → Float → Float
 turnedAt P p q i x y z = cond (eqb i p) (turnOf P x y .left) (cond (eqb i q) (turnOf P x y .right) z)
 
+-- r is one of the pair.
 abbrev pub isOne : ℕ → ℕ → ℕ → Bool
 isOne p q r = eqb r p || eqb r q
 

@@ -104,7 +104,7 @@ pub fn turn_all_columns(parameters: Parameters, n: usize, p: usize, q: usize, a:
     turn_lines(parameters, n, n, p, q, n, n, a);
 }
 
-// Of each of n lines, the values at i and j, which are `step` farther in each line; the lines p and q are skipped.
+// Turns the values at i and j of the first of n lines, and those `step` farther in each line after it; the lines p and q are skipped.
 fn turn_lines(
     parameters: Parameters,
     n: usize,

@@ -8,7 +8,7 @@ use lib.ListN.{getD}
 use Rattle.systolic.specs.Slots.{Side, left, right, Slot, slot, intoLast, cameFrom, prior, lineAt, inOrderAt, inOrder}
 use Rattle.systolic.proofs.Movement.{prior-le}
 use Rattle.ordering.specs.declared.Registers.{Registers}
-use Rattle.ordering.specs.Registers.{column, registersOf, standing, inSlot, comingInto}
+use Rattle.ordering.specs.Registers.{column, registersOf, standing, inSlot, comingInto, most}
 use Rattle.ordering.proofs.Columns.{column-at, column-ext}
 
 module _ (ls rs : List ℕ) (m : ℕ) where
@@ -55,7 +55,7 @@ unfolding inOrder inOrderAt slot
 start-right k = omega arith
 
 -- ---- after one more step
-module _ (N : ℕ) (L : Slot → ℕ) (q : N ≤ 16) where
+module _ (N : ℕ) (L : Slot → ℕ) (q : N ≤ most) where
   pub stands : (u : Slot) → u .processor < N → inSlot (registersOf N L) u ≡ L u
   unfolding inSlot registersOf slot
   stands u h = at (u .side) (u .processor) h
@@ -71,7 +71,7 @@ registers-ext N L M e = both (column-ext N _ _ (e left)) (column-ext N _ _ (e ri
     both : {a b c d : List ℕ} → a ≡ c → b ≡ d → _≡_ {A = Registers} (record { left = a; right = b }) (record { left = c; right = d })
     both e f = rw (e, f)
 
-step-next : (N s : ℕ) (l : Slot → ℕ) → 1 ≤ N → N ≤ 16
+step-next : (N s : ℕ) (l : Slot → ℕ) → 1 ≤ N → N ≤ most
     → registersOf N (λ u. inSlot (registersOf N (lineAt l (N - 1) s)) (prior (N - 1) u)) ≡ registersOf N (lineAt l (N - 1) (s + 1))
 step-next N s l p q = registers-ext N _ _ (λ r k h. stands N (lineAt l (N - 1) s) q (prior (N - 1) (slot k r)) (below r k h) ∙ next r k)
   where
@@ -86,7 +86,7 @@ module _ (N : ℕ) (l : Slot → ℕ) where
   pub at-start : registersOf N l ≡ registersOf N (lineAt l (N - 1) 0)
   at-start = registers-ext N _ _ (λ r k h. unfold lineAt in refl)
 
-  pub next-step : {r : Registers} (s : ℕ) → 1 ≤ N → N ≤ 16 → r ≡ registersOf N (lineAt l (N - 1) s)
+  pub next-step : {r : Registers} (s : ℕ) → 1 ≤ N → N ≤ most → r ≡ registersOf N (lineAt l (N - 1) s)
       → registersOf N (λ u. inSlot r (prior (N - 1) u)) ≡ registersOf N (lineAt l (N - 1) (s + 1))
   next-step s p q e = rw e (step-next N s l p q)
 

@@ -10,35 +10,35 @@ use Rattle.systolic.specs.Slots.{Side, left, right, Slot, slot, lineAt, inOrder
 use Rattle.systolic.proofs.Bounded.{any-within, count-ext, count-none, count-one}
 use Rattle.systolic.proofs.Lines.{line-period, numbers-stand, numbers-meet-once}
 use Rattle.ordering.specs.declared.Listed.{Listed}
-use Rattle.ordering.specs.Registers.{column, registersOf}
+use Rattle.ordering.specs.Registers.{column, registersOf, most}
 use Rattle.ordering.specs.Pairs.{noOrder, noRegisters, registersAt, Lists, meetInList, standsIn}
 use Rattle.ordering.proofs.Columns.{column-at, column-above}
 use Rattle.ordering.proofs.Coming.{registers-ext}
 use Rattle.ordering.proofs.Orders.{order-is, order-half, odd}
 
 -- ---- a line in one column
-module _ (N : ℕ) (f : ℕ → ℕ) (h : N ≤ 16) (p : ℕ) (P : 1 ≤ p) where
+module _ (N : ℕ) (f : ℕ → ℕ) (h : N ≤ most) (p : ℕ) (P : 1 ≤ p) where
   -- where it stands
-  found : (i : ℕ) → i < 16 → eqb (getD (column N f) i 0) p ≡ true → (i < N) × (f i ≡ p)
+  found : (i : ℕ) → i < most → eqb (getD (column N f) i 0) p ≡ true → (i < N) × (f i ≡ p)
   found i l e = go (ltb i N) refl
     where
       go : (b : Bool) → ltb i N ≡ b → (i < N) × (f i ≡ p)
       go true z = let w : i < N = ltb-true _ _ z in (w, sym (column-at N f i w h) ∙ eqb-true _ _ e)
       go false z = let w : 0 ≡ p = sym (column-above N f i (ltb-false _ _ z) l) ∙ eqb-true _ _ e in absurd (omega arith)
 
-  column-once : (k : ℕ) → k < N → f k ≡ p → ((i : ℕ) → i < N → f i ≡ p → i ≡ k) → count (λ i. eqb (getD (column N f) i 0) p) 16 ≡ 1
+  column-once : (k : ℕ) → k < N → f k ≡ p → ((i : ℕ) → i < N → f i ≡ p → i ≡ k) → count (λ i. eqb (getD (column N f) i 0) p) most ≡ 1
   column-once k l e one =
-      count-one (λ i. eqb (getD (column N f) i 0) p) 16 k (omega arith) (eq-eqb _ _ (column-at N f k l h ∙ e)) (λ i o z. let w = found i o z in one i (w .0) (w .1))
+      count-one (λ i. eqb (getD (column N f) i 0) p) most k (omega arith) (eq-eqb _ _ (column-at N f k l h ∙ e)) (λ i o z. let w = found i o z in one i (w .0) (w .1))
 
-  column-never : ((i : ℕ) → i < N → ¬ (f i ≡ p)) → count (λ i. eqb (getD (column N f) i 0) p) 16 ≡ 0
-  column-never none = count-none (λ i. eqb (getD (column N f) i 0) p) 16 (λ i l. ne-eqb (getD (column N f) i 0) p (λ z. let w = found i l (eq-eqb _ _ z) in none i (w .0) (w .1)))
+  column-never : ((i : ℕ) → i < N → ¬ (f i ≡ p)) → count (λ i. eqb (getD (column N f) i 0) p) most ≡ 0
+  column-never none = count-none (λ i. eqb (getD (column N f) i 0) p) most (λ i l. ne-eqb (getD (column N f) i 0) p (λ z. let w = found i l (eq-eqb _ _ z) in none i (w .0) (w .1)))
 
 -- ---- registers of N processors
 abbrev isLeft : Side → Bool
 isLeft left = true
 isLeft right = false
 
-module _ (N : ℕ) (L : Slot → ℕ) (h : N ≤ 16) where
+module _ (N : ℕ) (L : Slot → ℕ) (h : N ≤ most) where
   stands-once-at : (p : ℕ) → 1 ≤ p → (r : Side) (k : ℕ) → k < N → L (slot k r) ≡ p → ((t : Side) (i : ℕ) → i < N → L (slot i t) ≡ p → (t ≡ r) × (i ≡ k))
       → standsIn (registersOf N L) p ≡ 1
   unfolding standsIn registersOf
@@ -55,14 +55,14 @@ module _ (N : ℕ) (L : Slot → ℕ) (h : N ≤ 16) where
       → meetInList (registersOf N L) p q
       ≡ any N (λ i. (eqb (L (slot i left)) p && eqb (L (slot i right)) q) || (eqb (L (slot i left)) q && eqb (L (slot i right)) p))
   unfolding meetInList registersOf
-  list-meets p q P Q = any-within 16 N _ _ h (λ i l. rw (column-at N (λ k. L (slot k left)) i l h, column-at N (λ k. L (slot k right)) i l h)) above
+  list-meets p q P Q = any-within most N _ _ h (λ i l. rw (column-at N (λ k. L (slot k left)) i l h, column-at N (λ k. L (slot k right)) i l h)) above
     where
-      above : (i : ℕ) → N ≤ i → i < 16
+      above : (i : ℕ) → N ≤ i → i < most
           → ((eqb (getD (column N (λ k. L (slot k left))) i 0) p && eqb (getD (column N (λ k. L (slot k right))) i 0) q)
           || (eqb (getD (column N (λ k. L (slot k left))) i 0) q && eqb (getD (column N (λ k. L (slot k right))) i 0) p)) ≡ false
       above i l o = rw (column-above N (λ k. L (slot k left)) i l o, ne-eqb 0 p (λ z. omega arith), ne-eqb 0 q (λ z. omega arith))
 
-meets-as : (N m s p q : ℕ) → N ≡ suc m → N ≤ 16 → 1 ≤ p → 1 ≤ q → meetInList (registersOf N (lineAt (inOrder 1) m s)) p q ≡ meetAt (inOrder 1) m s p q
+meets-as : (N m s p q : ℕ) → N ≡ suc m → N ≤ most → 1 ≤ p → 1 ≤ q → meetInList (registersOf N (lineAt (inOrder 1) m s)) p q ≡ meetAt (inOrder 1) m s p q
 unfolding meetAt meetIn
 meets-as N m s p q e h P Q = list-meets N (lineAt (inOrder 1) m s) h p q P Q ∙ ap (λ (x : ℕ). any x (meetIn (inOrder 1) m s p q)) e
 

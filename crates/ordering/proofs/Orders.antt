@@ -9,11 +9,11 @@ use native.Mathlib.Nat.{div-add-mod', mod-lt}
 use Rattle.systolic.proofs.Bounded.{or-false}
 use Rattle.systolic.specs.Slots.{Side, slot, lineAt, inOrder}
 use Rattle.systolic.proofs.Lines.{line-within}
-use Rattle.ordering.specs.Registers.{registersOf}
+use Rattle.ordering.specs.Registers.{registersOf, most}
 use Rattle.refusal.specs.declared.Refusal.the-variants.{Order}
 use Rattle.ordering.specs.declared.Registers.{Registers}
 use Rattle.ordering.specs.declared.Answer.the-variants.{Given, Refused}
-use Rattle.ordering.specs.Pairs.{noOrder, registersAt, noRegisters, Lists}
+use Rattle.ordering.specs.Pairs.{limit, noOrder, registersAt, noRegisters, Lists}
 use Rattle.ordering.proofs.Coming.{registers-ext}
 
 module _ (n : ℕ) where
@@ -25,12 +25,12 @@ module _ (n : ℕ) where
   unfolding noOrder
   small-refused e h = rw (ne-eqb (n % 2) 1 e, lt-ltb n 2 h)
 
-  pub large-refused : ¬ (n % 2 ≡ 1) → 2 ≤ n → ltb 32 n ≡ noOrder n
+  pub large-refused : ¬ (n % 2 ≡ 1) → 2 ≤ n → ltb limit n ≡ noOrder n
   unfolding noOrder
   large-refused e h = rw (ne-eqb (n % 2) 1 e, le-ltb n 2 h)
 
--- an order is even, and from 2 to 32
-pub order-is : (n : ℕ) → noOrder n ≡ false → (¬ (n % 2 ≡ 1)) × (2 ≤ n) × (n ≤ 32)
+-- an order is even, and from 2 to the limit
+pub order-is : (n : ℕ) → noOrder n ≡ false → (¬ (n % 2 ≡ 1)) × (2 ≤ n) × (n ≤ limit)
 unfolding noOrder
 order-is n e =
     let a = or-false (eqb (n % 2) 1) _ e in
@@ -58,7 +58,7 @@ registers-again n step e = registers-ext (n / 2) _ _ (λ r k h. again r k h)
         let p : n - 1 ≡ 2 * (n / 2 - 1) + 1 = odd n (o .0) (o .1) in
         rw p (line-within (inOrder 1) (n / 2 - 1) step (slot k r) (below k r h))
 
-pub order-half : (n : ℕ) → noOrder n ≡ false → (1 ≤ n / 2) × (n / 2 ≤ 16)
+pub order-half : (n : ℕ) → noOrder n ≡ false → (1 ≤ n / 2) × (n / 2 ≤ most)
 order-half n e = let o = order-is n e in let d = div-add-mod' n 2 in let l : n % 2 < 2 = mod-lt n (omega arith) in (omega arith, omega arith)
 
 -- the two answers

@@ -1,5 +1,5 @@
 -- Document 01: the list of pairs of an order and a step. Definitions only.
-use Prim.Native.Nat.{ℕ, _+_, _-_, _/_, _%_}
+use Prim.Native.Nat.{ℕ, _+_, _-_, _*_, _/_, _%_}
 use mathlib.Core.Path.{_≡_}
 use mathlib.Core.Bool.{Bool, cond, _||_, _&&_}
 use lib.Dec.{ltb, eqb}
@@ -11,11 +11,11 @@ use Rattle.ordering.specs.declared.Registers.{Registers}
 use Rattle.ordering.specs.declared.Answer.{Answer}
 use Rattle.ordering.specs.declared.Answer.the-variants.{Given, Refused}
 use Rattle.ordering.specs.declared.Listed.{Listed}
-use Rattle.ordering.specs.Registers.{registersOf}
+use Rattle.ordering.specs.Registers.{registersOf, most}
 
--- The largest order.
+-- The largest order, 32.
 abbrev pub limit : ℕ
-limit = 32
+limit = 2 * most
 
 -- Refusal 1: not even, or outside 2 to the limit.
 unfoldable pub noOrder : ℕ → Bool
@@ -42,8 +42,8 @@ pub record Lists (n step : ℕ) (r : Listed) : Type 0 where
 -- The lines p and q meet: they stand in the two registers of one processor of a list.
 unfoldable pub meetInList : Registers → ℕ → ℕ → Bool
 meetInList r p q =
-    any 16 (λ k. (eqb (getD (r .left) k 0) p && eqb (getD (r .right) k 0) q) || (eqb (getD (r .left) k 0) q && eqb (getD (r .right) k 0) p))
+    any most (λ k. (eqb (getD (r .left) k 0) p && eqb (getD (r .right) k 0) q) || (eqb (getD (r .left) k 0) q && eqb (getD (r .right) k 0) p))
 
 -- In how many registers a line stands.
 unfoldable pub standsIn : Registers → ℕ → ℕ
-standsIn r p = count (λ k. eqb (getD (r .left) k 0) p) 16 + count (λ k. eqb (getD (r .right) k 0) p) 16
+standsIn r p = count (λ k. eqb (getD (r .left) k 0) p) most + count (λ k. eqb (getD (r .right) k 0) p) most

@@ -2,7 +2,7 @@
 ghost use mathlib.Core.Path.{_≡_};
 ghost use Prim.Native.Nat.{ℕ, _-_, _≤_, _<_};
 ghost use Rattle.systolic.specs.Slots.{left, right, inOrder, prior, lineAt};
-ghost use Rattle.ordering.specs.Registers.{registersOf, comingInto, inSlot};
+ghost use Rattle.ordering.specs.Registers.{most, registersOf, comingInto, inSlot};
 ghost use Rattle.ordering.specs.Pairs.{noOrder, noRegisters, Lists};
 use refusal::Refusal;
 
@@ -66,7 +66,7 @@ impl Registers {
 
     // The registers at the start.
     fn start(processors: usize) -> Registers
-        requires { ⌜ processors ≤ 16 ⌝ }
+        requires { ⌜ processors ≤ most ⌝ }
         ensures { λ r. ⌜ r ≡ registersOf processors (inOrder 1) ⌝ }
     {
         let mut lefts = [0usize; 16];
@@ -85,7 +85,7 @@ impl Registers {
 
     // The registers after a step.
     fn moved(self, processors: usize) -> Registers
-        requires { ⌜ (1 ≤ processors) × (processors ≤ 16) ⌝ }
+        requires { ⌜ (1 ≤ processors) × (processors ≤ most) ⌝ }
         ensures { λ r. ⌜ r ≡ registersOf processors (λ u. inSlot self (prior (processors - 1) u)) ⌝ }
     {
         let old_left = self.left;
@@ -106,7 +106,7 @@ impl Registers {
 
     // The registers at a step.
     fn after(processors: usize, step: usize) -> Registers
-        requires { ⌜ (1 ≤ processors) × (processors ≤ 16) ⌝ }
+        requires { ⌜ (1 ≤ processors) × (processors ≤ most) ⌝ }
         ensures { λ r. ⌜ r ≡ registersOf processors (lineAt (inOrder 1) (processors - 1) step) ⌝ }
     {
         let mut registers = Registers::start(processors);
@@ -122,7 +122,7 @@ impl Registers {
 
 // The line that comes into left k.
 fn into_left<'a>(lefts: &'a [usize; 16], rights: &'a [usize; 16], k: usize) -> usize
-    requires { ⌜ k < 16 ⌝ }
+    requires { ⌜ k < most ⌝ }
     ensures { λ r. ⌜ ((m : ℕ) → r ≡ comingInto (now (lefts .entry)) (now (rights .entry)) m left k) ⌝ }
 {
     if k == 0 {
@@ -136,7 +136,7 @@ fn into_left<'a>(lefts: &'a [usize; 16], rights: &'a [usize; 16], k: usize) -> u
 
 // The line that comes into right k, where `last` is the last processor.
 fn into_right<'a>(lefts: &'a [usize; 16], rights: &'a [usize; 16], last: usize, k: usize) -> usize
-    requires { ⌜ (k ≤ last) × (last < 16) ⌝ }
+    requires { ⌜ (k ≤ last) × (last < most) ⌝ }
     ensures { λ r. ⌜ r ≡ comingInto (now (lefts .entry)) (now (rights .entry)) last right k ⌝ }
 {
     if k < last {

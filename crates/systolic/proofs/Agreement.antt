@@ -6,7 +6,7 @@ use mathlib.Core.Bool.{Bool, false, _||_}
 use native.Mathlib.Omega.{arith}
 use Rattle.systolic.specs.Slots.{Side, left, right, Slot, slot, cameFrom, prior, nextBy, lineAt, inOrder, any}
 use Rattle.systolic.specs.Blocks.{Block, cell, tab, pick}
-use Rattle.systolic.specs.Synchronous.{Operations, rotateAll, moveAll, blocksAt, rotatedAt}
+use Rattle.systolic.specs.Synchronous.{rotateAll, moveAll, blocksAt, rotatedAt}
 use Rattle.systolic.specs.Arrays.{arrayAfter}
 use Rattle.systolic.specs.Sequential.{Rules, sequential, failsIn, blockAt, anyFails, operationsOf}
 use Rattle.systolic.proofs.Bounded.{or-false, same-bool, any-to, any-from}
@@ -27,9 +27,6 @@ four-from : (a b c d : Bool) → a ≡ false → b ≡ false → c ≡ false →
 four-from a b c d e f g h = rw (e, f, g, h)
 
 module _ {X H W : Type 0} (R : Rules X H W) (l : Slot → ℕ) (m : ℕ) (one : Distinct m l) (M : ℕ → ℕ → X) (x : X) (h : H) (w : W) where
-  abbrev S : Operations X H W
-  S = operationsOf R l M x h w
-
   rotated-same : (k : ℕ) (s t : ℕ → ℕ → Block X) → ((i j : ℕ) → i ≤ m → j ≤ m → s i j ≡ t i j) → (i j : ℕ) → i ≤ m → j ≤ m
       → rotateAll (operationsOf R l M x h w) k s i j ≡ rotateAll (operationsOf R l M x h w) k t i j
   unfolding rotateAll

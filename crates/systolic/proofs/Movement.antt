@@ -5,8 +5,7 @@ use mathlib.Core.Bool.{Bool, true, false, cond}
 use native.Mathlib.Omega.{arith}
 use borrow.Author.Tests.{ltb-true, ltb-false, eqb-true, eqb-false, eq-eqb, ne-eqb}
 use lib.Dec.{ltb, eqb}
-use Rattle.systolic.specs.Slots.{Side, left, right, Slot, slot, moved, intoLast, cameFrom, next, prior, nextBy, count, together}
-use Rattle.systolic.proofs.Bounded.{count-one}
+use Rattle.systolic.specs.Slots.{Side, left, right, Slot, slot, moved, intoLast, cameFrom, next, prior, nextBy}
 
 -- ---- `moved` and `cameFrom` undo each other
 pub cameFrom-moved : (m : ℕ) (h : Side) (i : ℕ) → i ≤ m → cameFrom m (moved m h i .side) (moved m h i .processor) ≡ slot i h
@@ -394,9 +393,3 @@ meets m z u w l k n = (f .0, omega (arith, f .1), hit, once)
         (sum-to m _ _ _ _ (nextBy-le m t _ la) (rw (nextBy-add m t z u, nextBy-add m t z w) at e)
         (λ q. differ (ap (pos m) (nextBy-one m t _ _ la lb (pos-one m _ _ (nextBy-le m t _ la) (nextBy-le m t _ lb) q))))))
         (f .2)
-
-pub meets-once : (m z : ℕ) (u w : Slot) → u .processor ≤ m → w .processor ≤ m → ¬ (u ≡ w)
-    → count (λ s. together (nextBy m (z + s) u) (nextBy m (z + s) w)) (2 * m + 1) ≡ 1
-meets-once m z u w l k n =
-    let p = meets m z u w l k n in
-    count-one (λ s. together (nextBy m (z + s) u) (nextBy m (z + s) w)) (2 * m + 1) (p .0) (p .1) (eq-eqb _ _ (p .2)) (λ t o e. p .3 t o (eqb-true _ _ e))

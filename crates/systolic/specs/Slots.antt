@@ -76,9 +76,6 @@ unfoldable pub any : ℕ → (ℕ → Bool) → Bool
 any zero f = false
 any (suc n) f = any n f || f n
 
-abbrev pub together : Slot → Slot → Bool
-together u w = eqb (u .processor) (w .processor)
-
 -- The lines p and q stand in the two registers of processor i at step s.
 unfoldable pub meetIn : (Slot → ℕ) → ℕ → ℕ → ℕ → ℕ → ℕ → Bool
 meetIn l m s p q i =

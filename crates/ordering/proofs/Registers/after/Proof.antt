@@ -2,13 +2,13 @@ use Prim.Native.Nat.{_-_, _≤_}
 use mathlib.Core.Path.{_≡_, _∙_}
 use native.Mathlib.Omega.{arith}
 use Rattle.systolic.specs.Slots.{inOrder, lineAt}
-use Rattle.ordering.specs.Registers.{registersOf}
+use Rattle.ordering.specs.Registers.{registersOf, most}
 use Rattle.ordering.proofs.Coming.{at-start, next-step, same-step}
 use Rattle.ordering.proofs.Registers.after.Statement.{statement}
 use Rattle.ordering.proofs.Registers.after.Tie as tie
 
 abbrev Inv-loop : tie.InvT-loop
-Inv-loop processors step registers₀ s₀ registers s = (s ≤ step) × (1 ≤ processors) × (processors ≤ 16) × (registers ≡ registersOf processors (lineAt (inOrder 1) (processors - 1) s))
+Inv-loop processors step registers₀ s₀ registers s = (s ≤ step) × (1 ≤ processors) × (processors ≤ most) × (registers ≡ registersOf processors (lineAt (inOrder 1) (processors - 1) s))
 
 abbrev μ-loop : tie.MeasureT-loop
 μ-loop processors step registers₀ s₀ registers s = step - s
