@@ -6,3 +6,4 @@ pub mod Units
 pub mod Patterns
 pub mod Order
 pub mod Above
+pub mod Operands

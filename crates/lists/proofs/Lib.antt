@@ -1,1 +1,2 @@
 pub mod Tabulated
+pub mod Filled

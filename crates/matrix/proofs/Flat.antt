@@ -10,6 +10,13 @@ use lib.Ieee.{Float, nan}
 use Rattle.lists.proofs.Tabulated.{length-tabulate, getD-tabulate, tabulated}
 use Rattle.matrix.specs.Matrix.{at, flat}
 
+-- an index has one row and one column
+pub index-one : (n i j i′ j′ : ℕ) → j < n → j′ < n → i * n + j ≡ i′ * n + j′ → (i ≡ i′) × (j ≡ j′)
+index-one n i j i′ j′ h h′ e = (
+  sym (digits-div i h) ∙ ap (λ (k : ℕ). k / n) e ∙ digits-div i′ h′,
+  sym (digits-mod i h) ∙ ap (λ (k : ℕ). k % n) e ∙ digits-mod i′ h′,
+)
+
 -- from offsets
 pub at-offset : (n : ℕ) (l : List Float) (i j : ℕ) → at n l (i + 1) (j + 1) ≡ getD l (i * n + j) nan
 unfolding at
@@ -23,11 +30,11 @@ pub at-flat : (n : ℕ) (A : ℕ → ℕ → Float) (i j : ℕ) → i < n → j 
 at-flat n A i j h k = at-offset n (flat n A) i j ∙ unfold flat in (getD-tabulate (n * n) _ (i * n + j) nan (digits-lt h k) ∙ rw (digits-div i k, digits-mod i k))
 
 -- an offset of the list is that of a row and a column
-row-lt : (n k : ℕ) → k < n * n → k / n < n
+pub row-lt : (n k : ℕ) → k < n * n → k / n < n
 row-lt zero k h = absurd (omega arith)
 row-lt (suc n) k h = div-lt-iff-lt-mul (zero-lt-suc n) .1 h
 
-column-lt : (n k : ℕ) → k < n * n → k % n < n
+pub column-lt : (n k : ℕ) → k < n * n → k % n < n
 column-lt zero k h = absurd (omega arith)
 column-lt (suc n) k h = mod-lt k (zero-lt-suc n)
 

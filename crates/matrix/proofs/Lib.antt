@@ -1,7 +1,8 @@
 pub mod Flat
-pub mod Squares
+pub mod Within
 pub mod First
 pub mod Answers
 pub mod Lines
 pub mod Turned
-pub mod Mirror
+pub mod Same
+pub mod Accepted

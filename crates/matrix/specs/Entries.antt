@@ -8,14 +8,7 @@ use lib.Ieee.{Float}
 use Rattle.refusal.specs.Refusal.{Told, given, refused, told}
 use Rattle.refusal.specs.declared.Refusal.the-variants.{Length, NotFinite, NotMirrored}
 use Rattle.float64.specs.Values.{finite, sameBits}
-use Rattle.matrix.specs.declared.Entries.{Entries}
-use Rattle.matrix.specs.declared.Entries.the-variants.{Fine, Refused}
 use Rattle.matrix.specs.Matrix.{at}
-
--- What an answer tells.
-abbrev pub toldEntries : Entries → Told Unit
-toldEntries Fine = given tt
-toldEntries (Refused r) = told r
 
 -- The first of two answers that is a refusal.
 abbrev pub orElse : Told Unit → Told Unit → Told Unit

@@ -3,27 +3,24 @@ ghost use mathlib.Core.Path.{_≡_};
 ghost use Prim.Native.Nat.{ℕ, _+_, _*_, _<_};
 ghost use lib.ListN.{length};
 ghost use lib.Dec.{eqb};
+ghost use Rattle.refusal.specs.Refusal.{toldAnswer};
 ghost use Rattle.matrix.specs.Matrix.{at, flat};
-ghost use Rattle.matrix.specs.Turns.{isOne, rowTurn, columnTurn, columnTurnAll, lineTurned, turnLines};
-ghost use Rattle.matrix.specs.Entries.{toldEntries, firstPlace, notFiniteAt, notMirroredAt, entriesOf};
+ghost use Rattle.matrix.specs.Turns.{isOne, isLine, twoLines, onLines, rowTurn, columnTurn, columnTurnAll, lineTurned, turnLines};
+ghost use Rattle.matrix.specs.Entries.{firstPlace, notFiniteAt, notMirroredAt, entriesOf};
+use refusal::Answer;
 use refusal::Refusal;
 use rotation::Parameters;
 
-pub enum Entries {
-    Fine,
-    Refused(Refusal),
-}
-
 // Refusals 3, 5 and 6 of a matrix of order n.
-pub fn tested(n: usize, a: &[f64]) -> Entries
-    ensures { λ r. ⌜ toldEntries r ≡ entriesOf n (now (a .entry)) ⌝ }
+pub fn tested(n: usize, a: &[f64]) -> Answer
+    ensures { λ r. ⌜ toldAnswer r ≡ entriesOf n (now (a .entry)) ⌝ }
 {
     if !is_square(n, a.len()) {
-        return Entries::Refused(Refusal::Length);
+        return Answer::Refused(Refusal::Length);
     }
     match first_not_finite(n, a) {
-        Entries::Fine => first_not_mirrored(n, a),
-        Entries::Refused(refused) => Entries::Refused(refused),
+        Answer::Accepted => first_not_mirrored(n, a),
+        Answer::Refused(refused) => Answer::Refused(refused),
     }
 }
 
@@ -31,13 +28,10 @@ pub fn tested(n: usize, a: &[f64]) -> Entries
 pub fn is_square(n: usize, length: usize) -> bool
     ensures { λ r. ⌜ r ≡ eqb length (n * n) ⌝ }
 {
-    if n == 0 {
-        return length == 0;
-    }
-    if length % n > 0 {
+    if n > 0xffff_ffff {
         return false;
     }
-    length / n == n
+    length == n * n
 }
 
 // The entry in row i + 1 and column j + 1.
@@ -48,15 +42,15 @@ fn entry(n: usize, i: usize, j: usize, a: &[f64]) -> f64
     a[i * n + j]
 }
 
-fn first_not_finite(n: usize, a: &[f64]) -> Entries
+fn first_not_finite(n: usize, a: &[f64]) -> Answer
     requires { ⌜ length (now a) ≡ n * n ⌝ }
-    ensures { λ r. ⌜ toldEntries r ≡ firstPlace n (notFiniteAt n (now (a .entry))) ⌝ }
+    ensures { λ r. ⌜ toldAnswer r ≡ firstPlace n (notFiniteAt n (now (a .entry))) ⌝ }
 {
-    let mut found = Entries::Fine;
+    let mut found = Answer::Accepted;
     'rows: for i in 0..n {
         for j in 0..n {
             if !float64::is_finite(entry(n, i, j, a)) {
-                found = Entries::Refused(Refusal::NotFinite(i + 1, j + 1));
+                found = Answer::Refused(Refusal::NotFinite(i + 1, j + 1));
                 break 'rows;
             }
         }
@@ -64,15 +58,15 @@ fn first_not_finite(n: usize, a: &[f64]) -> Entries
     found
 }
 
-fn first_not_mirrored(n: usize, a: &[f64]) -> Entries
+fn first_not_mirrored(n: usize, a: &[f64]) -> Answer
     requires { ⌜ length (now a) ≡ n * n ⌝ }
-    ensures { λ r. ⌜ toldEntries r ≡ firstPlace n (notMirroredAt n (now (a .entry))) ⌝ }
+    ensures { λ r. ⌜ toldAnswer r ≡ firstPlace n (notMirroredAt n (now (a .entry))) ⌝ }
 {
-    let mut found = Entries::Fine;
+    let mut found = Answer::Accepted;
     'rows: for i in 0..n {
         for j in i + 1..n {
             if !float64::same_bits(entry(n, i, j, a), entry(n, j, i, a)) {
-                found = Entries::Refused(Refusal::NotMirrored(i + 1, j + 1));
+                found = Answer::Refused(Refusal::NotMirrored(i + 1, j + 1));
                 break 'rows;
             }
         }
@@ -80,28 +74,60 @@ fn first_not_mirrored(n: usize, a: &[f64]) -> Entries
     found
 }
 
-// The row turn of the lines p + 1 and q + 1, for any other column.
+// The row turn of the lines p and q, for any other column. Where there are no such lines it does nothing, and so do the other turns.
 pub fn turn_rows(parameters: Parameters, n: usize, p: usize, q: usize, a: &mut [f64])
-    requires { ⌜ (length (now a) ≡ n * n) × (p < n) × (q < n) × (¬ (p ≡ q)) ⌝ }
-    ensures { λ _. ⌜ now (a .exit) ≡ flat n (rowTurn parameters (p + 1) (q + 1) (at n (now (a .entry)))) ⌝ }
+    ensures { λ _. ⌜ now (a .exit) ≡ onLines n p q (rowTurn parameters p q) (now (a .entry)) ⌝ }
 {
-    turn_lines(parameters, n, 1, p * n, q * n, p, q, a);
+    if !are_lines(n, p, q, a.len()) {
+        return;
+    }
+    turn_lines(parameters, n, 1, (p - 1) * n, (q - 1) * n, p - 1, q - 1, a);
 }
 
-// The column turn of the lines p + 1 and q + 1, for any other row.
+// The column turn of the lines p and q, for any other row.
 pub fn turn_columns(parameters: Parameters, n: usize, p: usize, q: usize, a: &mut [f64])
-    requires { ⌜ (length (now a) ≡ n * n) × (p < n) × (q < n) × (¬ (p ≡ q)) ⌝ }
-    ensures { λ _. ⌜ now (a .exit) ≡ flat n (columnTurn parameters (p + 1) (q + 1) (at n (now (a .entry)))) ⌝ }
+    ensures { λ _. ⌜ now (a .exit) ≡ onLines n p q (columnTurn parameters p q) (now (a .entry)) ⌝ }
 {
-    turn_lines(parameters, n, n, p, q, p, q, a);
+    if !are_lines(n, p, q, a.len()) {
+        return;
+    }
+    turn_lines(parameters, n, n, p - 1, q - 1, p - 1, q - 1, a);
 }
 
 // The column turn on all rows: there is no row n + 1 to skip.
 pub fn turn_all_columns(parameters: Parameters, n: usize, p: usize, q: usize, a: &mut [f64])
-    requires { ⌜ (length (now a) ≡ n * n) × (p < n) × (q < n) × (¬ (p ≡ q)) ⌝ }
-    ensures { λ _. ⌜ now (a .exit) ≡ flat n (columnTurnAll parameters (p + 1) (q + 1) (at n (now (a .entry)))) ⌝ }
+    ensures { λ _. ⌜ now (a .exit) ≡ onLines n p q (columnTurnAll parameters p q) (now (a .entry)) ⌝ }
 {
-    turn_lines(parameters, n, n, p, q, n, n, a);
+    if !are_lines(n, p, q, a.len()) {
+        return;
+    }
+    turn_lines(parameters, n, n, p - 1, q - 1, n, n, a);
+}
+
+// Whether p and q are two different lines of a matrix of order n, and a length is that of the matrix.
+pub fn are_lines(n: usize, p: usize, q: usize, length: usize) -> bool
+    ensures { λ r. ⌜ r ≡ twoLines n p q length ⌝ }
+{
+    if !is_line(n, p) {
+        return false;
+    }
+    if !is_line(n, q) {
+        return false;
+    }
+    if p == q {
+        return false;
+    }
+    is_square(n, length)
+}
+
+// Whether p is a line of a matrix of order n.
+fn is_line(n: usize, p: usize) -> bool
+    ensures { λ r. ⌜ r ≡ isLine n p ⌝ }
+{
+    if p == 0 {
+        return false;
+    }
+    p <= n
 }
 
 // Turns the values at i and j of the first of n lines, and those `step` farther in each line after it; the lines p and q are skipped.

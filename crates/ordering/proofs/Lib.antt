@@ -2,3 +2,4 @@ pub mod Columns
 pub mod Coming
 pub mod Orders
 pub mod Meetings
+pub mod Standing

@@ -1,6 +1,6 @@
 -- Which numbers are no orders, and the registers of an order. Assumes nothing.
 use Prim.Native.Nat.{ℕ, _+_, _-_, _*_, _/_, _%_, _≤_, _<_}
-use mathlib.Core.Path.{_≡_, _∙_}
+use mathlib.Core.Path.{_≡_, refl, _∙_}
 use mathlib.Core.Bool.{true, false}
 use native.Mathlib.Omega.{arith}
 use borrow.Author.Tests.{eq-eqb, ne-eqb, lt-ltb, le-ltb, eqb-false, ltb-false}
@@ -12,9 +12,9 @@ use Rattle.systolic.proofs.Lines.{line-within}
 use Rattle.ordering.specs.Registers.{registersOf, most}
 use Rattle.refusal.specs.declared.Refusal.the-variants.{Order}
 use Rattle.ordering.specs.declared.Registers.{Registers}
-use Rattle.ordering.specs.declared.Answer.the-variants.{Given, Refused}
-use Rattle.ordering.specs.Pairs.{limit, noOrder, registersAt, noRegisters, Lists}
-use Rattle.ordering.proofs.Coming.{registers-ext}
+use Rattle.refusal.specs.declared.Answer.the-variants.{Accepted, Refused}
+use Rattle.ordering.specs.Pairs.{limit, noOrder, registersAt, afterStep, noRegisters, orNone, Lists}
+use Rattle.ordering.proofs.Coming.{registers-ext, at-start, next-step}
 
 module _ (n : ℕ) where
   pub odd-refused : n % 2 ≡ 1 → true ≡ noOrder n
@@ -67,5 +67,24 @@ module _ (n step : ℕ) where
   refused-lists e z = record { answers = rw e; lists = rw e z }
 
   pub given-lists : {r : Registers} → noOrder n ≡ false → r ≡ registersOf (n / 2) (lineAt (inOrder 1) (n / 2 - 1) (step % (n - 1)))
-      → Lists n step (record { answer = Given; registers = r })
+      → Lists n step (record { answer = Accepted; registers = r })
   given-lists e z = record { answers = rw e; lists = rw e (z ∙ registers-again n step e) }
+
+-- ---- the registers at first and after each step
+module _ (n : ℕ) where
+  pub none-beside : {r : Registers} (s : Registers) → noOrder n ≡ true → r ≡ noRegisters → r ≡ orNone n s
+  none-beside s e z = rw e z
+
+  pub order-beside : {r : Registers} (s : Registers) → noOrder n ≡ false → r ≡ s → r ≡ orNone n s
+  order-beside s e z = rw e z
+
+  pub first-at : registersOf (n / 2) (inOrder 1) ≡ registersAt n 0
+  unfolding registersAt
+  first-at = at-start (n / 2) (inOrder 1)
+
+  pub of-order : {r s : Registers} → noOrder n ≡ false → r ≡ orNone n s → r ≡ s
+  of-order e z = rw e at z
+
+  pub next-at : (k : ℕ) → noOrder n ≡ false → afterStep n (registersAt n k) ≡ registersAt n (k + 1)
+  unfolding afterStep registersAt
+  next-at k e = let h = order-half n e in next-step (n / 2) (inOrder 1) k (h .0) (h .1) refl

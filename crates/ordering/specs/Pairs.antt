@@ -4,14 +4,12 @@ use mathlib.Core.Path.{_≡_}
 use mathlib.Core.Bool.{Bool, cond, _||_, _&&_}
 use lib.Dec.{ltb, eqb}
 use lib.ListN.{getD}
-use Rattle.refusal.specs.Refusal.{Told, given, told}
+use Rattle.refusal.specs.Refusal.{given, told, toldAnswer}
 use Rattle.refusal.specs.declared.Refusal.the-variants.{Order}
-use Rattle.systolic.specs.Slots.{lineAt, inOrder, any, count}
+use Rattle.systolic.specs.Slots.{prior, lineAt, inOrder, any, count}
 use Rattle.ordering.specs.declared.Registers.{Registers}
-use Rattle.ordering.specs.declared.Answer.{Answer}
-use Rattle.ordering.specs.declared.Answer.the-variants.{Given, Refused}
 use Rattle.ordering.specs.declared.Listed.{Listed}
-use Rattle.ordering.specs.Registers.{registersOf, most}
+use Rattle.ordering.specs.Registers.{registersOf, inSlot, most}
 
 -- The largest order, 32.
 abbrev pub limit : ℕ
@@ -25,19 +23,22 @@ noOrder n = eqb (n % 2) 1 || (ltb n 2 || ltb limit n)
 unfoldable pub registersAt : ℕ → ℕ → Registers
 registersAt n step = registersOf (n / 2) (lineAt (inOrder 1) (n / 2 - 1) step)
 
+-- The registers that follow r.
+unfoldable pub afterStep : ℕ → Registers → Registers
+afterStep n r = registersOf (n / 2) (λ u. inSlot r (prior (n / 2 - 1) u))
+
 -- Zeros only.
 unfoldable pub noRegisters : Registers
 noRegisters = registersOf 0 (λ u. 0)
 
--- What an answer tells.
-abbrev pub toldAnswer : Answer → Told Unit
-toldAnswer Given = given tt
-toldAnswer (Refused r) = told r
+-- The registers r of an order n, and zeros for a number that is no order.
+abbrev pub orNone : ℕ → Registers → Registers
+orNone n r = cond (noOrder n) noRegisters r
 
 -- What the list of pairs answers, and the registers beside the answer.
 pub record Lists (n step : ℕ) (r : Listed) : Type 0 where
   pub answers : toldAnswer (r .answer) ≡ cond (noOrder n) (told Order) (given tt)
-  pub lists : r .registers ≡ cond (noOrder n) noRegisters (registersAt n step)
+  pub lists : r .registers ≡ orNone n (registersAt n step)
 
 -- The lines p and q meet: they stand in the two registers of one processor of a list.
 unfoldable pub meetInList : Registers → ℕ → ℕ → Bool

@@ -3,18 +3,14 @@ ghost use mathlib.Core.Path.{_≡_};
 ghost use Prim.Native.Nat.{ℕ, _-_, _≤_, _<_};
 ghost use Rattle.systolic.specs.Slots.{left, right, inOrder, prior, lineAt};
 ghost use Rattle.ordering.specs.Registers.{most, registersOf, comingInto, inSlot};
-ghost use Rattle.ordering.specs.Pairs.{noOrder, noRegisters, Lists};
+ghost use Rattle.ordering.specs.Pairs.{noOrder, noRegisters, orNone, registersAt, afterStep, Lists};
+use refusal::Answer;
 use refusal::Refusal;
 
 // The left and the right register of each processor, zeros above the last one.
 pub struct Registers {
     pub left: [usize; 16],
     pub right: [usize; 16],
-}
-
-pub enum Answer {
-    Given,
-    Refused(Refusal),
 }
 
 // An answer, and the registers beside it.
@@ -35,7 +31,7 @@ pub fn pairs(n: usize, step: usize) -> Listed
     }
     let registers = Registers::after(n / 2, step % (n - 1));
     Listed {
-        answer: Answer::Given,
+        answer: Answer::Accepted,
         registers: registers,
     }
 }
@@ -62,6 +58,26 @@ impl Registers {
             left: [0; 16],
             right: [0; 16],
         }
+    }
+
+    // The registers of an order n at first, zeros only where it is refused.
+    pub fn of_order(n: usize) -> Registers
+        ensures { λ r. ⌜ r ≡ orNone n (registersAt n 0) ⌝ }
+    {
+        if is_no_order(n) {
+            return Registers::none();
+        }
+        Registers::start(n / 2)
+    }
+
+    // The registers after a step of an order n, zeros only where it is refused.
+    pub fn after_step(self, n: usize) -> Registers
+        ensures { λ r. ⌜ r ≡ orNone n (afterStep n self) ⌝ }
+    {
+        if is_no_order(n) {
+            return Registers::none();
+        }
+        self.moved(n / 2)
     }
 
     // The registers at the start.

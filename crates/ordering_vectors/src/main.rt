@@ -4,8 +4,8 @@
 // tools/ordering_vectors.py writes the input and the expected output.
 ghost use Prim.Native.Nat.{_^_, _<_, _≤_};
 use hexio::Line;
-use ordering::Answer;
 use ordering::Registers;
+use refusal::Answer;
 
 // A proved loop has to end, so it counts its turns down, from a number that no run uses up.
 fn main() {
@@ -29,10 +29,10 @@ fn answer_list() -> bool {
     print_answer(answer) && print_registers(registers)
 }
 
-// Writes a refusal, and nothing for a list that is given.
+// Writes a refusal, and nothing for a list that is accepted.
 fn print_answer(answer: Answer) -> bool {
     match answer {
-        Answer::Given => true,
+        Answer::Accepted => true,
         Answer::Refused(refused) => hexio::print_number(
             b"refused",
             refusal::number(refused) as u64,

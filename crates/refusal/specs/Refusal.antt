@@ -3,6 +3,8 @@ use Prim.Native.Nat.{ℕ}
 use mathlib.Core.List.{List, [], _∷_}
 use Rattle.refusal.specs.declared.Refusal.{Refusal}
 use Rattle.refusal.specs.declared.Refusal.the-variants.{Order, Sweeps, Length, Code, NotFinite, NotMirrored, TooShort, Spoiled, NoRoot}
+use Rattle.refusal.specs.declared.Answer.{Answer}
+use Rattle.refusal.specs.declared.Answer.the-variants.{Accepted, Refused}
 
 -- The number of each refusal in document 01's table, and the values beside it.
 abbrev pub entryOf : Refusal → ℕ × List ℕ
@@ -26,3 +28,8 @@ pub data Told (A : Type 0) : Type 0 where
 
 abbrev pub told : {A : Type 0} → Refusal → Told A
 told r = refused (entryOf r .0) (entryOf r .1)
+
+-- An answer that gives no value of its own tells the unit value.
+abbrev pub toldAnswer : Answer → Told Unit
+toldAnswer Accepted = given tt
+toldAnswer (Refused r) = told r

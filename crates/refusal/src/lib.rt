@@ -15,6 +15,12 @@ pub enum Refusal {
     NoRoot,
 }
 
+// What a call answers that gives no value of its own.
+pub enum Answer {
+    Accepted,
+    Refused(Refusal),
+}
+
 // The number that document 01 gives the refusal.
 pub fn number(refusal: Refusal) -> u8
     ensures { λ r. ⌜ r ≡ numberOf refusal ⌝ }

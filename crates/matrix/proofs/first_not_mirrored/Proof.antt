@@ -4,22 +4,22 @@ use native.Mathlib.Omega.{arith}
 use native.Mathlib.Nat.{le-antisymm}
 use borrow.Author.Needs.{needs}
 use borrow.Author.Tests.{not-true, not-false}
-use Rattle.refusal.specs.Refusal.{given}
+use Rattle.refusal.specs.Refusal.{given, toldAnswer}
 use Rattle.matrix.specs.Matrix.{at}
-use Rattle.matrix.specs.Entries.{toldEntries, first, notMirroredAt}
-use Rattle.matrix.specs.declared.Entries.the-variants.{Fine}
+use Rattle.matrix.specs.Entries.{first, notMirroredAt}
+use Rattle.refusal.specs.declared.Answer.the-variants.{Accepted}
 use Rattle.matrix.proofs.First.{first-none, first-more, first-found, same, is-mirrored, is-not-mirrored, not-compared}
 use Rattle.matrix.proofs.first_not_mirrored.Statement.{statement}
 use Rattle.matrix.proofs.first_not_mirrored.Tie as tie
 
 abbrev Inv-loop : tie.InvT-loop
-Inv-loop n a found₀ i j₀ found j = (i < j) × (j ≤ n) × (found ≡ Fine) × (first j (notMirroredAt n a (i + 1)) ≡ given tt)
+Inv-loop n a found₀ i j₀ found j = (i < j) × (j ≤ n) × (found ≡ Accepted) × (first j (notMirroredAt n a (i + 1)) ≡ given tt)
 
 abbrev μ-loop : tie.MeasureT-loop
 μ-loop n a found₀ i j₀ found j = n - j
 
 abbrev Inv-rows : tie.InvT-rows
-Inv-rows n a found₀ i₀ found i = (i ≤ n) × (found ≡ Fine) × (first i (λ r. first n (notMirroredAt n a r)) ≡ given tt)
+Inv-rows n a found₀ i₀ found i = (i ≤ n) × (found ≡ Accepted) × (first i (λ r. first n (notMirroredAt n a r)) ≡ given tt)
 
 abbrev μ-rows : tie.MeasureT-rows
 μ-rows n a found₀ i₀ found i = n - i
@@ -74,7 +74,7 @@ rows-again c =
 
 returns : tie.Need-returns Inv-loop μ-loop Inv-rows μ-rows
 returns c =
-    ap toldEntries (c .before .rows .inv .1) ∙ sym (rw (le-antisymm (c .before .rows .inv .0) (c .rows-test .left)) at (c .before .rows .inv .2))
+    ap toldAnswer (c .before .rows .inv .1) ∙ sym (rw (le-antisymm (c .before .rows .inv .0) (c .rows-test .left)) at (c .before .rows .inv .2))
 
 returns-2 : tie.Need-returns-2 Inv-loop μ-loop Inv-rows μ-rows
 returns-2 c =

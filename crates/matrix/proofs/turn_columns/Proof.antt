@@ -1,19 +1,55 @@
-use mathlib.Core.Path.{_∙_}
-use Rattle.matrix.proofs.Turned.{in-rows, columns-turned}
+use Prim.Native.Nat.{_-_, _≤_}
+use mathlib.Core.Path.{sym, _∙_}
+use native.Mathlib.Omega.{arith}
 use borrow.Author.Needs.{needs}
+use borrow.Author.Tests.{not-true, not-false}
+use Rattle.matrix.proofs.Within.{are-two, left-alone}
+use Rattle.matrix.proofs.Turned.{in-rows, columns-turned}
 use Rattle.matrix.proofs.turn_columns.Statement.{statement}
 use Rattle.matrix.proofs.turn_columns.Tie as tie
 
+are-lines-requires : tie.Need-are-lines-requires
+are-lines-requires c κs = search needs
+
+returns : tie.Need-returns
+returns c = left-alone _ _ _ _ _ (sym (c .before .are-lines .ensures) ∙ not-true _ (c .if1 .taken))
+
+sub-turn-lines : tie.Need-sub-turn-lines
+sub-turn-lines c = are-two _ _ _ _ (sym (c .before .are-lines .ensures) ∙ not-false _ (c .if1 .left)) .first-above
+
+sub-turn-lines-2 : tie.Need-sub-turn-lines-2
+sub-turn-lines-2 c = are-two _ _ _ _ (sym (c .before .are-lines .ensures) ∙ not-false _ (c .if1 .left)) .second-above
+
+sub-turn-lines-3 : tie.Need-sub-turn-lines-3
+sub-turn-lines-3 c = are-two _ _ _ _ (sym (c .before .are-lines .ensures) ∙ not-false _ (c .if1 .left)) .first-above
+
+sub-turn-lines-4 : tie.Need-sub-turn-lines-4
+sub-turn-lines-4 c = are-two _ _ _ _ (sym (c .before .are-lines .ensures) ∙ not-false _ (c .if1 .left)) .second-above
+
 turn-lines-requires : tie.Need-turn-lines-requires
-turn-lines-requires c κs = let b = c .before .before in in-rows (b .args .parameters) _ _ _ (b .args .a .now) (b .pre .0) (b .pre .1) (b .pre .2) (b .pre .3)
+turn-lines-requires c κs =
+    let b = c .before in
+    in-rows (b .before .before .before .args .parameters) _ _ _ (b .before .before .before .args .a .now) (are-two _ _ _ _ (sym (b .before .are-lines .ensures) ∙ not-false _ (b .if1 .left)))
 
 same-length : tie.Need-same-length
 same-length c = search needs
 
-returns : tie.Need-returns
-returns c =
-    let b = c .before .before .before .before .before in
-    c .before .before .turn-lines .ensures ∙ columns-turned _ _ _ _ _ (b .pre .0) (b .pre .1) (b .pre .2) (b .pre .3)
+returns-2 : tie.Need-returns-2
+returns-2 c =
+    let t = c .before .before in
+    let b = t .before .before in
+    t .turn-lines .ensures ∙ columns-turned _ _ _ _ (b .before .before .before .args .a .now) (are-two _ _ _ _ (sym (b .before .are-lines .ensures) ∙ not-false _ (b .if1 .left)))
 
 pub turn-columns-spec : {M : Type 1} → statement M
-turn-columns-spec = tie.close (tie.spec turn-lines-requires same-length returns)
+turn-columns-spec =
+    tie.close
+    (tie.spec
+    are-lines-requires
+    returns
+    sub-turn-lines
+    sub-turn-lines-2
+    sub-turn-lines-3
+    sub-turn-lines-4
+    turn-lines-requires
+    same-length
+    returns-2)

@@ -1,28 +1,67 @@
+use Prim.Native.Nat.{_-_, _≤_}
+use mathlib.Core.Path.{sym, _∙_}
 use native.Mathlib.Omega.{arith}
-use lib.Arith.{digits-lt}
-use mathlib.Core.Path.{_∙_}
-use Rattle.matrix.proofs.Turned.{in-columns, rows-turned}
 use borrow.Author.Needs.{needs}
+use borrow.Author.Tests.{not-true, not-false}
+use Rattle.matrix.proofs.Within.{are-two, left-alone}
+use Rattle.matrix.proofs.Turned.{in-columns, rows-turned, offsets-within}
 use Rattle.matrix.proofs.turn_rows.Statement.{statement}
 use Rattle.matrix.proofs.turn_rows.Tie as tie
 
+are-lines-requires : tie.Need-are-lines-requires
+are-lines-requires c κs = search needs
+
+returns : tie.Need-returns
+returns c = left-alone _ _ _ _ _ (sym (c .before .are-lines .ensures) ∙ not-true _ (c .if1 .taken))
+
+sub-turn-lines : tie.Need-sub-turn-lines
+sub-turn-lines c = are-two _ _ _ _ (sym (c .before .are-lines .ensures) ∙ not-false _ (c .if1 .left)) .first-above
+
 mul-turn-lines : tie.Need-mul-turn-lines
-mul-turn-lines c = let b = c .before .args in omega (arith, digits-lt {q = b .p} {m = b .n} {r = 0} {c = b .n} (omega arith) (omega arith))
+mul-turn-lines c =
+    let b = c .before .before .before .args in
+    omega (arith, offsets-within (b .parameters) _ _ _ (b .a .now) (are-two _ _ _ _ (sym (c .before .are-lines .ensures) ∙ not-false _ (c .if1 .left))) .0)
+
+sub-turn-lines-2 : tie.Need-sub-turn-lines-2
+sub-turn-lines-2 c = are-two _ _ _ _ (sym (c .before .are-lines .ensures) ∙ not-false _ (c .if1 .left)) .second-above
 
 mul-turn-lines-2 : tie.Need-mul-turn-lines-2
-mul-turn-lines-2 c = let b = c .before .args in omega (arith, digits-lt {q = b .q} {m = b .n} {r = 0} {c = b .n} (omega arith) (omega arith))
+mul-turn-lines-2 c =
+    let b = c .before .before .before .args in
+    omega (arith, offsets-within (b .parameters) _ _ _ (b .a .now) (are-two _ _ _ _ (sym (c .before .are-lines .ensures) ∙ not-false _ (c .if1 .left))) .1)
+
+sub-turn-lines-3 : tie.Need-sub-turn-lines-3
+sub-turn-lines-3 c = are-two _ _ _ _ (sym (c .before .are-lines .ensures) ∙ not-false _ (c .if1 .left)) .first-above
+
+sub-turn-lines-4 : tie.Need-sub-turn-lines-4
+sub-turn-lines-4 c = are-two _ _ _ _ (sym (c .before .are-lines .ensures) ∙ not-false _ (c .if1 .left)) .second-above
 
 turn-lines-requires : tie.Need-turn-lines-requires
-turn-lines-requires c κs = let b = c .before .before in in-columns (b .args .parameters) _ _ _ (b .args .a .now) (b .pre .0) (b .pre .1) (b .pre .2) (b .pre .3)
+turn-lines-requires c κs =
+    let b = c .before in
+    in-columns (b .before .before .before .args .parameters) _ _ _ (b .before .before .before .args .a .now) (are-two _ _ _ _ (sym (b .before .are-lines .ensures) ∙ not-false _ (b .if1 .left)))
 
 same-length : tie.Need-same-length
 same-length c = search needs
 
-returns : tie.Need-returns
-returns c =
-    let b = c .before .before .before .before .before in
-    c .before .before .turn-lines .ensures ∙ rows-turned _ _ _ _ _ (b .pre .0) (b .pre .1) (b .pre .2) (b .pre .3)
+returns-2 : tie.Need-returns-2
+returns-2 c =
+    let t = c .before .before in
+    let b = t .before .before in
+    t .turn-lines .ensures ∙ rows-turned _ _ _ _ (b .before .before .before .args .a .now) (are-two _ _ _ _ (sym (b .before .are-lines .ensures) ∙ not-false _ (b .if1 .left)))
 
 pub turn-rows-spec : {M : Type 1} → statement M
 turn-rows-spec =
-    tie.close (tie.spec mul-turn-lines mul-turn-lines-2 turn-lines-requires same-length returns)
+    tie.close
+    (tie.spec
+    are-lines-requires
+    returns
+    sub-turn-lines
+    mul-turn-lines
+    sub-turn-lines-2
+    mul-turn-lines-2
+    sub-turn-lines-3
+    sub-turn-lines-4
+    turn-lines-requires
+    same-length
+    returns-2)

@@ -1,0 +1,77 @@
+-- What is known of a matrix whose entries are accepted. Assumes nothing.
+use Prim.Native.Nat.{ℕ, zero, suc, _+_, _-_, _*_, _≤_, _<_}
+use mathlib.Core.Path.{_≡_, refl, sym, ap, _∙_}
+use mathlib.Core.Bool.{Bool, true, false, cond, true≢false}
+use mathlib.Core.List.{List}
+use native.Mathlib.Omega.{arith}
+use borrow.Author.Tests.{eqb-true, ltb-true, ltb-false, lt-ltb}
+use lib.Dec.{T, eqb, ltb}
+use lib.ListN.{length, getD}
+use lib.Ieee.{Float, nan, binary64, fits}
+use Rattle.refusal.specs.Refusal.{Told, given, refused, told}
+use Rattle.refusal.specs.declared.Refusal.the-variants.{Length, NotFinite, NotMirrored}
+use Rattle.float64.specs.Values.{finite, sameBits}
+use Rattle.float64.proofs.Patterns.{same-bits-same}
+use Rattle.matrix.specs.Matrix.{at}
+use Rattle.matrix.specs.Entries.{orElse, first, firstPlace, notFiniteAt, notMirroredAt, entriesOf}
+use Rattle.matrix.proofs.Same.{Line, Finite, Mirrored}
+
+abbrev isGiven : Told Unit → Bool
+isGiven (given x) = true
+isGiven (refused n values) = false
+
+pub refused-given : {A : Type 0} {n : ℕ} {values : List ℕ} → _≡_ {A = Told Unit} (refused n values) (given tt) → A
+refused-given e = absurd (true≢false (sym (ap isGiven e)))
+
+-- neither of two answers is a refusal
+both-given : (x y : Told Unit) → orElse x y ≡ given tt → (x ≡ given tt) × (y ≡ given tt)
+both-given (given tt) y e = (refl, e)
+both-given (refused n values) y e = refused-given e
+
+each-given : (g : ℕ → Told Unit) (n : ℕ) → first n g ≡ given tt → (r : ℕ) → Line n r → g r ≡ given tt
+unfolding first
+each-given g zero e r h = absurd (omega arith)
+each-given g (suc n) e r h = let w = both-given (first n g) (g (suc n)) e in go (ltb r (suc n)) refl w (λ k. each-given g n (w .0) r k)
+  where
+    go : (b : Bool) → ltb r (suc n) ≡ b → (first n g ≡ given tt) × (g (suc n) ≡ given tt) → (Line n r → g r ≡ given tt) → g r ≡ given tt
+    go true z w below = let o : r < suc n = ltb-true _ _ z in below (h .0, omega arith)
+    go false z w below = let o : suc n ≤ r = ltb-false _ _ z in let e : r ≡ suc n = omega (arith, h .1) in rw e (w .1)
+
+of-test : (b : Bool) (x : Told Unit) → (x ≡ given tt → b ≡ true) → cond b (given tt) x ≡ given tt → b ≡ true
+of-test true x f e = refl
+of-test false x f e = f e
+
+module _ (n : ℕ) (l : List Float) (fitting : (k : ℕ) → T (fits binary64 (getD l k nan))) (accepted : entriesOf n l ≡ given tt) where
+  parts : (length l ≡ n * n) × (firstPlace n (notFiniteAt n l) ≡ given tt) × (firstPlace n (notMirroredAt n l) ≡ given tt)
+  parts = unfold entriesOf in (go (eqb (length l) (n * n)) refl accepted)
+    where
+      go : (b : Bool) → eqb (length l) (n * n) ≡ b → cond b (orElse (firstPlace n (notFiniteAt n l)) (firstPlace n (notMirroredAt n l))) (told Length) ≡ given tt
+          → (length l ≡ n * n) × (firstPlace n (notFiniteAt n l) ≡ given tt) × (firstPlace n (notMirroredAt n l) ≡ given tt)
+      go true z e = let w = both-given _ _ e in (eqb-true _ _ z, w .0, w .1)
+      go false z e = refused-given e
+
+  pub accepted-long : length l ≡ n * n
+  accepted-long = parts .0
+
+  pub accepted-finite : Finite n (at n l)
+  accepted-finite r c hr hc = test (each-given _ n (each-given _ n (parts .1) r hr) c hc)
+    where
+      test : notFiniteAt n l r c ≡ given tt → finite (at n l r c) ≡ true
+      test e = unfold notFiniteAt in (of-test (finite (at n l r c)) (told (NotFinite r c)) (λ z. refused-given z) e)
+
+  above : (r c : ℕ) → Line n r → Line n c → r < c → at n l r c ≡ at n l c r
+  above r c hr hc h = test (each-given _ n (each-given _ n (parts .2) r hr) c hc)
+    where
+      same : sameBits (at n l r c) (at n l c r) ≡ true → at n l r c ≡ at n l c r
+      same e = unfold at in (same-bits-same _ _ (fitting _) (fitting _) (unfold at in e))
+
+      test : notMirroredAt n l r c ≡ given tt → at n l r c ≡ at n l c r
+      test e = same (of-test (sameBits (at n l r c) (at n l c r)) (told (NotMirrored r c)) (λ z. refused-given z) (unfold notMirroredAt in (rw (lt-ltb r c h) at e)))
+
+  pub accepted-mirrored : Mirrored n (at n l)
+  accepted-mirrored r c hr hc = go (ltb r c) (ltb c r) refl refl
+    where
+      go : (a b : Bool) → ltb r c ≡ a → ltb c r ≡ b → at n l r c ≡ at n l c r
+      go true b e f = above r c hr hc (ltb-true _ _ e)
+      go false true e f = sym (above c r hc hr (ltb-true _ _ f))
+      go false false e f = let w : c ≤ r = ltb-false _ _ e in let v : r ≤ c = ltb-false _ _ f in let z : r ≡ c = omega arith in rw z

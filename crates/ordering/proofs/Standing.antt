@@ -1,0 +1,49 @@
+-- The lines that stand in the registers of a step: two different ones in each processor, from 1 to n. Assumes nothing.
+use Prim.Native.Nat.{ℕ, suc, _+_, _-_, _*_, _/_, _≤_, _<_}
+use mathlib.Core.Path.{_≡_, sym, ap, _∙_}
+use mathlib.Core.Bool.{Bool, true, false, true≢false}
+use native.Mathlib.Omega.{arith}
+use lib.ListN.{getD}
+use Rattle.systolic.specs.Slots.{Side, left, right, Slot, slot, lineAt, inOrder}
+use Rattle.systolic.proofs.Lines.{line-from, line-one, inOrder-one, inOrder-in}
+use Rattle.ordering.specs.Registers.{registersOf}
+use Rattle.ordering.specs.Pairs.{noOrder, registersAt}
+use Rattle.ordering.proofs.Columns.{column-at}
+use Rattle.ordering.proofs.Orders.{order-is, order-half, odd}
+
+-- the line in the left or the right register of processor k, from 0
+abbrev pub lineOf : ℕ → ℕ → ℕ → Side → ℕ
+lineOf n s k r = lineAt (inOrder 1) (n / 2 - 1) s (slot k r)
+
+module _ (n : ℕ) (order : noOrder n ≡ false) (s k : ℕ) (below : k < n / 2) where
+  pub left-stands : getD (registersAt n s .left) k 0 ≡ lineOf n s k left
+  unfolding registersAt registersOf
+  left-stands = column-at (n / 2) (λ k. lineAt (inOrder 1) (n / 2 - 1) s (slot k left)) k below (order-half n order .1)
+
+  pub right-stands : getD (registersAt n s .right) k 0 ≡ lineOf n s k right
+  unfolding registersAt registersOf
+  right-stands = column-at (n / 2) (λ k. lineAt (inOrder 1) (n / 2 - 1) s (slot k right)) k below (order-half n order .1)
+
+  last : (r : Side) → slot k r .processor ≤ n / 2 - 1
+  last r = unfold slot in (omega arith)
+
+  -- n is twice the number of processors
+  twice : 2 * suc (n / 2 - 1) ≡ n
+  twice = let o = order-is n order in let e : n - 1 ≡ 2 * (n / 2 - 1) + 1 = odd n (o .0) (o .1) in let h = o .1 in omega arith
+
+  pub line-within : (r : Side) → (1 ≤ lineOf n s k r) × (lineOf n s k r ≤ n)
+  line-within r =
+      let w = line-from (inOrder 1) (n / 2 - 1) s (slot k r) (last r) in
+      let i = inOrder-in 1 (n / 2 - 1) (w .0) (w .1) in
+      rw (w .2) (i .0, (let z = twice in let b = i .1 in omega arith))
+
+  pub lines-differ : ¬ (lineOf n s k left ≡ lineOf n s k right)
+  lines-differ e =
+      true≢false (sides (line-one (inOrder 1) (n / 2 - 1) (inOrder-one 1 (n / 2 - 1)) s (slot k left) (slot k right) (last left) (last right) e))
+    where
+      isLeft : Side → Bool
+      isLeft left = true
+      isLeft right = false
+
+      sides : slot k left ≡ slot k right → true ≡ false
+      sides e = unfold slot in (ap (λ (u : Slot). isLeft (u .side)) e)

@@ -1,0 +1,57 @@
+-- The end of a run: whether a value of a list isn't finite, and what is answered then. Assumes nothing.
+use Prim.Native.Nat.{ℕ, suc, _+_, _<_, _≤_}
+use mathlib.Core.Path.{_≡_, refl, sym, ap, _∙_}
+use mathlib.Core.Bool.{Bool, true, false, not}
+use mathlib.Core.List.{List}
+use native.Mathlib.Omega.{arith}
+use native.Mathlib.Numerals.{add-one}
+use lib.ListN.{length, getD}
+use lib.Ieee.{Float, nan}
+use Rattle.refusal.specs.Refusal.{Told, given, told}
+use Rattle.refusal.specs.declared.Refusal.the-variants.{Spoiled}
+use Rattle.float64.specs.Values.{finite}
+use Rattle.systolic.specs.Slots.{any}
+use Rattle.systolic.proofs.Bounded.{false-or, any-hit}
+use Rattle.plain.specs.Run.{Outcome, outcome, zeros, someNotFinite, finishOf}
+
+-- a value below k isn't finite
+abbrev pub notFiniteBelow : List Float → ℕ → Bool
+notFiniteBelow l k = any k (λ i. not (finite (getD l i nan)))
+
+pub none-yet : (l : List Float) → notFiniteBelow l 0 ≡ false
+unfolding any
+none-yet l = refl
+
+module _ (l : List Float) (k : ℕ) where
+  pub none-more : notFiniteBelow l k ≡ false → finite (getD l k nan) ≡ true → notFiniteBelow l (k + 1) ≡ false
+  unfolding any
+  none-more e f = rw (add-one, e, f)
+
+  pub one-found : k < length l → finite (getD l k nan) ≡ false → false ≡ not (someNotFinite l)
+  unfolding someNotFinite
+  one-found h e = sym (ap not (any-hit (length l) _ k h (ap not e)))
+
+  pub none-found : notFiniteBelow l k ≡ false → k ≡ length l → true ≡ not (someNotFinite l)
+  unfolding someNotFinite
+  none-found e z = sym (ap not (ap (notFiniteBelow l) (sym z) ∙ e))
+
+-- not of a test
+pub of-not : (b : Bool) {c : Bool} → c ≡ not b → (c ≡ false → b ≡ true) × (c ≡ true → b ≡ false)
+of-not true e = (λ _. refl, λ z. sym z ∙ e)
+of-not false e = (λ z. sym z ∙ e, λ _. refl)
+
+module _ (n : ℕ) (l e : List Float) where
+  pub spoils-first : {o : Outcome} → someNotFinite l ≡ true → o ≡ outcome (told Spoiled) (zeros n) (zeros n) → o ≡ finishOf n l e
+  unfolding finishOf
+  spoils-first f z = rw f z
+
+  pub spoils-second : {o : Outcome} → someNotFinite l ≡ false → someNotFinite e ≡ true → o ≡ outcome (told Spoiled) (zeros n) (zeros n) → o ≡ finishOf n l e
+  unfolding finishOf
+  spoils-second f g z = rw (f, g) z
+
+  pub stays : someNotFinite l ≡ false → someNotFinite e ≡ false → outcome (given tt) l e ≡ finishOf n l e
+  unfolding finishOf
+  stays f g = rw (f, g)
+
+pub spoiled-outcome : (n : ℕ) {l e : List Float} → l ≡ zeros n → e ≡ zeros n → outcome (told Spoiled) l e ≡ outcome (told Spoiled) (zeros n) (zeros n)
+spoiled-outcome n f g = rw (f, g)

@@ -1,0 +1,151 @@
+-- From the parts of a run to its outcome. Assumes nothing.
+use Prim.Native.Nat.{ℕ, zero, suc, _+_, _-_, _*_, _/_, _%_, _^_, _≤_, _<_}
+use mathlib.Core.Path.{_≡_, refl, sym, ap, _∙_}
+use mathlib.Core.Bool.{Bool, true, false, not, cond, _||_, _&&_, true≢false}
+use mathlib.Core.List.{List}
+use native.Mathlib.Omega.{arith}
+use native.Mathlib.Nat.{div-add-mod', mul-le-mul}
+use borrow.Author.Tests.{eqb-true, ltb-false}
+use lib.Arith.{digits-lt}
+use lib.Dec.{T, eqb, ltb}
+use lib.ListN.{length, getD}
+use lib.Ieee.{Float, nan, binary64, fits, ofBits}
+use Rattle.refusal.specs.Refusal.{Told, given, refused, told}
+use Rattle.refusal.specs.declared.Refusal.the-variants.{Order, Sweeps, Length, Spoiled}
+use Rattle.float64.specs.Values.{plusZero, one, finite}
+use Rattle.systolic.proofs.Bounded.{or-false, false-or, same-bool, any-to, any-from}
+use Rattle.ordering.specs.Pairs.{noOrder, limit}
+use Rattle.ordering.proofs.Orders.{order-is}
+use Rattle.matrix.specs.Matrix.{at, flat}
+use Rattle.matrix.specs.Entries.{entriesOf}
+use Rattle.matrix.proofs.Flat.{row-lt, column-lt, at-offset, at-flat}
+use Rattle.matrix.proofs.Same.{Line, Finite, Mirrored, read-again}
+use Rattle.matrix.proofs.Accepted.{refused-given, accepted-long, accepted-finite, accepted-mirrored}
+use Rattle.plain.specs.State.{State, identity, after, notFinite, spoiled, stateOf, Held}
+use Rattle.plain.specs.Run.{mostSweeps, stepsOf, beforeRun, Outcome, outcome, startOf, zeros, someNotFinite, finishOf, ranOf, unlessRefused, runOf}
+use Rattle.plain.proofs.Steps.{Alike, held-long, held-alike, after-alike}
+use Rattle.plain.proofs.Persists.{FiniteState, finite-state, state-finite, spoiled-at-end}
+
+-- ---- the refusals before a run
+pub record Begins (n sweeps : ℕ) (l : List Float) (lr lv : ℕ) : Type 0 where
+  pub order : noOrder n ≡ false
+  pub few : sweeps ≤ mostSweeps
+  pub result-long : lr ≡ n * n
+  pub vectors-long : lv ≡ n * n
+  pub entries : entriesOf n l ≡ given tt
+
+pub begins : (n sweeps : ℕ) (l : List Float) (lr lv : ℕ) → beforeRun n sweeps l lr lv ≡ given tt → Begins n sweeps l lr lv
+unfolding beforeRun
+begins n sweeps l lr lv e = go (noOrder n) (ltb mostSweeps sweeps) (eqb lr (n * n)) (eqb lv (n * n)) refl refl refl refl e
+  where
+    go : (a b c d : Bool) → noOrder n ≡ a → ltb mostSweeps sweeps ≡ b → eqb lr (n * n) ≡ c → eqb lv (n * n) ≡ d
+        → cond a (told Order) (cond b (told Sweeps) (cond (c && d) (entriesOf n l) (told Length))) ≡ given tt → Begins n sweeps l lr lv
+    go true b c d x y z w e = refused-given e
+    go false true c d x y z w e = refused-given e
+    go false false false d x y z w e = refused-given e
+    go false false true false x y z w e = refused-given e
+    go false false true true x y z w e =
+        record { order = x; few = ltb-false 16 sweeps y; result-long = eqb-true _ _ z; vectors-long = eqb-true _ _ w; entries = e }
+
+pub order-above : (n : ℕ) → noOrder n ≡ false → 1 ≤ n
+order-above n e = let o = order-is n e in omega (arith, o .1)
+
+-- the number of steps is small
+pub steps-fit : (n sweeps : ℕ) → noOrder n ≡ false → sweeps ≤ mostSweeps → stepsOf n sweeps < 2 ^ 64
+steps-fit n sweeps e few =
+    let o = order-is n e in
+    let h : n - 1 ≤ limit = omega (arith, o .2) in
+    let w : sweeps * (n - 1) ≤ mostSweeps * limit = mul-le-mul few h in
+    omega arith
+
+-- ---- the two lists at the end
+module _ (n : ℕ) where
+  of-not : (b : Bool) → not b ≡ false → b ≡ true
+  of-not true e = refl
+  of-not false e = sym e
+
+  finite-of-list : (A : ℕ → ℕ → Float) (l : List Float) → l ≡ flat n A → length l ≡ n * n → someNotFinite l ≡ false → Finite n A
+  finite-of-list A l e long f r c hr hc = rw (← (read-again n A r c hr hc), ← e) (of-not _ (unfold someNotFinite at in (any-to (length l) _ f ((r - 1) * n + (c - 1)) inside)))
+    where
+      inside : (r - 1) * n + (c - 1) < length l
+      inside = rw long (digits-lt {q = r - 1} {m = n} {r = c - 1} {c = n} (omega arith) (omega arith))
+
+  list-of-finite : (A : ℕ → ℕ → Float) (l : List Float) → l ≡ flat n A → length l ≡ n * n → Finite n A → someNotFinite l ≡ false
+  list-of-finite A l e long f =
+      unfold someNotFinite in (any-from (length l) _ (λ k h. ap not (each k (rw long at h))))
+    where
+      entry-finite : (k : ℕ) → k < n * n → finite (A (k / n + 1) (k % n + 1)) ≡ true
+      entry-finite k h =
+          let a = row-lt n k h in
+          let b = column-lt n k h in
+          f (k / n + 1) (k % n + 1) (omega arith, omega arith) (omega arith, omega arith)
+
+      each : (k : ℕ) → k < n * n → finite (getD l k nan) ≡ true
+      each k h =
+          ap (λ (i : ℕ). finite (getD l i nan)) (sym (div-add-mod' k n)) ∙ ap finite (sym (at-offset n l (k / n) (k % n)))
+          ∙ ap (λ (l : List Float). finite (at n l (k / n + 1) (k % n + 1))) e ∙ ap finite (at-flat n A (k / n) (k % n) (row-lt n k h) (column-lt n k h))
+          ∙ entry-finite k h
+
+  pub lists-finite : (l e : List Float) (X : State) → Held n l e X → (someNotFinite l || someNotFinite e) ≡ notFinite n X
+  lists-finite l e X h = same-bool _ _ to from
+    where
+      long : (length l ≡ n * n) × (length e ≡ n * n)
+      long = held-long n l e X h
+
+      to : (someNotFinite l || someNotFinite e) ≡ false → notFinite n X ≡ false
+      to f =
+          let o = or-false _ _ f in
+          state-finite n X
+          (record {
+            finite-matrix = finite-of-list (X .matrix) l (h .matrix-held) (long .0) (o .0);
+            finite-vectors = finite-of-list (X .vectors) e (h .vectors-held) (long .1) (o .1);
+          })
+
+      from : notFinite n X ≡ false → (someNotFinite l || someNotFinite e) ≡ false
+      from f =
+          let o = finite-state n X f in
+          false-or _ _ (list-of-finite (X .matrix) l (h .matrix-held) (long .0) (o .finite-matrix))
+          (list-of-finite (X .vectors) e (h .vectors-held) (long .1) (o .finite-vectors))
+
+-- ---- the start of a run
+identity-finite : (n : ℕ) → Finite n identity
+unfolding identity finite ofBits
+identity-finite n r c hr hc = go (eqb r c)
+  where
+    go : (b : Bool) → finite (cond b one plusZero) ≡ true
+    go true = refl
+    go false = refl
+
+module _ (n sweeps : ℕ) (l : List Float) (fitting : (k : ℕ) → T (fits binary64 (getD l k nan))) (lr lv : ℕ) (b : Begins n sweeps l lr lv) where
+  start-alike : (e : List Float) → e ≡ flat n identity → Alike n (stateOf n l e) (startOf n l)
+  unfolding stateOf startOf
+  start-alike e z = record { matrices = λ r c hr hc. refl; eigenvectors = λ r c hr hc. ap (λ (e : List Float). at n e r c) z ∙ read-again n identity r c hr hc }
+
+  start-finite : FiniteState n (startOf n l)
+  unfolding startOf
+  start-finite = record { finite-matrix = accepted-finite n l fitting (b .entries); finite-vectors = identity-finite n }
+
+  start-mirrored : Mirrored n (startOf n l .matrix)
+  unfolding startOf
+  start-mirrored = accepted-mirrored n l fitting (b .entries)
+
+  -- a run is the start, the steps and the end
+  pub run-made : {o : Outcome} (l₀ e₀ l₁ e₁ : List Float) → l₀ ≡ l → e₀ ≡ flat n identity → Held n l₁ e₁ (after n (stepsOf n sweeps) (stateOf n l₀ e₀))
+      → o ≡ finishOf n l₁ e₁ → o ≡ ranOf n sweeps l
+  unfolding finishOf ranOf
+  run-made l₀ e₀ l₁ e₁ z y h f =
+      let K = stepsOf n sweeps in
+      let X = startOf n l in
+      let held : Held n l₁ e₁ (after n K X) = held-alike n l₁ e₁ _ _ (rw z at h) (after-alike n (b .order) K _ _ (start-alike e₀ y)) in
+      let s : (someNotFinite l₁ || someNotFinite e₁) ≡ spoiled n K X = lists-finite n l₁ e₁ _ held ∙ sym (spoiled-at-end n (b .order) X start-mirrored start-finite K) in
+      rw (← s, ← (held .matrix-held), ← (held .vectors-held)) f
+
+-- ---- a refused run, and one that is not
+module _ (n sweeps : ℕ) (l r v : List Float) where
+  pub run-refused : {k : ℕ} {values : List ℕ} → refused k values ≡ beforeRun n sweeps l (length r) (length v) → outcome (refused k values) r v ≡ runOf n sweeps l r v
+  unfolding runOf
+  run-refused e = rw (← e)
+
+  pub run-accepted-as : {o : Outcome} → given tt ≡ beforeRun n sweeps l (length r) (length v) → o ≡ ranOf n sweeps l → o ≡ runOf n sweeps l r v
+  unfolding runOf
+  run-accepted-as e f = rw (← e) f

@@ -1,0 +1,35 @@
+-- What the loops over a whole list leave in it. Assumes nothing.
+use Prim.Native.Nat.{ℕ, _+_, _*_, _/_, _%_, _≤_}
+use mathlib.Core.Path.{_≡_, refl, sym, _∙_}
+use mathlib.Core.List.{List}
+use native.Mathlib.Omega.{arith}
+use borrow.Author.Tests.{eq-eqb, ne-eqb}
+use lib.ListN.{length, getD}
+use lib.Ieee.{Float, nan}
+use Rattle.float64.specs.Values.{plusZero, one}
+use Rattle.lists.proofs.Tabulated.{tabulated}
+use Rattle.lists.proofs.Filled.{Filled, filled-all}
+use Rattle.matrix.specs.Matrix.{flat}
+use Rattle.plain.specs.State.{identity}
+use Rattle.plain.specs.Run.{zeros}
+
+pub copied : (from : List Float) (k : ℕ) (l : List Float) → Filled nan (λ i. getD from i nan) (length from) k l → length from ≤ k → l ≡ from
+copied from k l h o = filled-all k l h o ∙ sym (tabulated (length from) _ from nan refl (λ i b. refl))
+
+module _ (n k : ℕ) (l : List Float) where
+  pub zeros-filled : Filled nan (λ i. plusZero) (n * n) k l → n * n ≤ k → l ≡ zeros n
+  unfolding zeros flat
+  zeros-filled h o = filled-all k l h o
+
+  pub identity-filled : Filled nan (λ i. identity (i / n + 1) (i % n + 1)) (n * n) k l → n * n ≤ k → l ≡ flat n identity
+  unfolding flat
+  identity-filled h o = filled-all k l h o
+
+module _ (i j : ℕ) where
+  pub on-diagonal : i ≡ j → one ≡ identity (i + 1) (j + 1)
+  unfolding identity
+  on-diagonal e = rw (eq-eqb (i + 1) (j + 1) (omega arith))
+
+  pub off-diagonal : ¬ (i ≡ j) → plusZero ≡ identity (i + 1) (j + 1)
+  unfolding identity
+  off-diagonal e = rw (ne-eqb (i + 1) (j + 1) (λ z. e (omega arith)))

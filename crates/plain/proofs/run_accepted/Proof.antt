@@ -1,0 +1,68 @@
+use borrow.Author.Needs.{needs}
+use mathlib.Core.Path.{sym, _∙_}
+use native.Mathlib.Omega.{arith}
+use Rattle.matrix.proofs.Accepted.{accepted-long}
+use Rattle.plain.proofs.Steps.{held-long}
+use Rattle.plain.proofs.Outcomes.{begins, order-above, steps-fit, run-made}
+use Rattle.plain.proofs.run_accepted.Statement.{statement}
+use Rattle.plain.proofs.run_accepted.Tie as tie
+
+copy-requires : tie.Need-copy-requires
+copy-requires c κs =
+    let k = c .before .before .before in
+    let t = begins _ _ (k .before .args .matrix .now) _ _ (k .before .pre) in
+    t .result-long ∙ sym (accepted-long _ _ (k .shared-slice-known .given) (t .entries))
+
+set-identity-requires : tie.Need-set-identity-requires
+set-identity-requires c κs =
+    let s = c .before .before .before .before .before .before .before .before in
+    let t = begins _ _ (s .args .matrix .now) _ _ (s .pre) in
+    (order-above _ (t .order), omega (arith, t .vectors-long))
+
+sub-make-steps : tie.Need-sub-make-steps
+sub-make-steps c = let s = c .before .before .before .before .before .before .before .before .before .before .before in order-above _ (begins _ _ (s .args .matrix .now) _ _ (s .pre) .order)
+
+mul-make-steps : tie.Need-mul-make-steps
+mul-make-steps c =
+    let s = c .before .before .before .before .before .before .before .before .before .before .before in
+    let t = begins _ _ (s .args .matrix .now) _ _ (s .pre) in
+    omega (arith, steps-fit _ _ (t .order) (t .few))
+
+make-steps-requires : tie.Need-make-steps-requires
+make-steps-requires c κs =
+    let s = c .before .before .before .before .before .before .before .before .before .before .before .before .before in
+    let t = begins _ _ (s .args .matrix .now) _ _ (s .pre) in
+    (t .order, omega (arith, t .result-long), omega (arith, t .vectors-long))
+
+finish-requires : tie.Need-finish-requires
+finish-requires c κs = held-long _ _ _ _ (c .before .before .before .before .before .before .make-steps .ensures)
+
+same-length : tie.Need-same-length
+same-length c = search needs
+
+same-length-2 : tie.Need-same-length-2
+same-length-2 c = search needs
+
+returns : tie.Need-returns
+returns c =
+    let f = c .before .before .before .before in
+    let m = f .before .before .before .before .before .before .before in
+    let i = m .before .before .before .before .before in
+    let a = i .before .before .before .before in
+    let k = a .before .before .before .before in
+    let t = begins _ _ (k .before .args .matrix .now) _ _ (k .before .pre) in
+    run-made _ _ _ (k .shared-slice-known .given) _ _ t _ _ _ _ (a .copy .ensures) (i .set-identity .ensures) (m .make-steps .ensures) (f .finish .ensures)
+
+pub run-accepted-spec : {M : Type 1} → statement M
+run-accepted-spec =
+    tie.close
+    (tie.spec
+    copy-requires
+    set-identity-requires
+    sub-make-steps
+    mul-make-steps
+    make-steps-requires
+    finish-requires
+    same-length
+    same-length-2
+    returns)

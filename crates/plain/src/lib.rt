@@ -1,0 +1,233 @@
+// The plain run (document 01, "Pairs and their movement").
+ghost use mathlib.Core.Path.{_≡_};
+ghost use mathlib.Core.Bool.{true, false, not};
+ghost use Prim.Native.Nat.{ℕ, _+_, _*_, _/_, _<_, _≤_};
+ghost use lib.ListN.{length, getD};
+ghost use Rattle.float64.specs.Values.{plusZero};
+ghost use Rattle.refusal.specs.Refusal.{given, told, toldAnswer};
+ghost use Rattle.refusal.specs.declared.Refusal.the-variants.{Spoiled};
+ghost use Rattle.rotation.specs.declared.Parameters.the-variants.{Turn};
+ghost use Rattle.ordering.specs.Pairs.{noOrder, limit};
+ghost use Rattle.matrix.specs.Matrix.{at, flat};
+ghost use Rattle.matrix.specs.Turns.{twoLines};
+ghost use Rattle.plain.specs.State.{identity, withEntry, parametersOf, pairTurned, pairStep, pairsStep, after, stateOf, Held};
+ghost use Rattle.plain.specs.Run.{beforeRun, outcome, zeros, someNotFinite, finishOf, ranOf, runOf};
+use ordering::Registers;
+use refusal::Answer;
+use refusal::Refusal;
+use rotation::Parameters;
+
+// Runs a number of sweeps on a matrix of order n and leaves the last matrix and the eigenvectors in the two results.
+pub fn run(
+    n: usize,
+    sweeps: usize,
+    matrix: &[f64],
+    result: &mut [f64],
+    vectors: &mut [f64],
+) -> Answer
+    ensures { λ r. ⌜ outcome (toldAnswer r) (now (result .exit)) (now (vectors .exit)) ≡ runOf n sweeps (now (matrix .entry)) (now (result .entry)) (now (vectors .entry)) ⌝ }
+{
+    match verdict(n, sweeps, matrix, result.len(), vectors.len()) {
+        Answer::Accepted => run_accepted(n, sweeps, matrix, result, vectors),
+        Answer::Refused(refused) => Answer::Refused(refused),
+    }
+}
+
+// Refusals 1, 2, 3, 5 and 6, where the two results have the lengths first and second.
+fn verdict(n: usize, sweeps: usize, matrix: &[f64], first: usize, second: usize) -> Answer
+    ensures { λ r. ⌜ toldAnswer r ≡ beforeRun n sweeps (now (matrix .entry)) first second ⌝ }
+{
+    if ordering::is_no_order(n) {
+        return Answer::Refused(Refusal::Order);
+    }
+    if sweeps > 16 {
+        return Answer::Refused(Refusal::Sweeps);
+    }
+    if !matrix::is_square(n, first) {
+        return Answer::Refused(Refusal::Length);
+    }
+    if !matrix::is_square(n, second) {
+        return Answer::Refused(Refusal::Length);
+    }
+    matrix::tested(n, matrix)
+}
+
+// A run that is not refused before it.
+fn run_accepted(
+    n: usize,
+    sweeps: usize,
+    matrix: &[f64],
+    result: &mut [f64],
+    vectors: &mut [f64],
+) -> Answer
+    requires { ⌜ beforeRun n sweeps (now matrix) (length (now result)) (length (now vectors)) ≡ given tt ⌝ }
+    ensures { λ r. ⌜ outcome (toldAnswer r) (now (result .exit)) (now (vectors .exit)) ≡ ranOf n sweeps (now (matrix .entry)) ⌝ }
+{
+    copy(matrix, result);
+    set_identity(n, vectors);
+    make_steps(n, sweeps * (n - 1), result, vectors);
+    finish(n, result, vectors)
+}
+
+fn copy(from: &[f64], to: &mut [f64])
+    requires { ⌜ length (now to) ≡ length (now from) ⌝ }
+    ensures { λ _. ⌜ now (to .exit) ≡ now (from .entry) ⌝ }
+{
+    for k in 0..from.len() {
+        to[k] = from[k];
+    }
+}
+
+fn set_identity(n: usize, a: &mut [f64])
+    requires { ⌜ (1 ≤ n) × (length (now a) ≡ n * n) ⌝ }
+    ensures { λ _. ⌜ now (a .exit) ≡ flat n identity ⌝ }
+{
+    for k in 0..a.len() {
+        a[k] = identity_entry(k / n, k % n);
+    }
+}
+
+fn identity_entry(i: usize, j: usize) -> f64
+    ensures { λ r. ⌜ r ≡ identity (i + 1) (j + 1) ⌝ }
+{
+    if i == j {
+        return 1.0;
+    }
+    0.0
+}
+
+// Makes the steps 0 to count - 1.
+fn make_steps(n: usize, count: usize, a: &mut [f64], vectors: &mut [f64])
+    requires { ⌜ (noOrder n ≡ false) × (length (now a) ≡ n * n) × (length (now vectors) ≡ n * n) ⌝ }
+    ensures { λ _. ⌜ Held n (now (a .exit)) (now (vectors .exit)) (after n count (stateOf n (now (a .entry)) (now (vectors .entry)))) ⌝ }
+{
+    let mut registers = Registers::of_order(n);
+    let mut k = 0;
+    while k < count {
+        make_pairs(n, registers, a, vectors);
+        let next = registers.after_step(n);
+        registers = next;
+        k += 1;
+    }
+}
+
+// Turns the pairs of all processors, in order.
+fn make_pairs(n: usize, registers: Registers, a: &mut [f64], vectors: &mut [f64])
+    requires { ⌜ (n ≤ limit) × (length (now a) ≡ n * n) × (length (now vectors) ≡ n * n) ⌝ }
+    requires { ⌜ ((k : ℕ) → k < n / 2 → twoLines n (getD (registers .left) k 0) (getD (registers .right) k 0) (n * n) ≡ true) ⌝ }
+    ensures { λ _. ⌜ Held n (now (a .exit)) (now (vectors .exit)) (pairsStep (registers .left) (registers .right) (n / 2) (stateOf n (now (a .entry)) (now (vectors .entry)))) ⌝ }
+{
+    let lefts = registers.left;
+    let rights = registers.right;
+    for k in 0..n / 2 {
+        make_pair(n, lefts[k], rights[k], a, vectors);
+    }
+}
+
+// Turns the lines p and q.
+fn make_pair(n: usize, p: usize, q: usize, a: &mut [f64], vectors: &mut [f64])
+    requires { ⌜ (twoLines n p q (length (now a)) ≡ true) × (length (now vectors) ≡ n * n) ⌝ }
+    ensures { λ _. ⌜ Held n (now (a .exit)) (now (vectors .exit)) (pairStep p q (stateOf n (now (a .entry)) (now (vectors .entry)))) ⌝ }
+{
+    match parameters(n, p, q, a) {
+        Parameters::Still => clear_pair(n, p, q, a),
+        Parameters::Turn(t, c, s) => {
+            turn_matrix(t, c, s, n, p, q, a);
+            matrix::turn_all_columns(Parameters::Turn(t, c, s), n, p, q, vectors);
+        }
+    }
+}
+
+// The parameters of the pair of the lines p and q.
+fn parameters(n: usize, p: usize, q: usize, a: &[f64]) -> Parameters
+    requires { ⌜ twoLines n p q (length (now a)) ≡ true ⌝ }
+    ensures { λ r. ⌜ r ≡ parametersOf p q (at n (now (a .entry))) ⌝ }
+{
+    rotation::of_pair(entry(n, p, p, a), entry(n, q, q, a), entry(n, p, q, a))
+}
+
+// The matrix with the lines p and q turned.
+fn turn_matrix(t: f64, c: f64, s: f64, n: usize, p: usize, q: usize, a: &mut [f64])
+    requires { ⌜ twoLines n p q (length (now a)) ≡ true ⌝ }
+    ensures { λ _. ⌜ now (a .exit) ≡ flat n (pairTurned (Turn t c s) p q (at n (now (a .entry)))) ⌝ }
+{
+    let sides = rotation::diagonal(
+        Parameters::Turn(t, c, s),
+        entry(n, p, p, a),
+        entry(n, q, q, a),
+        entry(n, p, q, a),
+    );
+    matrix::turn_rows(Parameters::Turn(t, c, s), n, p, q, a);
+    matrix::turn_columns(Parameters::Turn(t, c, s), n, p, q, a);
+    set_entry(n, p, p, sides.left, a);
+    set_entry(n, q, q, sides.right, a);
+    clear_pair(n, p, q, a);
+}
+
+// Sets a_pq and a_qp to +0.
+fn clear_pair(n: usize, p: usize, q: usize, a: &mut [f64])
+    requires { ⌜ twoLines n p q (length (now a)) ≡ true ⌝ }
+    ensures { λ _. ⌜ now (a .exit) ≡ flat n (withEntry q p plusZero (withEntry p q plusZero (at n (now (a .entry))))) ⌝ }
+{
+    set_entry(n, p, q, 0.0, a);
+    set_entry(n, q, p, 0.0, a);
+}
+
+// The entry in row p and column q.
+fn entry(n: usize, p: usize, q: usize, a: &[f64]) -> f64
+    requires { ⌜ (length (now a) ≡ n * n) × (1 ≤ p) × (p ≤ n) × (1 ≤ q) × (q ≤ n) ⌝ }
+    ensures { λ r. ⌜ r ≡ at n (now (a .entry)) p q ⌝ }
+{
+    a[(p - 1) * n + (q - 1)]
+}
+
+// Sets the entry in row p and column q.
+fn set_entry(n: usize, p: usize, q: usize, x: f64, a: &mut [f64])
+    requires { ⌜ (length (now a) ≡ n * n) × (1 ≤ p) × (p ≤ n) × (1 ≤ q) × (q ≤ n) ⌝ }
+    ensures { λ _. ⌜ now (a .exit) ≡ flat n (withEntry p q x (at n (now (a .entry)))) ⌝ }
+{
+    a[(p - 1) * n + (q - 1)] = x;
+}
+
+// Refusal 8 if an entry is not finite, and then +0 everywhere.
+fn finish(n: usize, a: &mut [f64], vectors: &mut [f64]) -> Answer
+    requires { ⌜ (length (now a) ≡ n * n) × (length (now vectors) ≡ n * n) ⌝ }
+    ensures { λ r. ⌜ outcome (toldAnswer r) (now (a .exit)) (now (vectors .exit)) ≡ finishOf n (now (a .entry)) (now (vectors .entry)) ⌝ }
+{
+    if !all_finite(a) {
+        return spoil(n, a, vectors);
+    }
+    if !all_finite(vectors) {
+        return spoil(n, a, vectors);
+    }
+    Answer::Accepted
+}
+
+fn all_finite(a: &[f64]) -> bool
+    ensures { λ r. ⌜ r ≡ not (someNotFinite (now (a .entry))) ⌝ }
+{
+    for k in 0..a.len() {
+        if !float64::is_finite(a[k]) {
+            return false;
+        }
+    }
+    true
+}
+
+fn spoil(n: usize, a: &mut [f64], vectors: &mut [f64]) -> Answer
+    requires { ⌜ (length (now a) ≡ n * n) × (length (now vectors) ≡ n * n) ⌝ }
+    ensures { λ r. ⌜ outcome (toldAnswer r) (now (a .exit)) (now (vectors .exit)) ≡ outcome (told Spoiled) (zeros n) (zeros n) ⌝ }
+{
+    clear(n, a);
+    clear(n, vectors);
+    Answer::Refused(Refusal::Spoiled)
+}
+
+fn clear(n: usize, a: &mut [f64])
+    requires { ⌜ length (now a) ≡ n * n ⌝ }
+    ensures { λ _. ⌜ now (a .exit) ≡ zeros n ⌝ }
+{
+    for k in 0..a.len() {
+        a[k] = 0.0;
+    }
+}

@@ -1,0 +1,670 @@
+#!/usr/bin/env python3
+"""Writes crates/plain_vectors/stdin and crates/plain_vectors/stdout: orders, sweeps and matrices, and
+what the plain run makes of them by document 01, "One rotation", "Pairs and their movement" and
+"Refused, by place".
+
+The arithmetic is that of Python's float, which is binary64 rounded to nearest. No operation here is
+fused with another, and none divides by zero.
+"""
+import collections
+import math
+import pathlib
+import random
+import struct
+
+HIDDEN = 1 << 52  # the leading digit of a normal value, which its pattern leaves out
+SIGN = 1 << 63
+INFINITY = 0x7FF << 52
+NAN = 0x7FF8 << 48
+ZERO = 0
+ONE = 0x3FF << 52
+THREE = 0x4008 << 48
+HALF_ROOT = 0x3FE6A09E667F3BCC  # as document 01 prints it
+LARGEST = INFINITY - 1
+TOP = 2046  # the exponent field of the largest values
+LAST = (1 << 64) - 1  # of a usize
+STILL = None
+
+# An order, sweeps, the patterns of a matrix, and the lengths of the two results.
+Case = collections.namedtuple("Case", "n sweeps matrix result_size vectors_size")
+
+# What a run answers: the number of its refusal, and its row and column, if it has them; the patterns of
+# the two results, or None where they keep what they hold; and the step that spoils it, from 0.
+Outcome = collections.namedtuple("Outcome", "number place result vectors spoiled", defaults=[None] * 5)
+
+
+def value_of(pattern):
+    return struct.unpack(">d", pattern.to_bytes(8, "big"))[0]
+
+
+def pattern_of(value):
+    return int.from_bytes(struct.pack(">d", value), "big")
+
+
+def case_of(n, sweeps, matrix):
+    return Case(n, sweeps, matrix, n * n, n * n)
+
+
+# From document 01, "The printed sheet" and "Entries to try", with the outcome of each. The third is the
+# second with -0.
+EXAMPLES = [
+    (
+        case_of(2, 1, [ONE, ONE, ONE, ONE]),
+        Outcome(
+            result=[ZERO, ZERO, ZERO, 0x4000 << 48],
+            vectors=[HALF_ROOT, HALF_ROOT, SIGN + HALF_ROOT, HALF_ROOT],
+        ),
+    ),
+    (
+        case_of(2, 1, [ONE, ZERO, ZERO, THREE]),
+        Outcome(result=[ONE, ZERO, ZERO, THREE], vectors=[ONE, ZERO, ZERO, ONE]),
+    ),
+    (
+        case_of(2, 1, [ONE, SIGN, SIGN, THREE]),
+        Outcome(result=[ONE, ZERO, ZERO, THREE], vectors=[ONE, ZERO, ZERO, ONE]),
+    ),
+    (
+        case_of(2, 1, [LARGEST] * 4),
+        Outcome(number=8, result=[ZERO] * 4, vectors=[ZERO] * 4, spoiled=0),
+    ),
+]
+
+
+# The model. A matrix is a list of rows, and its lines are counted from 0.
+
+
+def parameters(a, d, b):
+    """STILL, or the tangent, the cosine and the sine."""
+    t = 0.0
+    if b != 0:
+        xi = (d - a) / (2 * b)
+        sign = -1.0 if xi < 0 else 1.0
+        t = sign / (abs(xi) + math.sqrt(1 + xi * xi))
+    if t == 0:
+        return STILL
+    c = 1 / math.sqrt(1 + t * t)
+    return t, c, t * c
+
+
+def turn(c, s, x, y):
+    return c * x - s * y, s * x + c * y
+
+
+def turn_pair(a, vectors, p, q):
+    """Gives the pair of the lines p and q its parameters, its row turn and its column turn."""
+    pp, qq, pq = a[p][p], a[q][q], a[p][q]
+    found = parameters(pp, qq, pq)
+    if found is not STILL:
+        t, c, s = found
+        others = [r for r in range(len(a)) if r not in (p, q)]
+        for r in others:
+            a[p][r], a[q][r] = turn(c, s, a[p][r], a[q][r])
+        for r in others:
+            a[r][p], a[r][q] = turn(c, s, a[r][p], a[r][q])
+        a[p][p], a[q][q] = pp - t * pq, qq + t * pq
+        for row in vectors:
+            row[p], row[q] = turn(c, s, row[p], row[q])
+    a[p][q] = a[q][p] = 0.0
+
+
+def moved(left, right):
+    """What the registers hold after a step."""
+    if len(left) == 1:
+        return left, right
+    return [left[0], right[0], *left[1:-1]], [*right[1:], left[-1]]
+
+
+def make_steps(n, sweeps, a, vectors):
+    """Makes the steps of a run, and stops after each."""
+    left, right = list(range(1, n, 2)), list(range(2, n + 1, 2))
+    for _ in range(sweeps * (n - 1)):
+        for p, q in zip(left, right):
+            turn_pair(a, vectors, p - 1, q - 1)
+        yield
+        left, right = moved(left, right)
+
+
+def rows_of(n, matrix):
+    values = [value_of(pattern) for pattern in matrix]
+    return [values[i * n : i * n + n] for i in range(n)]
+
+
+def identity(n):
+    return [[float(i == j) for j in range(n)] for i in range(n)]
+
+
+def patterns_of(a):
+    return [pattern_of(value) for row in a for value in row]
+
+
+def all_finite(a):
+    return all(math.isfinite(value) for row in a for value in row)
+
+
+def ran(n, sweeps, matrix):
+    """The outcome of a run that is not refused before it."""
+    a, vectors = rows_of(n, matrix), identity(n)
+    for step, _ in enumerate(make_steps(n, sweeps, a, vectors)):
+        if not all_finite(a) or not all_finite(vectors):
+            return Outcome(number=8, result=[ZERO] * n * n, vectors=[ZERO] * n * n, spoiled=step)
+    return Outcome(result=patterns_of(a), vectors=patterns_of(vectors))
+
+
+def first_place(n, is_bad):
+    """The row and the column, from 1, of the first entry in row order that is bad."""
+    for i in range(n):
+        for j in range(n):
+            if is_bad(i, j):
+                return i + 1, j + 1
+    return None
+
+
+def outcome_of(case):
+    """The refusals in the order of document 01's table, and then the run."""
+    n, sweeps, matrix = case.n, case.sweeps, case.matrix
+    if n % 2 == 1 or n < 2 or n > 32:
+        return Outcome(number=1)
+    if sweeps > 16:
+        return Outcome(number=2)
+    if any(size != n * n for size in (len(matrix), case.result_size, case.vectors_size)):
+        return Outcome(number=3)
+    place = first_place(n, lambda i, j: matrix[i * n + j] % SIGN >= INFINITY)
+    if place:
+        return Outcome(number=5, place=place)
+    place = first_place(n, lambda i, j: i < j and matrix[i * n + j] != matrix[j * n + i])
+    if place:
+        return Outcome(number=6, place=place)
+    return ran(n, sweeps, matrix)
+
+
+# The matrices of runs, by kind. Each is made for an order and a number of sweeps.
+
+
+def within(rng, low, high):
+    """A random value of either sign, its exponent field from low to high."""
+    size = rng.randint(low, high) * HIDDEN + rng.getrandbits(52)
+    return value_of(rng.getrandbits(1) * SIGN + size)
+
+
+def mirrored(n, entry):
+    """The patterns of the matrix with these values in its upper triangle."""
+    upper = {(i, j): pattern_of(entry(i, j)) for i in range(n) for j in range(i, n)}
+    return [upper[min(i, j), max(i, j)] for i in range(n) for j in range(n)]
+
+
+def ordinary(rng, n, _):
+    return mirrored(n, lambda i, j: rng.uniform(-1, 1))
+
+
+def like_sizes(rng, n, _):
+    return mirrored(n, lambda i, j: within(rng, 1013, 1033))
+
+
+def unlike_sizes(rng, n, _):
+    return mirrored(n, lambda i, j: within(rng, 963, 1083))
+
+
+def covariances(rng, n, _):
+    samples = [[rng.uniform(-1, 1) for _ in range(n)] for _ in range(n + 2)]
+    return mirrored(n, lambda i, j: math.fsum(row[i] * row[j] for row in samples) / (n + 1))
+
+
+def whole_numbers(rng, n, _):
+    return mirrored(n, lambda i, j: float(rng.randint(-9, 9)))
+
+
+def diagonal(rng, n, _):
+    return mirrored(n, lambda i, j: within(rng, 0, TOP) if i == j else 0.0)
+
+
+def zero(_, n, __):
+    return mirrored(n, lambda i, j: 0.0)
+
+
+def all_equal(rng, n, _):
+    value = within(rng, 900, 1100)
+    return mirrored(n, lambda i, j: value)
+
+
+def nearly_diagonal(rng, n, _):
+    """Eigenvalues close to 1 or 2."""
+    return mirrored(n, lambda i, j: (i == j) * rng.randint(1, 2) + within(rng, 973, 993))
+
+
+def reflected(rng, n, _):
+    """Eigenvalues close to 1 or 5, in directions that are no axes."""
+    v = [rng.uniform(-1, 1) for _ in range(n)]
+    size = math.fsum(x * x for x in v)
+    values = [rng.choice((1, 5)) + rng.uniform(0, 1e-9) for _ in range(n)]
+    axes = [[(i == k) - 2 * v[i] * v[k] / size for k in range(n)] for i in range(n)]
+    return mirrored(n, lambda i, j: math.fsum(map(math.prod, zip(axes[i], axes[j], values))))
+
+
+def huge(rng, n, _):
+    """Values near the top of the range, and still none that can leave it."""
+    field = TOP - 1 - n.bit_length()
+    return mirrored(n, lambda i, j: within(rng, field - 3, field))
+
+
+def far_diagonals(rng, n, _):
+    """Differences of the diagonal that overflow or nearly do, so that pairs are still and cleared."""
+    return mirrored(n, lambda i, j: within(rng, TOP, TOP) if i == j else within(rng, 1000, 1040))
+
+
+def first_pairs(rng, n, _):
+    """Only the first pairs' entries, so large that twice of each overflows."""
+    return mirrored(n, lambda i, j: within(rng, TOP, TOP) if i // 2 == j // 2 and i < j else 0.0)
+
+
+def tiny(rng, n, _):
+    return mirrored(n, lambda i, j: within(rng, 1, 60))
+
+
+def subnormal(rng, n, _):
+    return mirrored(n, lambda i, j: within(rng, 0, 0))
+
+
+def least(rng, n, _):
+    """A few of the least units, and zeros of either sign."""
+    return mirrored(n, lambda i, j: value_of(rng.getrandbits(1) * SIGN + rng.randint(0, 3)))
+
+
+def signed_zeros(rng, n, _):
+    return mirrored(n, lambda i, j: rng.choice((0.0, -0.0)))
+
+
+def sparse(rng, n, _):
+    """Zeros of either sign, and an ordinary value here and there."""
+    choices = (0.0, -0.0, -0.0)
+    return mirrored(n, lambda i, j: rng.uniform(-1, 1) if rng.random() < 0.15 else rng.choice(choices))
+
+
+def any_size(rng, n, _):
+    return mirrored(n, lambda i, j: within(rng, 0, TOP))
+
+
+def top(rng, n, _):
+    return mirrored(n, lambda i, j: within(rng, TOP - 2, TOP))
+
+
+def put(n, matrix, i, j, pattern):
+    matrix[i * n + j] = matrix[j * n + i] = pattern
+
+
+def spoiled_by_sum(rng, n, sweeps):
+    """A pair of the first step whose new a_qq overflows."""
+    matrix = ordinary(rng, n, sweeps)
+    p = 2 * rng.randrange(n // 2)
+    for i, j in [(p, p), (p + 1, p + 1), (p, p + 1)]:
+        put(n, matrix, i, j, LARGEST - rng.getrandbits(50))
+    return matrix
+
+
+def spoiled_by_nan(rng, n, sweeps):
+    """A pair of the first step with both d - a and 2 b infinite, of any sign."""
+    matrix = ordinary(rng, n, sweeps)
+    p = 2 * rng.randrange(n // 2)
+    sign = rng.getrandbits(1)
+    put(n, matrix, p, p, sign * SIGN + LARGEST - rng.getrandbits(50))
+    put(n, matrix, p + 1, p + 1, (1 - sign) * SIGN + LARGEST - rng.getrandbits(50))
+    put(n, matrix, p, p + 1, rng.getrandbits(1) * SIGN + LARGEST - rng.getrandbits(50))
+    return matrix
+
+
+def spoiled_by_turn(rng, n, sweeps):
+    """A pair of the first step that turns by 45 degrees, and beside it two large values that no pair
+    before it turns (order 4 on)."""
+    matrix = ordinary(rng, n, sweeps)
+    p = 2 * rng.randrange(n // 2 - 1)
+    r = rng.randrange(p + 2, n)
+    put(n, matrix, p, p, ZERO)
+    put(n, matrix, p + 1, p + 1, ZERO)
+    put(n, matrix, p, p + 1, ONE)
+    for line in (p, p + 1):
+        put(n, matrix, line, r, LARGEST - rng.getrandbits(50))
+    return matrix
+
+
+def heights(n, sweeps, matrix):
+    """The largest size of an entry up to each step, at first and then after each."""
+    a = rows_of(n, matrix)
+    size = max(abs(value) for row in a for value in row)
+    found = [size]
+    for _ in make_steps(n, sweeps, a, identity(n)):
+        size = max(size, *(abs(value) for row in a for value in row))
+        found.append(size)
+    return found
+
+
+def spoiled_late(rng, n, sweeps):
+    """A matrix scaled so that a step after the first spoils it, and none before, often a step after the
+    first sweep (order 4 and a sweep on)."""
+    while True:
+        v = [rng.uniform(1, 2) for _ in range(n)]
+        matrix = mirrored(n, lambda i, j: v[i] * v[j] + rng.uniform(-0.5, 0.5))
+        sizes = heights(n, sweeps, matrix)
+        grown = [step for step in range(1, len(sizes) - 1) if sizes[step + 1] > sizes[step]]
+        later = [step for step in grown if step >= n - 1]
+        if later and rng.randrange(3) > 0:
+            grown = later
+        if not grown:
+            continue
+        step = rng.choice(grown)
+        scale = value_of(LARGEST) / math.sqrt(sizes[step] * sizes[step + 1])
+        scaled = [pattern_of(value_of(pattern) * scale) for pattern in matrix]
+        if (ran(n, sweeps, scaled).spoiled or 0) > 0:
+            return scaled
+
+
+KINDS = [
+    ordinary,
+    spoiled_late,
+    whole_numbers,
+    signed_zeros,
+    like_sizes,
+    nearly_diagonal,
+    spoiled_late,
+    huge,
+    spoiled_by_sum,
+    sparse,
+    subnormal,
+    covariances,
+    spoiled_late,
+    far_diagonals,
+    unlike_sizes,
+    spoiled_by_turn,
+    all_equal,
+    tiny,
+    reflected,
+    top,
+    diagonal,
+    spoiled_by_nan,
+    least,
+    any_size,
+    first_pairs,
+    zero,
+]
+FIRST_STEP = {spoiled_by_sum, spoiled_by_nan, spoiled_by_turn}
+MAY_SPOIL = FIRST_STEP | {spoiled_late, top, any_size, far_diagonals}
+# Kinds whose results are for the most part plain, left out where a matrix is large.
+PLAIN = FIRST_STEP | {zero, diagonal, signed_zeros, first_pairs, far_diagonals, top}
+LARGE_KINDS = [kind for kind in dict.fromkeys(KINDS) if kind not in PLAIN]
+
+
+def amount(n):
+    """How many cases an order gets."""
+    return 36 if n <= 8 else 15 if n <= 16 else 5
+
+
+def kind_for(n, k):
+    """The kind of the case k of all. Order 2 has one pair, which no value stands beside and which is
+    still after its first turn."""
+    kinds = KINDS if n <= 16 else LARGE_KINDS
+    kind = kinds[k % len(kinds)]
+    return spoiled_by_sum if n == 2 and kind in (spoiled_late, spoiled_by_turn) else kind
+
+
+def runs(rng):
+    """The kind and the case of each run, over all orders and all numbers of sweeps."""
+    k = 0
+    for n in range(2, 33, 2):
+        for _ in range(amount(n)):
+            kind = kind_for(n, k)
+            sweeps = k % 17
+            if kind is spoiled_late:
+                sweeps = max(sweeps, 1)
+            yield kind, case_of(n, sweeps, kind(rng, n, sweeps))
+            k += 1
+
+
+# The refusals before a run.
+
+
+def refused_orders(rng):
+    """Some with lengths of n * n, also as a product that wraps around would have it."""
+    small = [(0, 0), (1, 1), (3, 9), (5, 25), (31, 4), (33, 4), (34, 1156), (36, 4), (258, 4)]
+    large = [(1 << 32, 0), ((1 << 32) + 2, 4), (1 << 63, 0), (LAST - 1, 4), (LAST, 1)]
+    for n, size in small + large:
+        yield Case(n, 1, [pattern_of(rng.uniform(-1, 1)) for _ in range(size)], size, size)
+
+
+def refused_sweeps(rng):
+    for sweeps in [17, 18, 255, 256, 1 << 32, 1 << 63, LAST]:
+        yield case_of(4, sweeps, ordinary(rng, 4, 0))
+
+
+def refused_lengths(rng):
+    """Each slice in turn too short, too long and empty, then several at once."""
+    for n in (2, 4, 8):
+        for place in range(3):
+            for size in (n * n - 1, n * n + 1, 0):
+                sizes = [n * n] * 3
+                sizes[place] = size
+                yield sized(rng, n, sizes)
+    for sizes in [(0, 0, 0), (4, 4, 4), (36, 36, 36), (15, 17, 16), (17, 15, 16), (16, 15, 17)]:
+        yield sized(rng, 4, sizes)
+    yield sized(rng, 32, (1024, 1024, 1025))
+
+
+def sized(rng, n, sizes):
+    matrix_size, result_size, vectors_size = sizes
+    words = ordinary(rng, n, 0) + ordinary(rng, 6, 0)
+    return Case(n, 1, words[:matrix_size], result_size, vectors_size)
+
+
+def changed(rng, n, changes):
+    """An ordinary matrix with the patterns at some rows and columns changed, these counted from 1."""
+    matrix = ordinary(rng, n, 0)
+    for (i, j), pattern in changes.items():
+        matrix[(i - 1) * n + (j - 1)] = pattern
+    return case_of(n, rng.randint(0, 16), matrix)
+
+
+def refused_values(rng):
+    """NaNs and infinities in each part of a matrix: alone, with the mirror entry, and with others."""
+    values = [NAN, SIGN + NAN, INFINITY + 1, SIGN - 1, LAST, INFINITY, SIGN + INFINITY]
+    k = 0
+    for n in (2, 4, 6):
+        m = n // 2
+        places = [(1, 1), (1, n), (m, m), (m, m + 1), (m + 1, m), (n, 1), (n, n - 1), (n, n)]
+        for place in places:
+            yield changed(rng, n, {place: values[k % len(values)]})
+            k += 1
+    for value in values:
+        yield changed(rng, 4, {(2, 3): value, (3, 2): value})
+    yield changed(rng, 4, {(1, 4): NAN, (2, 1): INFINITY})
+    yield changed(rng, 4, {(3, 2): INFINITY, (2, 4): NAN})
+    yield changed(rng, 4, {(4, 1): SIGN + INFINITY, (3, 4): NAN, (4, 4): NAN})
+    yield changed(rng, 4, {(i, j): NAN for i in range(1, 5) for j in range(1, 5)})
+    yield changed(rng, 32, {(32, 32): INFINITY})
+
+
+def unequal(rng, n, places):
+    """An ordinary matrix with a bit changed at some places, each a row, a column and the bit."""
+    matrix = ordinary(rng, n, 0)
+    for i, j, bit in places:
+        matrix[(i - 1) * n + (j - 1)] ^= 1 << bit
+    return case_of(n, rng.randint(0, 16), matrix)
+
+
+def refused_mirrors(rng):
+    """Pairs that differ in a bit, or in the sign of zero, above and below the diagonal."""
+    for bit in (0, 1, 31, 51, 52, 63):
+        yield unequal(rng, 2, [(1, 2, bit)])
+        yield unequal(rng, 4, [(3, 2, bit)])
+    for n in (4, 6, 8):
+        for i, j in [(1, 2), (1, n), (2, 3), (n - 1, n)]:
+            yield unequal(rng, n, [(i, j, 0)])
+            yield unequal(rng, n, [(j, i, 0)])
+    yield unequal(rng, 4, [(1, 4, 0), (2, 3, 0)])
+    yield unequal(rng, 4, [(4, 2, 0), (4, 3, 0), (4, 1, 0)])
+    yield unequal(rng, 6, [(6, 5, 0), (4, 3, 0), (5, 2, 0)])
+    yield unequal(rng, 16, [(16, 15, 0)])
+    for n, i, j in [(2, 1, 2), (4, 2, 4), (6, 1, 6)]:
+        yield changed(rng, n, {(i, j): ZERO, (j, i): SIGN})
+        yield changed(rng, n, {(i, j): SIGN, (j, i): ZERO})
+
+
+def several_reasons(rng):
+    """Cases with more than one reason, which show the order of the tests, and the number of each."""
+    good = ordinary(rng, 4, 0)
+    bad = [NAN, *good[1:]]
+    unlike = [good[0], good[1] ^ 1, *good[2:]]
+    both = [*unlike[:14], INFINITY, unlike[15]]
+    large = [LARGEST] * 16
+    yield 1, Case(3, 17, good[:9], 9, 9)
+    yield 1, Case(3, 17, good[:8], 7, 6)
+    yield 1, Case(5, 1, bad, 16, 16)
+    yield 1, Case(34, 1, good, 16, 16)
+    yield 1, Case(0, LAST, [], 4, 0)
+    yield 2, Case(4, 17, good[:15], 16, 16)
+    yield 2, Case(4, 17, good, 15, 16)
+    yield 2, Case(4, 17, good, 16, 0)
+    yield 2, Case(4, 17, bad, 16, 16)
+    yield 2, Case(4, 17, unlike, 16, 16)
+    yield 2, Case(4, 17, large, 16, 16)
+    yield 3, Case(4, 1, bad, 15, 16)
+    yield 3, Case(4, 1, bad, 16, 17)
+    yield 3, Case(4, 1, bad[:15], 16, 16)
+    yield 3, Case(4, 1, unlike, 16, 15)
+    yield 3, Case(4, 1, unlike, 0, 16)
+    yield 3, Case(4, 1, [*unlike, ONE], 16, 16)
+    yield 3, Case(4, 1, large, 16, 15)
+    yield 5, case_of(4, 1, both)
+    yield 5, case_of(4, 0, both)
+    yield 5, case_of(4, 16, [NAN, *unlike[1:]])
+    yield 5, case_of(4, 1, [*large[:15], INFINITY])
+    yield 6, case_of(4, 1, [LARGEST, LARGEST - 1, *large[2:]])
+
+
+def refusals(rng):
+    """The cases that are refused before a run, and the number of each."""
+    groups = [
+        (1, refused_orders),
+        (2, refused_sweeps),
+        (3, refused_lengths),
+        (5, refused_values),
+        (6, refused_mirrors),
+    ]
+    for number, group in groups:
+        for case in group(rng):
+            yield number, case
+    yield from several_reasons(rng)
+
+
+# The files.
+
+
+def product(x, y):
+    return [[sum(a * b for a, b in zip(row, column)) for column in zip(*y)] for row in x]
+
+
+def check(kind, case, outcome):
+    """What has to hold of a run: the step that spoils it by its kind, results that are finite and
+    mirrored, and for ordinary values that the vectors turn the matrix into the result."""
+    n = case.n
+    if outcome.number == 8:
+        assert kind in MAY_SPOIL
+        assert kind is not spoiled_late or outcome.spoiled > 0
+        assert kind not in FIRST_STEP or outcome.spoiled == 0
+        return
+    assert outcome.number is None
+    assert kind is not spoiled_late and (kind not in FIRST_STEP or case.sweeps == 0)
+    result, vectors = outcome.result, outcome.vectors
+    assert all(pattern % SIGN < INFINITY for pattern in result + vectors)
+    assert all(result[i * n + j] == result[j * n + i] for i in range(n) for j in range(i))
+    if kind in (ordinary, whole_numbers, covariances, reflected, sparse):
+        v = rows_of(n, vectors)
+        turned = product(product([list(column) for column in zip(*v)], rows_of(n, case.matrix)), v)
+        pairs = zip(sum(turned, []), sum(rows_of(n, result), []))
+        assert all(abs(x - y) < 1e-11 for x, y in pairs)
+
+
+def head(case, fill):
+    return [case.n, case.sweeps, len(case.matrix), case.result_size, case.vectors_size, fill]
+
+
+def lines_of(words):
+    return [f"{word:016X}\n" for word in words]
+
+
+def answer_of(case, fill, outcome):
+    """The lines of an answer: the refusal, if it is refused, and what both results hold."""
+    lines = []
+    if outcome.number is not None:
+        lines.append(f"refused {outcome.number}\n")
+    if outcome.place is not None:
+        lines += ["row %d\n" % outcome.place[0], "column %d\n" % outcome.place[1]]
+    result, vectors = outcome.result, outcome.vectors
+    if result is None:
+        result, vectors = [fill] * case.result_size, [fill] * case.vectors_size
+    return lines + lines_of(result) + lines_of(vectors)
+
+
+def finite_patterns(rng):
+    """Random patterns of finite values that are no zeros, each once."""
+    seen = {ZERO}
+    while True:
+        pattern = rng.getrandbits(64)
+        if pattern % SIGN < INFINITY and pattern % SIGN not in seen:
+            seen.add(pattern % SIGN)
+            yield pattern
+
+
+def check_variety(kinds, cases, outcomes):
+    """Every order and number of sweeps is there, in small orders every two of them; and enough runs are
+    spoiled, in the first step, after it, and after the first sweep."""
+    sizes = {(case.n, case.sweeps) for case in cases}
+    assert sizes >= {(n, sweeps) for n in (2, 4, 6, 8) for sweeps in range(17)}
+    assert {n for n, _ in sizes} == set(range(2, 33, 2))
+    assert set(kinds) == set(KINDS)
+    spoiled = [(case.n, made.spoiled) for case, made in zip(cases, outcomes) if made.number == 8]
+    first = sum(step == 0 for _, step in spoiled)
+    later = sum(0 < step < n - 1 for n, step in spoiled)
+    last = sum(step >= n - 1 for n, step in spoiled)
+    assert first >= 10 and later >= 10 and last >= 5
+    print(f"{len(cases)} runs, {len(cases) - len(spoiled)} of them accepted")
+    print(f"spoiled in the first step {first}, later in the first sweep {later}, after it {last}")
+
+
+def summary(names):
+    return ", ".join(f"{name} {count}" for name, count in collections.Counter(names).items())
+
+
+def checked_runs(rng):
+    """The runs with their outcomes."""
+    made = list(runs(rng))
+    kinds, cases = [kind for kind, _ in made], [case for _, case in made]
+    outcomes = [outcome_of(case) for case in cases]
+    for kind, case, outcome in zip(kinds, cases, outcomes):
+        check(kind, case, outcome)
+    check_variety(kinds, cases, outcomes)
+    print("runs: " + summary(kind.__name__ for kind in kinds))
+    return list(zip(cases, outcomes))
+
+
+def checked_refusals(rng):
+    """The refusals before a run with their outcomes."""
+    made = [(number, case, outcome_of(case)) for number, case in refusals(rng)]
+    assert all(number == outcome.number for number, _, outcome in made)
+    print("refusals by number: " + summary(number for number, _, _ in made))
+    return [(case, outcome) for _, case, outcome in made]
+
+
+def main():
+    for case, outcome in EXAMPLES:
+        assert outcome_of(case) == outcome, case
+    rng = random.Random(1983)
+    cases = [*EXAMPLES, *checked_runs(rng), *checked_refusals(rng)]
+    lines, answers = [], []
+    for (case, outcome), fill in zip(cases, finite_patterns(rng)):
+        lines += lines_of(head(case, fill) + case.matrix)
+        answers += answer_of(case, fill, outcome)
+    crate = pathlib.Path(__file__).resolve().parent.parent / "crates" / "plain_vectors"
+    (crate / "stdin").write_text("".join(lines), encoding="ascii")
+    (crate / "stdout").write_text("".join(answers), encoding="ascii")
+    print(f"{len(cases)} cases")
+
+
+if __name__ == "__main__":
+    main()
