@@ -1,26 +1,36 @@
 -- The examples that document 01 marks P under "Entries to try". Definitions only.
-use Prim.Native.Nat.{ℕ}
+use Prim.Native.Nat.{ℕ, _*_}
 use mathlib.Core.Path.{_≡_}
 use mathlib.Core.List.{List, [], _∷_}
-use lib.Ieee.{binary64, ofBits}
-use lib.ListN.{getD}
+use lib.Ieee.{Float, binary64, ofBits}
+use lib.ListN.{length, getD}
 use Rattle.lists.specs.Tabulate.{tabulate}
 use Rattle.refusal.specs.Refusal.{given}
 use Rattle.root.specs.Sqrt.{sqrtOf}
 use Rattle.ordering.specs.Pairs.{registersAt}
 use Rattle.ordering.specs.Registers.{most}
+use Rattle.plain.specs.Run.{outcome, runOf}
 
 pub data Example : Type 0 where
   -- the value with the first pattern has the root with the second
   root : ℕ → ℕ → Example
   -- the list of pairs of an order and a step
   pairs : ℕ → ℕ → List (ℕ × ℕ) → Example
+  -- the plain run of an order, a number of sweeps and a matrix leaves a matrix and eigenvectors
+  run : ℕ → ℕ → List ℕ → List ℕ → List ℕ → Example
+
+-- The values with the given patterns.
+abbrev pub values : List ℕ → List Float
+values [] = []
+values (x ∷ xs) = ofBits binary64 x ∷ values xs
 
 abbrev pub Holds : Example → Type 0
 Holds (root x r) = sqrtOf (ofBits binary64 x) ≡ given (ofBits binary64 r)
 Holds (pairs n step ps) = registersAt n step ≡ record { left = tabulate most (λ k. getD ps k (0, 0) .0); right = tabulate most (λ k. getD ps k (0, 0) .1) }
+Holds (run n sweeps a l e) =
+    (r v : List Float) → length r ≡ n * n → length v ≡ n * n → runOf n sweeps (values a) r v ≡ outcome (given tt) (values l) (values e)
 
--- Roots: 4 (it is 2), -0 (-0), 2, 2 ^ -1074 (2 ^ -537), 1 - 2 ^ -53 (itself), 1 + 2 ^ -52 (1)
+-- The run: diagonal 1 and 3, off-diagonal 0, one sweep: unchanged, identity. Roots: 4 (it is 2), -0 (-0), 2, 2 ^ -1074 (2 ^ -537), 1 - 2 ^ -53 (itself), 1 + 2 ^ -52 (1)
 abbrev pub examples : List Example
 examples =
     root 0x4010_0000_0000_0000 0x4000_0000_0000_0000
@@ -33,6 +43,10 @@ examples =
     ∷ pairs 4 1 ((1, 4) ∷ (2, 3) ∷ [])
     ∷ pairs 4 2 ((1, 3) ∷ (4, 2) ∷ [])
     ∷ pairs 8 1 ((1, 4) ∷ (2, 6) ∷ (3, 8) ∷ (5, 7) ∷ [])
+    ∷ run 2 1
+    (0x3ff0_0000_0000_0000 ∷ 0 ∷ 0 ∷ 0x4008_0000_0000_0000 ∷ [])
+    (0x3ff0_0000_0000_0000 ∷ 0 ∷ 0 ∷ 0x4008_0000_0000_0000 ∷ [])
+    (0x3ff0_0000_0000_0000 ∷ 0 ∷ 0 ∷ 0x3ff0_0000_0000_0000 ∷ [])
     ∷ []
 
 abbrev pub All : List Example → Type 0

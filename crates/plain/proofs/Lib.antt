@@ -8,3 +8,4 @@ pub mod Spots
 pub mod Mirrors
 pub mod Persists
 pub mod Outcomes
+pub mod Sequence

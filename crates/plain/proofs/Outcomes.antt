@@ -47,8 +47,8 @@ begins n sweeps l lr lv e = go (noOrder n) (ltb mostSweeps sweeps) (eqb lr (n * 
     go false false true true x y z w e =
         record { order = x; few = ltb-false 16 sweeps y; result-long = eqb-true _ _ z; vectors-long = eqb-true _ _ w; entries = e }
 
-pub order-above : (n : ℕ) → noOrder n ≡ false → 1 ≤ n
-order-above n e = let o = order-is n e in omega (arith, o .1)
+pub order-above : (n : ℕ) → noOrder n ≡ false → 2 ≤ n
+order-above n e = order-is n e .1
 
 -- the number of steps is small
 pub steps-fit : (n sweeps : ℕ) → noOrder n ≡ false → sweeps ≤ mostSweeps → stepsOf n sweeps < 2 ^ 64

@@ -14,7 +14,7 @@ use Rattle.systolic.proofs.Bounded.{up-to}
 use Rattle.systolic.proofs.Lines.{Distinct}
 
 -- the one line or the other
-end : Side → ℕ → ℕ → ℕ
+abbrev pub end : Side → ℕ → ℕ → ℕ
 end left p q = p
 end right p q = q
 
@@ -31,25 +31,25 @@ module _ {X H W : Type 0} (R : Rules X H W) (k i p q : ℕ) (ne : ¬ (p ≡ q)) 
   qp : eqb q p ≡ false
   qp = ne-eqb q p (λ e. ne (sym e))
 
-  pair-none : (r c : ℕ) → ¬ (r ≡ p) → ¬ (r ≡ q) → ¬ (c ≡ p) → ¬ (c ≡ q) → pairStep R k i p q M r c ≡ M r c
+  pub pair-none : (r c : ℕ) → ¬ (r ≡ p) → ¬ (r ≡ q) → ¬ (c ≡ p) → ¬ (c ≡ q) → pairStep R k i p q M r c ≡ M r c
   unfolding pairStep place turnColumns turnRows
   pair-none r c a b d e = rw (ne-eqb r p a, ne-eqb r q b, ne-eqb c p d, ne-eqb c q e)
 
-  pair-row : (s : Side) (r c : ℕ) → r ≡ end s p q → ¬ (c ≡ p) → ¬ (c ≡ q)
+  pub pair-row : (s : Side) (r c : ℕ) → r ≡ end s p q → ¬ (c ≡ p) → ¬ (c ≡ q)
       → pairStep R k i p q M r c ≡ R .rowTurn (R .sendsRow k i (pairBlock p q M)) s (M p c) (M q c)
-  unfolding pairStep place turnColumns turnRows end
+  unfolding pairStep place turnColumns turnRows
   pair-row left r c z d e = rw (z, eq-eqb p p refl, ne-eqb c p d, ne-eqb c q e)
   pair-row right r c z d e = rw (z, qp, eq-eqb q q refl, ne-eqb c p d, ne-eqb c q e)
 
-  pair-column : (s : Side) (r c : ℕ) → c ≡ end s p q → ¬ (r ≡ p) → ¬ (r ≡ q)
+  pub pair-column : (s : Side) (r c : ℕ) → c ≡ end s p q → ¬ (r ≡ p) → ¬ (r ≡ q)
       → pairStep R k i p q M r c ≡ R .columnTurn (R .sendsColumn k i (pairBlock p q M)) s (M r p) (M r q)
-  unfolding pairStep place turnColumns turnRows end
+  unfolding pairStep place turnColumns turnRows
   pair-column left r c z d e = rw (z, eq-eqb p p refl, qp, eq-eqb q q refl, ne-eqb r p d, ne-eqb r q e)
   pair-column right r c z d e = rw (z, eq-eqb p p refl, qp, eq-eqb q q refl, ne-eqb r p d, ne-eqb r q e)
 
-  pair-cells : (s t : Side) (r c : ℕ) → r ≡ end s p q → c ≡ end t p q
+  pub pair-cells : (s t : Side) (r c : ℕ) → r ≡ end s p q → c ≡ end t p q
       → pairStep R k i p q M r c ≡ cell s t (R .diagonal k i (pairBlock p q M))
-  unfolding pairStep place cell end
+  unfolding pairStep place cell
   pair-cells left left r c y z = rw (y, z, eq-eqb p p refl)
   pair-cells left right r c y z = rw (y, z, eq-eqb p p refl, qp, eq-eqb q q refl)
   pair-cells right left r c y z = rw (y, z, eq-eqb p p refl, qp, eq-eqb q q refl)
@@ -58,7 +58,6 @@ module _ {X H W : Type 0} (R : Rules X H W) (k i p q : ℕ) (ne : ¬ (p ≡ q)) 
 -- ---- one pair, block by block
 module _ {X H W : Type 0} (R : Rules X H W) (k m : ℕ) (L : Slot → ℕ) (one : Distinct m L) where
   end-of : (n : ℕ) (s : Side) → L (slot n s) ≡ end s (L (slot n left)) (L (slot n right))
-  unfolding end
   end-of n left = refl
   end-of n right = refl
 

@@ -1,4 +1,5 @@
 use mathlib.Core.Path.{sym, _∙_}
+use native.Mathlib.Omega.{arith}
 use borrow.Author.Needs.{needs}
 use borrow.Author.Tests.{not-true, not-false}
 use Rattle.matrix.proofs.Within.{first-none, second-none, one-line, by-length}
@@ -24,7 +25,7 @@ returns-3 c =
     let t = c .before in
     let s = t .before .before in
     one-line _ _ _ _ (sym (s .before .is-line .ensures) ∙ not-false _ (s .if1 .left)) (sym (t .before .is-line2 .ensures) ∙ not-false _ (t .if2 .left))
-    (c .if3 .taken)
+    (omega arith)
 
 is-square-requires : tie.Need-is-square-requires
 is-square-requires c κs = search needs

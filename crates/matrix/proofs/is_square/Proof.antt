@@ -5,10 +5,10 @@ use Rattle.matrix.proofs.is_square.Statement.{statement}
 use Rattle.matrix.proofs.is_square.Tie as tie
 
 returns : tie.Need-returns
-returns c = too-large _ _ (c .if1 .taken) (omega arith)
+returns c = let a = c .before .args in too-large (a .n) (a .length) (omega arith) (omega arith)
 
 mul-result : tie.Need-mul-result
-mul-result c = omega (arith, square-fits _ (c .if1 .left))
+mul-result c = omega (arith, square-fits (c .before .args .n) (omega arith))
 
 returns-2 : tie.Need-returns-2
 returns-2 c = search needs

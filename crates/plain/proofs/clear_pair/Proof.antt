@@ -1,4 +1,5 @@
 use mathlib.Core.Path.{ap, _∙_}
+use native.Mathlib.Omega.{arith}
 use borrow.Author.Needs.{needs}
 use lib.ListN.{length}
 use Rattle.matrix.proofs.Flat.{flat-length}
@@ -10,13 +11,21 @@ use Rattle.plain.proofs.clear_pair.Tie as tie
 set-entry-requires : tie.Need-set-entry-requires
 set-entry-requires c κs =
     let t = are-two _ _ _ _ (c .before .before .pre) in
-    (t .long, t .first-above, t .first-within, t .second-above, t .second-within)
+    let a = t .first-above in
+    let b = t .first-within in
+    let d = t .second-above in
+    let e = t .second-within in
+    (t .long, omega arith, omega arith, omega arith, omega arith)
 
 set-entry-requires-2 : tie.Need-set-entry-requires-2
 set-entry-requires-2 c κs =
     let s = c .before .before .before in
     let t = are-two _ _ _ _ (s .before .before .before .pre) in
-    (ap length (s .set-entry .ensures) ∙ flat-length _ _, t .second-above, t .second-within, t .first-above, t .first-within)
+    let a = t .first-above in
+    let b = t .first-within in
+    let d = t .second-above in
+    let e = t .second-within in
+    (ap length (s .set-entry .ensures) ∙ flat-length _ _, omega arith, omega arith, omega arith, omega arith)
 
 same-length : tie.Need-same-length
 same-length c = search needs

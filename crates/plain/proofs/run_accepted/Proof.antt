@@ -17,10 +17,13 @@ set-identity-requires : tie.Need-set-identity-requires
 set-identity-requires c κs =
     let s = c .before .before .before .before .before .before .before .before in
     let t = begins _ _ (s .args .matrix .now) _ _ (s .pre) in
-    (order-above _ (t .order), omega (arith, t .vectors-long))
+    (omega (arith, order-above _ (t .order)), omega (arith, t .vectors-long))
 
 sub-make-steps : tie.Need-sub-make-steps
-sub-make-steps c = let s = c .before .before .before .before .before .before .before .before .before .before .before in order-above _ (begins _ _ (s .args .matrix .now) _ _ (s .pre) .order)
+sub-make-steps c =
+    let s = c .before .before .before .before .before .before .before .before .before .before .before in
+    let h = order-above _ (begins _ _ (s .args .matrix .now) _ _ (s .pre) .order) in
+    omega arith
 
 mul-make-steps : tie.Need-mul-make-steps
 mul-make-steps c =
