@@ -1,13 +1,13 @@
-// Links the library that `rt staticlib root_bench` writes.
+// Links the libraries that `rt staticlib` writes.
 use std::path::Path;
 
 fn main() {
     let root = std::env::var("CARGO_MANIFEST_DIR").expect("set by cargo");
     let folder = Path::new(&root).join("../target/staticlib");
     println!("cargo:rustc-link-search=native={}", folder.display());
-    println!("cargo:rustc-link-lib=static=root_bench");
-    println!(
-        "cargo:rerun-if-changed={}",
-        folder.join("libroot_bench.a").display()
-    );
+    for name in ["root_bench", "plain_bench"] {
+        let file = folder.join(format!("lib{name}.a"));
+        println!("cargo:rustc-link-lib=static={name}");
+        println!("cargo:rerun-if-changed={}", file.display());
+    }
 }

@@ -1,17 +1,16 @@
 -- The end of a run: whether a value of a list isn't finite, and what is answered then. Assumes nothing.
-use Prim.Native.Nat.{ℕ, suc, _+_, _<_, _≤_}
+use Prim.Native.Nat.{ℕ, _+_, _<_}
 use mathlib.Core.Path.{_≡_, refl, sym, ap, _∙_}
 use mathlib.Core.Bool.{Bool, true, false, not}
 use mathlib.Core.List.{List}
-use native.Mathlib.Omega.{arith}
 use native.Mathlib.Numerals.{add-one}
 use lib.ListN.{length, getD}
 use lib.Ieee.{Float, nan}
-use Rattle.refusal.specs.Refusal.{Told, given, told}
+use Rattle.refusal.specs.Refusal.{given, told}
 use Rattle.refusal.specs.declared.Refusal.the-variants.{Spoiled}
 use Rattle.float64.specs.Values.{finite}
 use Rattle.systolic.specs.Slots.{any}
-use Rattle.systolic.proofs.Bounded.{false-or, any-hit}
+use Rattle.systolic.proofs.Bounded.{any-hit}
 use Rattle.plain.specs.Run.{Outcome, outcome, zeros, someNotFinite, finishOf}
 
 -- a value below k isn't finite

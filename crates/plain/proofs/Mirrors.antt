@@ -1,6 +1,6 @@
 -- A plain run keeps mirror entries equal in every bit. Assumes nothing.
-use Prim.Native.Nat.{ℕ, zero, suc, _*_, _/_, _<_}
-use mathlib.Core.Path.{_≡_, refl, sym, ap, _∙_}
+use Prim.Native.Nat.{ℕ, zero, suc, _*_, _/_}
+use mathlib.Core.Path.{_≡_, sym, _∙_}
 use mathlib.Core.Bool.{false}
 use mathlib.Core.List.{List}
 use mathlib.Core.Logic.{_≢_}
@@ -9,10 +9,10 @@ use lib.ListN.{getD}
 use lib.Ieee.{Float}
 use Rattle.rotation.specs.declared.Parameters.{Parameters}
 use Rattle.rotation.specs.Rotation.{turnOf}
-use Rattle.ordering.specs.Pairs.{noOrder, registersAt}
+use Rattle.ordering.specs.Pairs.{noOrder}
 use Rattle.matrix.proofs.Within.{are-two}
 use Rattle.matrix.proofs.Same.{Line, Mirrored, first-line, second-line}
-use Rattle.plain.specs.State.{State, parametersOf, pairTurned, pairStep, pairsStep, after}
+use Rattle.plain.specs.State.{State, pairTurned, pairStep, pairsStep, after}
 use Rattle.plain.proofs.Spots.{Spot, first, second, neither, spot, at-first-second, at-second-first, at-first-other, at-second-other, at-other-first, at-other-second, at-others}
 use Rattle.plain.proofs.Steps.{Paired, registers-paired}
 

@@ -1,7 +1,7 @@
 -- From the parts of a run to its outcome. Assumes nothing.
-use Prim.Native.Nat.{ℕ, zero, suc, _+_, _-_, _*_, _/_, _%_, _^_, _≤_, _<_}
+use Prim.Native.Nat.{ℕ, _+_, _-_, _*_, _/_, _%_, _^_, _≤_, _<_}
 use mathlib.Core.Path.{_≡_, refl, sym, ap, _∙_}
-use mathlib.Core.Bool.{Bool, true, false, not, cond, _||_, _&&_, true≢false}
+use mathlib.Core.Bool.{Bool, true, false, not, cond, _||_, _&&_}
 use mathlib.Core.List.{List}
 use native.Mathlib.Omega.{arith}
 use native.Mathlib.Nat.{div-add-mod', mul-le-mul}
@@ -10,19 +10,20 @@ use lib.Arith.{digits-lt}
 use lib.Dec.{T, eqb, ltb}
 use lib.ListN.{length, getD}
 use lib.Ieee.{Float, nan, binary64, fits, ofBits}
-use Rattle.refusal.specs.Refusal.{Told, given, refused, told}
-use Rattle.refusal.specs.declared.Refusal.the-variants.{Order, Sweeps, Length, Spoiled}
+use Rattle.refusal.specs.Refusal.{given, refused, told}
+use Rattle.refusal.specs.declared.Refusal.the-variants.{Order, Sweeps, Length}
 use Rattle.float64.specs.Values.{plusZero, one, finite}
+use Rattle.systolic.specs.Slots.{any}
 use Rattle.systolic.proofs.Bounded.{or-false, false-or, same-bool, any-to, any-from}
 use Rattle.ordering.specs.Pairs.{noOrder, limit}
 use Rattle.ordering.proofs.Orders.{order-is}
 use Rattle.matrix.specs.Matrix.{at, flat}
 use Rattle.matrix.specs.Entries.{entriesOf}
 use Rattle.matrix.proofs.Flat.{row-lt, column-lt, at-offset, at-flat}
-use Rattle.matrix.proofs.Same.{Line, Finite, Mirrored, read-again}
-use Rattle.matrix.proofs.Accepted.{refused-given, accepted-long, accepted-finite, accepted-mirrored}
+use Rattle.matrix.proofs.Same.{Finite, Mirrored, read-again, flat-again}
+use Rattle.matrix.proofs.Accepted.{refused-given, accepted-finite, accepted-mirrored}
 use Rattle.plain.specs.State.{State, identity, after, notFinite, spoiled, stateOf, Held}
-use Rattle.plain.specs.Run.{mostSweeps, stepsOf, beforeRun, Outcome, outcome, startOf, zeros, someNotFinite, finishOf, ranOf, unlessRefused, runOf}
+use Rattle.plain.specs.Run.{mostSweeps, stepsOf, beforeRun, Outcome, outcome, startOf, someNotFinite, finishOf, ranOf, runOf}
 use Rattle.plain.proofs.Steps.{Alike, held-long, held-alike, after-alike}
 use Rattle.plain.proofs.Persists.{FiniteState, finite-state, state-finite, spoiled-at-end}
 
@@ -50,13 +51,9 @@ begins n sweeps l lr lv e = go (noOrder n) (ltb mostSweeps sweeps) (eqb lr (n * 
 pub order-above : (n : ℕ) → noOrder n ≡ false → 2 ≤ n
 order-above n e = order-is n e .1
 
--- the number of steps is small
-pub steps-fit : (n sweeps : ℕ) → noOrder n ≡ false → sweeps ≤ mostSweeps → stepsOf n sweeps < 2 ^ 64
-steps-fit n sweeps e few =
-    let o = order-is n e in
-    let h : n - 1 ≤ limit = omega (arith, o .2) in
-    let w : sweeps * (n - 1) ≤ mostSweeps * limit = mul-le-mul few h in
-    omega arith
+-- sweeps times steps is small
+pub product-fits : (a b : ℕ) → a ≤ mostSweeps → b ≤ limit → a * b < 2 ^ 64
+product-fits a b h k = let w : a * b ≤ mostSweeps * limit = mul-le-mul h k in omega arith
 
 -- ---- the two lists at the end
 module _ (n : ℕ) where
@@ -139,6 +136,11 @@ module _ (n sweeps : ℕ) (l : List Float) (fitting : (k : ℕ) → T (fits bina
       let held : Held n l₁ e₁ (after n K X) = held-alike n l₁ e₁ _ _ (rw z at h) (after-alike n (b .order) K _ _ (start-alike e₀ y)) in
       let s : (someNotFinite l₁ || someNotFinite e₁) ≡ spoiled n K X = lists-finite n l₁ e₁ _ held ∙ sym (spoiled-at-end n (b .order) X start-mirrored start-finite K) in
       rw (← s, ← (held .matrix-held), ← (held .vectors-held)) f
+
+-- no sweeps: the matrix as lent, and the identity
+pub no-sweeps : (n : ℕ) (l : List Float) → length l ≡ n * n → ranOf n 0 l ≡ outcome (given tt) l (flat n identity)
+unfolding ranOf spoiled any after startOf
+no-sweeps n l long = let z : 0 * (n - 1) ≡ 0 = omega arith in rw (z, ← (flat-again n l long))
 
 -- ---- a refused run, and one that is not
 module _ (n sweeps : ℕ) (l r v : List Float) where

@@ -1,7 +1,7 @@
 -- An entry that isn't finite is not made finite again: so a run is spoiled exactly if an entry isn't finite at its end. Assumes nothing.
-use Prim.Native.Nat.{ℕ, zero, suc, _+_, _-_, _*_, _/_, _≤_, _<_}
-use mathlib.Core.Path.{_≡_, refl, sym, ap, subst, _∙_}
-use mathlib.Core.Bool.{Bool, true, false, not, _||_, true≢false}
+use Prim.Native.Nat.{ℕ, zero, suc, _+_, _-_, _*_, _/_}
+use mathlib.Core.Path.{_≡_, refl, sym, ap}
+use mathlib.Core.Bool.{Bool, true, false, not}
 use mathlib.Core.List.{List}
 use mathlib.Core.Logic.{_≢_}
 use native.Mathlib.Nat.{zero-add, suc-add}
@@ -12,7 +12,6 @@ use Rattle.float64.specs.Values.{finite}
 use Rattle.systolic.specs.Slots.{any}
 use Rattle.systolic.proofs.Bounded.{or-false, false-or, same-bool, any-to, any-from}
 use Rattle.rotation.specs.declared.Parameters.{Parameters}
-use Rattle.rotation.specs.Rotation.{turnOf, diagonalOf}
 use Rattle.rotation.proofs.Kept.{turn-kept, pair-kept}
 use Rattle.ordering.specs.Pairs.{noOrder}
 use Rattle.matrix.specs.Turns.{columnTurnAll}

@@ -1,27 +1,26 @@
 -- The plain run, entry by entry, is the sequential run of the theory on cells of two values. Assumes nothing.
-use Prim.Native.Nat.{ℕ, zero, suc, _-_, _*_, _/_, _<_}
-use mathlib.Core.Path.{_≡_, refl, sym, ap, _∙_, fun-ext}
-use mathlib.Core.Bool.{Bool, false}
+use Prim.Native.Nat.{ℕ, zero, suc, _-_, _/_, _<_}
+use mathlib.Core.Path.{_≡_, refl, ap, _∙_, fun-ext}
+use mathlib.Core.Bool.{false}
 use mathlib.Core.List.{List}
 use mathlib.Core.Logic.{_≢_}
 use native.Mathlib.Omega.{arith}
 use lib.ListN.{getD}
 use lib.Ieee.{Float}
-use Rattle.float64.specs.Values.{plusZero}
 use Rattle.systolic.specs.Slots.{Side, left, right, Slot, slot, lineAt, inOrder, any}
-use Rattle.systolic.specs.Blocks.{Block, cell}
+use Rattle.systolic.specs.Blocks.{cell}
 use Rattle.systolic.specs.Sequential.{pairBlock, sequential, failsIn}
 use Rattle.systolic.specs.Sequential as theory
 use Rattle.systolic.proofs.Steps.{end, pair-none, pair-row, pair-column, pair-cells}
 use Rattle.matrix.specs.Turns.{columnTurnAll}
 use Rattle.rotation.specs.declared.Parameters.{Parameters}
-use Rattle.rotation.specs.Rotation.{ofTangent, sent, turnOf, diagonalOf}
+use Rattle.rotation.specs.Rotation.{sent, turnOf}
 use Rattle.rotation.proofs.Cases.{received-pair}
-use Rattle.ordering.specs.Pairs.{noOrder, registersAt}
+use Rattle.ordering.specs.Pairs.{noOrder}
 use Rattle.ordering.proofs.Orders.{order-half}
 use Rattle.ordering.proofs.Standing.{left-stands, right-stands, lines-differ}
 use Rattle.plain.specs.State.{State, parametersOf, pairTurned, pairStep, pairsStep, after, notFinite, spoiled}
-use Rattle.plain.specs.Cells.{Cell, cellOf, sideOf, sides, blockTurned, rules}
+use Rattle.plain.specs.Cells.{cellOf, sideOf, sides, blockTurned, rules}
 use Rattle.plain.proofs.Spots.{Spot, first, second, neither, spot, all-first, all-second, all-other, at-first-first, at-second-second, at-first-second, at-second-first, at-first-other, at-second-other, at-other-first, at-other-second, at-others}
 
 -- ---- one pair

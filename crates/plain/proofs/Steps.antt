@@ -1,6 +1,6 @@
 -- Two lists that hold a state, through the pairs of a step and the steps of a run. Assumes nothing.
-use Prim.Native.Nat.{ℕ, zero, suc, _+_, _*_, _/_, _≤_, _<_}
-use mathlib.Core.Path.{_≡_, refl, sym, ap, _∙_}
+use Prim.Native.Nat.{ℕ, zero, suc, _+_, _*_, _/_, _<_}
+use mathlib.Core.Path.{_≡_, refl, ap, _∙_}
 use mathlib.Core.Bool.{true, false}
 use mathlib.Core.List.{List}
 use native.Mathlib.Omega.{arith}
@@ -11,10 +11,10 @@ use Rattle.systolic.specs.Slots.{left, right}
 use Rattle.ordering.specs.declared.Registers.{Registers}
 use Rattle.ordering.specs.Pairs.{noOrder, registersAt}
 use Rattle.ordering.proofs.Standing.{left-stands, right-stands, line-within, lines-differ}
-use Rattle.matrix.specs.Matrix.{at, flat}
+use Rattle.matrix.specs.Matrix.{at}
 use Rattle.matrix.specs.Turns.{twoLines}
 use Rattle.matrix.proofs.Flat.{flat-length}
-use Rattle.matrix.proofs.Within.{Two, are-two, two-are}
+use Rattle.matrix.proofs.Within.{are-two, two-are}
 use Rattle.matrix.proofs.Same.{Line, Same, first-line, second-line, flat-same, flat-again, read-again, rows-same, columns-same, all-columns-same}
 use Rattle.plain.specs.State.{State, parametersOf, pairTurned, pairStep, pairsStep, after, stateOf, Held}
 use Rattle.plain.proofs.Turning.{entry-same, cleared-same}

@@ -15,9 +15,9 @@ use Rattle.rotation.specs.Rotation.{ofPair, diagonalOf}
 use Rattle.matrix.specs.Matrix.{at, flat}
 use Rattle.matrix.specs.Turns.{twoLines, onLines, rowTurn, columnTurn, columnTurnAll}
 use Rattle.matrix.proofs.Flat.{flat-length}
-use Rattle.matrix.proofs.Within.{Two, are-two}
-use Rattle.matrix.proofs.Same.{Line, Same, first-line, second-line, flat-same, flat-again, read-again, one-more, rows-same, columns-same, all-columns-same, turned-flat, still-rows, still-columns, still-all-columns}
-use Rattle.plain.specs.State.{State, state, withEntry, parametersOf, pairTurned, pairStep, stateOf, Held}
+use Rattle.matrix.proofs.Within.{are-two}
+use Rattle.matrix.proofs.Same.{Same, first-line, second-line, flat-same, flat-again, one-more, columns-same, turned-flat, still-rows, still-columns, still-all-columns}
+use Rattle.plain.specs.State.{withEntry, parametersOf, pairTurned, pairStep, stateOf, Held}
 
 -- ---- one entry
 module _ (p q : ℕ) (x : Float) where

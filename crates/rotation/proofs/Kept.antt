@@ -1,14 +1,14 @@
 -- What is not finite stays so: where a rotation leaves finite values, it was given finite ones. Assumes nothing.
 use lib.IntN.{pos}
 use mathlib.Core.Path.{_≡_, refl, sym, ap, _∙_}
-use mathlib.Core.Bool.{Bool, true, false, cond, true≢false}
+use mathlib.Core.Bool.{Bool, true, false, true≢false}
 use lib.Ieee.{Float, nan, inf, fin, binary64, neg, add, sub, mul, div, lt, ofBits}
-use Rattle.float64.specs.Values.{plusZero, finite, isZero}
+use Rattle.float64.specs.Values.{finite, isZero}
 use Rattle.float64.proofs.Operands.{BothFinite, sum-operands, difference-operands, product-operands}
 use Rattle.root.specs.Sqrt.{sqrtOf}
 use Rattle.rotation.specs.declared.Parameters.{Parameters}
 use Rattle.rotation.specs.declared.Parameters.the-variants.{Still, Turn}
-use Rattle.rotation.specs.Rotation.{two, rootOf, signum, tangentOf, cosineOf, quotient, tangent, ofTangent, ofPair, diagonalOf, turnOf}
+use Rattle.rotation.specs.Rotation.{rootOf, signum, tangentOf, quotient, tangent, ofTangent, ofPair, diagonalOf, turnOf}
 use Rattle.rotation.proofs.Cases.{tangent-nan}
 
 -- ---- a turn of two values

@@ -1,4 +1,3 @@
-use Prim.Native.Nat.{_-_, _≤_}
 use mathlib.Core.Path.{sym, _∙_}
 use native.Mathlib.Omega.{arith}
 use borrow.Author.Needs.{needs}
@@ -15,16 +14,16 @@ returns : tie.Need-returns
 returns c = left-alone _ _ _ _ _ (sym (c .before .are-lines .ensures) ∙ not-true _ (c .if1 .taken))
 
 sub-turn-lines : tie.Need-sub-turn-lines
-sub-turn-lines c = are-two _ _ _ _ (sym (c .before .are-lines .ensures) ∙ not-false _ (c .if1 .left)) .first-above
+sub-turn-lines c = let t = are-two _ _ _ _ (sym (c .before .are-lines .ensures) ∙ not-false _ (c .if1 .left)) in omega (arith, t .first-above, t .second-above)
 
 sub-turn-lines-2 : tie.Need-sub-turn-lines-2
-sub-turn-lines-2 c = are-two _ _ _ _ (sym (c .before .are-lines .ensures) ∙ not-false _ (c .if1 .left)) .second-above
+sub-turn-lines-2 c = let t = are-two _ _ _ _ (sym (c .before .are-lines .ensures) ∙ not-false _ (c .if1 .left)) in omega (arith, t .first-above, t .second-above)
 
 sub-turn-lines-3 : tie.Need-sub-turn-lines-3
-sub-turn-lines-3 c = are-two _ _ _ _ (sym (c .before .are-lines .ensures) ∙ not-false _ (c .if1 .left)) .first-above
+sub-turn-lines-3 c = let t = are-two _ _ _ _ (sym (c .before .are-lines .ensures) ∙ not-false _ (c .if1 .left)) in omega (arith, t .first-above, t .second-above)
 
 sub-turn-lines-4 : tie.Need-sub-turn-lines-4
-sub-turn-lines-4 c = are-two _ _ _ _ (sym (c .before .are-lines .ensures) ∙ not-false _ (c .if1 .left)) .second-above
+sub-turn-lines-4 c = let t = are-two _ _ _ _ (sym (c .before .are-lines .ensures) ∙ not-false _ (c .if1 .left)) in omega (arith, t .first-above, t .second-above)
 
 turn-lines-requires : tie.Need-turn-lines-requires
 turn-lines-requires c κs =

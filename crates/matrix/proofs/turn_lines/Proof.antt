@@ -2,7 +2,6 @@ use Prim.Native.Nat.{_+_, _-_, _*_, _≤_}
 use mathlib.Core.Path.{_≡_, ap, _∙_}
 use native.Mathlib.Omega.{arith}
 use native.Mathlib.Nat.{le-antisymm}
-use borrow.Author.Needs.{needs}
 use lib.ListN.{length}
 use Rattle.matrix.specs.Turns.{isOne, turnLines}
 use Rattle.matrix.proofs.Lines.{no-lines, next-line, turned-length}

@@ -1,4 +1,3 @@
-use Prim.Native.Nat.{_-_, _≤_}
 use mathlib.Core.Path.{sym, _∙_}
 use native.Mathlib.Omega.{arith}
 use borrow.Author.Needs.{needs}
@@ -15,7 +14,7 @@ returns : tie.Need-returns
 returns c = left-alone _ _ _ _ _ (sym (c .before .are-lines .ensures) ∙ not-true _ (c .if1 .taken))
 
 sub-turn-lines : tie.Need-sub-turn-lines
-sub-turn-lines c = are-two _ _ _ _ (sym (c .before .are-lines .ensures) ∙ not-false _ (c .if1 .left)) .first-above
+sub-turn-lines c = let t = are-two _ _ _ _ (sym (c .before .are-lines .ensures) ∙ not-false _ (c .if1 .left)) in omega (arith, t .first-above, t .second-above)
 
 mul-turn-lines : tie.Need-mul-turn-lines
 mul-turn-lines c =
@@ -23,7 +22,7 @@ mul-turn-lines c =
     omega (arith, offsets-within (b .parameters) _ _ _ (b .a .now) (are-two _ _ _ _ (sym (c .before .are-lines .ensures) ∙ not-false _ (c .if1 .left))) .0)
 
 sub-turn-lines-2 : tie.Need-sub-turn-lines-2
-sub-turn-lines-2 c = are-two _ _ _ _ (sym (c .before .are-lines .ensures) ∙ not-false _ (c .if1 .left)) .second-above
+sub-turn-lines-2 c = let t = are-two _ _ _ _ (sym (c .before .are-lines .ensures) ∙ not-false _ (c .if1 .left)) in omega (arith, t .first-above, t .second-above)
 
 mul-turn-lines-2 : tie.Need-mul-turn-lines-2
 mul-turn-lines-2 c =
@@ -31,10 +30,10 @@ mul-turn-lines-2 c =
     omega (arith, offsets-within (b .parameters) _ _ _ (b .a .now) (are-two _ _ _ _ (sym (c .before .are-lines .ensures) ∙ not-false _ (c .if1 .left))) .1)
 
 sub-turn-lines-3 : tie.Need-sub-turn-lines-3
-sub-turn-lines-3 c = are-two _ _ _ _ (sym (c .before .are-lines .ensures) ∙ not-false _ (c .if1 .left)) .first-above
+sub-turn-lines-3 c = let t = are-two _ _ _ _ (sym (c .before .are-lines .ensures) ∙ not-false _ (c .if1 .left)) in omega (arith, t .first-above, t .second-above)
 
 sub-turn-lines-4 : tie.Need-sub-turn-lines-4
-sub-turn-lines-4 c = are-two _ _ _ _ (sym (c .before .are-lines .ensures) ∙ not-false _ (c .if1 .left)) .second-above
+sub-turn-lines-4 c = let t = are-two _ _ _ _ (sym (c .before .are-lines .ensures) ∙ not-false _ (c .if1 .left)) in omega (arith, t .first-above, t .second-above)
 
 turn-lines-requires : tie.Need-turn-lines-requires
 turn-lines-requires c κs =

@@ -1,4 +1,3 @@
-use mathlib.Core.Path.{sym, _∙_}
 use borrow.Author.Tests.{not-true, not-false}
 use Rattle.plain.proofs.Endings.{of-not, spoils-first, spoils-second, stays}
 use borrow.Author.Needs.{needs}

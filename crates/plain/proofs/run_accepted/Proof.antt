@@ -1,9 +1,10 @@
 use borrow.Author.Needs.{needs}
 use mathlib.Core.Path.{sym, _∙_}
 use native.Mathlib.Omega.{arith}
+use Rattle.ordering.proofs.Orders.{order-is}
 use Rattle.matrix.proofs.Accepted.{accepted-long}
 use Rattle.plain.proofs.Steps.{held-long}
-use Rattle.plain.proofs.Outcomes.{begins, order-above, steps-fit, run-made}
+use Rattle.plain.proofs.Outcomes.{begins, order-above, product-fits, run-made}
 use Rattle.plain.proofs.run_accepted.Statement.{statement}
 use Rattle.plain.proofs.run_accepted.Tie as tie
 
@@ -29,7 +30,8 @@ mul-make-steps : tie.Need-mul-make-steps
 mul-make-steps c =
     let s = c .before .before .before .before .before .before .before .before .before .before .before in
     let t = begins _ _ (s .args .matrix .now) _ _ (s .pre) in
-    omega (arith, steps-fit _ _ (t .order) (t .few))
+    let h = order-is _ (t .order) .2 in
+    record { fits = product-fits _ _ (t .few) (omega arith) }
 
 make-steps-requires : tie.Need-make-steps-requires
 make-steps-requires c κs =
