@@ -7,7 +7,7 @@ use mathlib.Core.List.{List}
 use mathlib.Core.Logic.{_≢_, ⊎-elim}
 use native.Mathlib.Omega.{arith}
 use native.Mathlib.Nat.{le-of-suc-le-suc, eq-or-lt-of-le}
-use borrow.Author.Tests.{eqb-true, eqb-false, eq-eqb, ne-eqb}
+use borrow.Author.Tests.{eqb-true, eqb-false}
 use lib.Dec.{eqb}
 use lib.ListN.{length, getD, set, length-set}
 use lib.Seq.{getD-set-same, getD-set-other, lt-length-set}
@@ -15,11 +15,11 @@ use lib.Ieee.{Float, nan}
 use Rattle.rotation.specs.declared.Parameters.{Parameters}
 use Rattle.rotation.specs.declared.Sides.{Sides}
 use Rattle.rotation.specs.Rotation.{turnOf}
-use Rattle.matrix.specs.Turns.{turnedAt, isOne, placesTurned, lineTurned, turnLines}
+use Rattle.matrix.specs.Turns.{turnedAt, placesTurned, turnLines}
 
 -- ---- one line
 module _ (P : Parameters) (i j : ℕ) (l : List Float) where
-  places-length : length (placesTurned P i j l) ≡ length l
+  pub places-length : length (placesTurned P i j l) ≡ length l
   unfolding placesTurned
   places-length = simp length-set
 
@@ -35,77 +35,44 @@ module _ (P : Parameters) (i j : ℕ) (l : List Float) where
   unfolding placesTurned
   places-second b = rw (getD-set-same, lt-length-set)
 
-  places-are : (s : Sides) → s ≡ turnOf P (getD l i nan) (getD l j nan) → set (set l i (s .left)) j (s .right) ≡ placesTurned P i j l
+  pub places-are : (s : Sides) → s ≡ turnOf P (getD l i nan) (getD l j nan) → set (set l i (s .left)) j (s .right) ≡ placesTurned P i j l
   unfolding placesTurned
   places-are s e = rw e
 
 -- ---- all lines
-pub is-first : (p q r : ℕ) → r ≡ p → isOne p q r ≡ true
-is-first p q r e = rw (eq-eqb r p e)
-
-pub is-second : (p q r : ℕ) → ¬ (r ≡ p) → r ≡ q → isOne p q r ≡ true
-is-second p q r h e = rw (ne-eqb r p h, eq-eqb r q e)
-
-pub is-neither : (p q r : ℕ) → ¬ (r ≡ p) → ¬ (r ≡ q) → isOne p q r ≡ false
-is-neither p q r h g = rw (ne-eqb r p h, ne-eqb r q g)
-
-pub line-skipped : (skips : ℕ → Bool) (P : Parameters) (r i j : ℕ) (l : List Float) → skips r ≡ true → l ≡ lineTurned skips P r i j l
-unfolding lineTurned
-line-skipped skips P r i j l h = rw h
-
-pub line-turned : (skips : ℕ → Bool) (P : Parameters) (r i j : ℕ) (l : List Float) (s : Sides) → skips r ≡ false
-    → s ≡ turnOf P (getD l i nan) (getD l j nan) → set (set l i (s .left)) j (s .right) ≡ lineTurned skips P r i j l
-unfolding lineTurned
-line-turned skips P r i j l s h e = rw h (places-are P i j l s e)
-
-line-length : (skips : ℕ → Bool) (P : Parameters) (r i j : ℕ) (l : List Float) → length (lineTurned skips P r i j l) ≡ length l
-unfolding lineTurned
-line-length skips P r i j l = go (skips r)
-  where
-    go : (b : Bool) → length (cond b l (placesTurned P i j l)) ≡ length l
-    go true = refl
-    go false = places-length P i j l
-
-module _ (f g : ℕ → ℕ) (skips : ℕ → Bool) (P : Parameters) (l : List Float) where
-  pub no-lines : l ≡ turnLines f g skips P 0 l
+module _ (f g : ℕ → ℕ) (P : Parameters) (l : List Float) where
+  pub no-lines : l ≡ turnLines f g P 0 l
   unfolding turnLines
   no-lines = refl
 
-  line-after : (r : ℕ) → lineTurned skips P r (f r) (g r) (turnLines f g skips P r l) ≡ turnLines f g skips P (suc r) l
+  line-after : (r : ℕ) → placesTurned P (f r) (g r) (turnLines f g P r l) ≡ turnLines f g P (suc r) l
   unfolding turnLines
   line-after r = refl
 
-  pub next-line : {a b : List Float} (r : ℕ) → a ≡ turnLines f g skips P r l → b ≡ lineTurned skips P r (f r) (g r) a → b ≡ turnLines f g skips P (r + 1) l
-  next-line r e h = let s : r + 1 ≡ suc r = omega arith in h ∙ ap (lineTurned skips P r (f r) (g r)) e ∙ line-after r ∙ ap (λ (k : ℕ). turnLines f g skips P k l) (sym s)
+  pub next-line : {a b : List Float} (r : ℕ) → a ≡ turnLines f g P r l → b ≡ placesTurned P (f r) (g r) a → b ≡ turnLines f g P (r + 1) l
+  next-line r e h = let s : r + 1 ≡ suc r = omega arith in h ∙ ap (placesTurned P (f r) (g r)) e ∙ line-after r ∙ ap (λ (k : ℕ). turnLines f g P k l) (sym s)
 
-  pub turned-length : (r : ℕ) → length (turnLines f g skips P r l) ≡ length l
+  pub turned-length : (r : ℕ) → length (turnLines f g P r l) ≡ length l
   unfolding turnLines
   turned-length zero = refl
-  turned-length (suc r) = line-length skips P r (f r) (g r) (turnLines f g skips P r l) ∙ turned-length r
+  turned-length (suc r) = places-length P (f r) (g r) (turnLines f g P r l) ∙ turned-length r
 
 -- places of different lines below n are apart, and all are below N
 pub record Grid (n N : ℕ) (ix : ℕ → ℕ → ℕ) : Type 0 where
   pub inside : (r i : ℕ) → r < n → i < n → ix r i < N
   pub apart : (r i r′ i′ : ℕ) → r < n → i < n → r′ < n → i′ < n → ix r i ≡ ix r′ i′ → (r ≡ r′) × (i ≡ i′)
 
-module _ {n N : ℕ} (ix : ℕ → ℕ → ℕ) (g : Grid n N ix) (skips : ℕ → Bool) (P : Parameters) (p q : ℕ) (pn : p < n) (qn : q < n) (pq : p ≢ q) where
+module _ {n N : ℕ} (ix : ℕ → ℕ → ℕ) (g : Grid n N ix) (P : Parameters) (p q : ℕ) (pn : p < n) (qn : q < n) (pq : p ≢ q) where
   -- another line stays
-  line-other : (r k i : ℕ) (l : List Float) → r < n → k < n → i < n → k ≢ r → getD (lineTurned skips P r (ix r p) (ix r q) l) (ix k i) nan ≡ getD l (ix k i) nan
-  unfolding lineTurned
-  line-other r k i l hr hk hi ne = go (skips r)
-    where
-      go : (b : Bool) → getD (cond b l (placesTurned P (ix r p) (ix r q) l)) (ix k i) nan ≡ getD l (ix k i) nan
-      go true = refl
-      go false =
-          places-other P (ix r p) (ix r q) l (ix k i)
-          (λ e. ne (g .apart k i r p hk hi hr pn e .0))
-          (λ e. ne (g .apart k i r q hk hi hr qn e .0))
+  line-other : (r k i : ℕ) (l : List Float) → r < n → k < n → i < n → k ≢ r → getD (placesTurned P (ix r p) (ix r q) l) (ix k i) nan ≡ getD l (ix k i) nan
+  line-other r k i l hr hk hi ne =
+      places-other P (ix r p) (ix r q) l (ix k i)
+      (λ e. ne (g .apart k i r p hk hi hr pn e .0))
+      (λ e. ne (g .apart k i r q hk hi hr qn e .0))
 
   line-same : (r i : ℕ) (l : List Float) → length l ≡ N → r < n → i < n
-      → getD (lineTurned skips P r (ix r p) (ix r q) l) (ix r i) nan
-      ≡ cond (skips r) (getD l (ix r i) nan) (turnedAt P p q i (getD l (ix r p) nan) (getD l (ix r q) nan) (getD l (ix r i) nan))
-  unfolding lineTurned
-  line-same r i l e hr hi = go (skips r)
+      → getD (placesTurned P (ix r p) (ix r q) l) (ix r i) nan ≡ turnedAt P p q i (getD l (ix r p) nan) (getD l (ix r q) nan) (getD l (ix r i) nan)
+  line-same r i l e hr hi = unfold turnedAt in (place (eqb i p) refl (eqb i q) refl)
     where
       bp : ix r p < length l
       bp = omega (arith, g .inside r p hr pn)
@@ -123,28 +90,23 @@ module _ {n N : ℕ} (ix : ℕ → ℕ → ℕ) (g : Grid n N ix) (skips : ℕ �
           (λ u. eqb-false i p f (g .apart r i r p hr hi hr pn u .1))
           (λ u. eqb-false i q h (g .apart r i r q hr hi hr qn u .1))
 
-      go : (b : Bool) → getD (cond b l (placesTurned P (ix r p) (ix r q) l)) (ix r i) nan
-          ≡ cond b (getD l (ix r i) nan) (turnedAt P p q i (getD l (ix r p) nan) (getD l (ix r q) nan) (getD l (ix r i) nan))
-      go true = refl
-      go false = unfold turnedAt in (place (eqb i p) refl (eqb i q) refl)
-
-  lines-past : (r k i : ℕ) (l : List Float) → r ≤ k → k < n → i < n → getD (turnLines (λ r. ix r p) (λ r. ix r q) skips P r l) (ix k i) nan ≡ getD l (ix k i) nan
+  lines-past : (r k i : ℕ) (l : List Float) → r ≤ k → k < n → i < n → getD (turnLines (λ r. ix r p) (λ r. ix r q) P r l) (ix k i) nan ≡ getD l (ix k i) nan
   unfolding turnLines
   lines-past zero k i l h hk hi = refl
   lines-past (suc r) k i l h hk hi =
-      line-other r k i (turnLines (λ r. ix r p) (λ r. ix r q) skips P r l) (omega arith) hk hi (omega arith) ∙ lines-past r k i l (omega arith) hk hi
+      line-other r k i (turnLines (λ r. ix r p) (λ r. ix r q) P r l) (omega arith) hk hi (omega arith) ∙ lines-past r k i l (omega arith) hk hi
 
   -- each line below r is turned
   pub lines-done : (r k i : ℕ) (l : List Float) → length l ≡ N → r ≤ n → k < r → i < n
-      → getD (turnLines (λ r. ix r p) (λ r. ix r q) skips P r l) (ix k i) nan
-      ≡ cond (skips k) (getD l (ix k i) nan) (turnedAt P p q i (getD l (ix k p) nan) (getD l (ix k q) nan) (getD l (ix k i) nan))
+      → getD (turnLines (λ r. ix r p) (λ r. ix r q) P r l) (ix k i) nan
+      ≡ turnedAt P p q i (getD l (ix k p) nan) (getD l (ix k q) nan) (getD l (ix k i) nan)
   unfolding turnLines
   lines-done zero k i l e hr hk hi = absurd (omega arith)
   lines-done (suc r) k i l e hr hk hi =
       ⊎-elim
       (λ u.
       rw u
-      (line-same r i (turnLines (λ r. ix r p) (λ r. ix r q) skips P r l) (turned-length (λ r. ix r p) (λ r. ix r q) skips P l r ∙ e) hr hi
+      (line-same r i (turnLines (λ r. ix r p) (λ r. ix r q) P r l) (turned-length (λ r. ix r p) (λ r. ix r q) P l r ∙ e) hr hi
       ∙ rw (lines-past r r p l (omega arith) hr pn, lines-past r r q l (omega arith) hr qn, lines-past r r i l (omega arith) hr hi)))
-      (λ u. line-other r k i (turnLines (λ r. ix r p) (λ r. ix r q) skips P r l) hr (omega arith) hi (omega arith) ∙ lines-done r k i l e (omega arith) u hi)
+      (λ u. line-other r k i (turnLines (λ r. ix r p) (λ r. ix r q) P r l) hr (omega arith) hi (omega arith) ∙ lines-done r k i l e (omega arith) u hi)
       (eq-or-lt-of-le (le-of-suc-le-suc hk))

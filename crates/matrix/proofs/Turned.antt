@@ -13,7 +13,7 @@ use lib.ListN.{length, getD}
 use lib.Ieee.{Float, nan}
 use Rattle.rotation.specs.declared.Parameters.{Parameters}
 use Rattle.matrix.specs.Matrix.{at, flat}
-use Rattle.matrix.specs.Turns.{turnedAt, isOne, onLines, rowTurn, columnTurn, columnTurnAll, turnLines}
+use Rattle.matrix.specs.Turns.{turnedAt, onLines, rowTurnAll, columnTurnAll, turnLines}
 use Rattle.matrix.proofs.Flat.{index-one, at-offset, flat-is}
 use Rattle.matrix.proofs.Within.{Two, two-are, on-lines}
 use Rattle.matrix.proofs.Lines.{Grid, turned-length, lines-done}
@@ -69,26 +69,19 @@ module _ (P : Parameters) (n p q : ℕ) (l : List Float) (long : length l ≡ n 
   rows-within : (r : ℕ) → r < n → (inRow n r p < length l) × (inRow n r q < length l)
   rows-within r h = rw long (rows n .inside r p h pn, rows n .inside r q h qn)
 
-  rows-from-0 : turnLines (λ r. inColumn n r p) (λ r. inColumn n r q) (isOne p q) P n l ≡ flat n (rowTurn P (p + 1) (q + 1) (at n l))
-  unfolding rowTurn
+  rows-from-0 : turnLines (λ r. inColumn n r p) (λ r. inColumn n r q) P n l ≡ flat n (rowTurnAll P (p + 1) (q + 1) (at n l))
+  unfolding rowTurnAll
   rows-from-0 =
-      flat-is n _ _ (turned-length _ _ _ P l n ∙ long)
-      (λ i j hi hj. at-column n _ i j ∙ lines-done (inColumn n) (columns n) (isOne p q) P p q pn qn pq n j i l long (le-refl n) hj hi
-      ∙ rw (from-1 j p, from-1 j q, turned-from-1 P p q i, at-column n l i j, at-column n l p j, at-column n l q j))
+      flat-is n _ _ (turned-length _ _ P l n ∙ long)
+      (λ i j hi hj. at-column n _ i j ∙ lines-done (inColumn n) (columns n) P p q pn qn pq n j i l long (le-refl n) hj hi
+      ∙ rw (turned-from-1 P p q i, at-column n l i j, at-column n l p j, at-column n l q j))
 
-  columns-from-0 : turnLines (λ r. inRow n r p) (λ r. inRow n r q) (isOne p q) P n l ≡ flat n (columnTurn P (p + 1) (q + 1) (at n l))
-  unfolding columnTurn
-  columns-from-0 =
-      flat-is n _ _ (turned-length _ _ _ P l n ∙ long)
-      (λ i j hi hj. at-row n _ i j ∙ lines-done (inRow n) (rows n) (isOne p q) P p q pn qn pq n i j l long (le-refl n) hi hj
-      ∙ rw (from-1 i p, from-1 i q, turned-from-1 P p q j, at-row n l i j, at-row n l i p, at-row n l i q))
-
-  all-columns-from-0 : turnLines (λ r. inRow n r p) (λ r. inRow n r q) (isOne n n) P n l ≡ flat n (columnTurnAll P (p + 1) (q + 1) (at n l))
+  columns-from-0 : turnLines (λ r. inRow n r p) (λ r. inRow n r q) P n l ≡ flat n (columnTurnAll P (p + 1) (q + 1) (at n l))
   unfolding columnTurnAll
-  all-columns-from-0 =
-      flat-is n _ _ (turned-length _ _ _ P l n ∙ long)
-      (λ i j hi hj. at-row n _ i j ∙ lines-done (inRow n) (rows n) (isOne n n) P p q pn qn pq n i j l long (le-refl n) hi hj
-      ∙ rw (ne-eqb i n (λ e. omega arith), turned-from-1 P p q j, at-row n l i j, at-row n l i p, at-row n l i q))
+  columns-from-0 =
+      flat-is n _ _ (turned-length _ _ P l n ∙ long)
+      (λ i j hi hj. at-row n _ i j ∙ lines-done (inRow n) (rows n) P p q pn qn pq n i j l long (le-refl n) hi hj
+      ∙ rw (turned-from-1 P p q j, at-row n l i j, at-row n l i p, at-row n l i q))
 
 -- ---- the lines p and q, from 1
 module _ (P : Parameters) (n p q : ℕ) (l : List Float) (t : Two n p q (length l)) where
@@ -119,17 +112,12 @@ module _ (P : Parameters) (n p q : ℕ) (l : List Float) (t : Two n p q (length 
   pub in-rows : (r : ℕ) → r < n → (inRow n r (p - 1) < length l) × (inRow n r (q - 1) < length l)
   in-rows = rows-within P n (p - 1) (q - 1) l (t .long) first-below second-below offsets-apart
 
-  pub rows-turned : turnLines (λ r. inColumn n r (p - 1)) (λ r. inColumn n r (q - 1)) (isOne (p - 1) (q - 1)) P n l ≡ onLines n p q (rowTurn P p q) l
+  pub rows-turned : turnLines (λ r. inColumn n r (p - 1)) (λ r. inColumn n r (q - 1)) P n l ≡ onLines n p q (rowTurnAll P p q) l
   rows-turned =
       rw (first-again, second-again) at (rows-from-0 P n (p - 1) (q - 1) l (t .long) first-below second-below offsets-apart)
-      ∙ on-lines n p q (rowTurn P p q) l (two-are n p q (length l) t)
+      ∙ on-lines n p q (rowTurnAll P p q) l (two-are n p q (length l) t)
 
-  pub columns-turned : turnLines (λ r. inRow n r (p - 1)) (λ r. inRow n r (q - 1)) (isOne (p - 1) (q - 1)) P n l ≡ onLines n p q (columnTurn P p q) l
+  pub columns-turned : turnLines (λ r. inRow n r (p - 1)) (λ r. inRow n r (q - 1)) P n l ≡ onLines n p q (columnTurnAll P p q) l
   columns-turned =
       rw (first-again, second-again) at (columns-from-0 P n (p - 1) (q - 1) l (t .long) first-below second-below offsets-apart)
-      ∙ on-lines n p q (columnTurn P p q) l (two-are n p q (length l) t)
-
-  pub all-columns-turned : turnLines (λ r. inRow n r (p - 1)) (λ r. inRow n r (q - 1)) (isOne n n) P n l ≡ onLines n p q (columnTurnAll P p q) l
-  all-columns-turned =
-      rw (first-again, second-again) at (all-columns-from-0 P n (p - 1) (q - 1) l (t .long) first-below second-below offsets-apart)
       ∙ on-lines n p q (columnTurnAll P p q) l (two-are n p q (length l) t)

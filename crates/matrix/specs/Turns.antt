@@ -25,7 +25,11 @@ rowTurn P p q A r c = cond (isOne p q c) (A r c) (turnedAt P p q r (A p c) (A q 
 unfoldable pub columnTurn : Parameters → ℕ → ℕ → (ℕ → ℕ → Float) → ℕ → ℕ → Float
 columnTurn P p q A r c = cond (isOne p q r) (A r c) (turnedAt P p q c (A r p) (A r q) (A r c))
 
--- On all rows, as the eigenvectors are turned.
+-- In all columns.
+unfoldable pub rowTurnAll : Parameters → ℕ → ℕ → (ℕ → ℕ → Float) → ℕ → ℕ → Float
+rowTurnAll P p q A r c = turnedAt P p q r (A p c) (A q c) (A r c)
+
+-- In all rows, as the eigenvectors are turned.
 unfoldable pub columnTurnAll : Parameters → ℕ → ℕ → (ℕ → ℕ → Float) → ℕ → ℕ → Float
 columnTurnAll P p q A r c = turnedAt P p q c (A r p) (A r q) (A r c)
 
@@ -45,13 +49,8 @@ onLines n p q turn l = cond (twoLines n p q (length l)) (flat n (turn (at n l)))
 unfoldable pub placesTurned : Parameters → ℕ → ℕ → List Float → List Float
 placesTurned P i j l = set (set l i (turnOf P (getD l i nan) (getD l j nan) .left)) j (turnOf P (getD l i nan) (getD l j nan) .right)
 
--- The same, unless r is skipped.
-unfoldable pub lineTurned : (ℕ → Bool) → Parameters → ℕ → ℕ → ℕ → List Float → List Float
+-- The values at f r and g r turned for each r below n, one after the other.
+unfoldable pub turnLines : (ℕ → ℕ) → (ℕ → ℕ) → Parameters → ℕ → List Float → List Float
 unfolding placesTurned
-lineTurned skips P r i j l = cond (skips r) l (placesTurned P i j l)
-
--- The values at f r and g r turned for each r below n that is not skipped, one after the other.
-unfoldable pub turnLines : (ℕ → ℕ) → (ℕ → ℕ) → (ℕ → Bool) → Parameters → ℕ → List Float → List Float
-unfolding lineTurned
-turnLines f g skips P zero l = l
-turnLines f g skips P (suc r) l = lineTurned skips P r (f r) (g r) (turnLines f g skips P r l)
+turnLines f g P zero l = l
+turnLines f g P (suc r) l = placesTurned P (f r) (g r) (turnLines f g P r l)

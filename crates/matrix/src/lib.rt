@@ -5,7 +5,7 @@ ghost use lib.ListN.{length};
 ghost use lib.Dec.{eqb};
 ghost use Rattle.refusal.specs.Refusal.{toldAnswer};
 ghost use Rattle.matrix.specs.Matrix.{at, flat};
-ghost use Rattle.matrix.specs.Turns.{isOne, isLine, twoLines, onLines, rowTurn, columnTurn, columnTurnAll, lineTurned, turnLines};
+ghost use Rattle.matrix.specs.Turns.{isLine, twoLines, onLines, rowTurnAll, columnTurnAll, placesTurned, turnLines};
 ghost use Rattle.matrix.specs.Entries.{firstPlace, notFiniteAt, notMirroredAt, entriesOf};
 use refusal::Answer;
 use refusal::Refusal;
@@ -74,34 +74,24 @@ fn first_not_mirrored(n: usize, a: &[f64]) -> Answer
     found
 }
 
-// The row turn of the lines p and q, for any other column. Where there are no such lines it does nothing, and so do the other turns.
+// The row turn of the lines p and q in all columns. Where there are no such lines it does nothing, and so does the column turn.
 pub fn turn_rows(parameters: Parameters, n: usize, p: usize, q: usize, a: &mut [f64])
-    ensures { λ _. ⌜ now (a .exit) ≡ onLines n p q (rowTurn parameters p q) (now (a .entry)) ⌝ }
+    ensures { λ _. ⌜ now (a .exit) ≡ onLines n p q (rowTurnAll parameters p q) (now (a .entry)) ⌝ }
 {
     if !are_lines(n, p, q, a.len()) {
         return;
     }
-    turn_lines(parameters, n, 1, (p - 1) * n, (q - 1) * n, p - 1, q - 1, a);
+    turn_lines(parameters, n, 1, (p - 1) * n, (q - 1) * n, a);
 }
 
-// The column turn of the lines p and q, for any other row.
+// The column turn of the lines p and q in all rows.
 pub fn turn_columns(parameters: Parameters, n: usize, p: usize, q: usize, a: &mut [f64])
-    ensures { λ _. ⌜ now (a .exit) ≡ onLines n p q (columnTurn parameters p q) (now (a .entry)) ⌝ }
-{
-    if !are_lines(n, p, q, a.len()) {
-        return;
-    }
-    turn_lines(parameters, n, n, p - 1, q - 1, p - 1, q - 1, a);
-}
-
-// The column turn on all rows: there is no row n + 1 to skip.
-pub fn turn_all_columns(parameters: Parameters, n: usize, p: usize, q: usize, a: &mut [f64])
     ensures { λ _. ⌜ now (a .exit) ≡ onLines n p q (columnTurnAll parameters p q) (now (a .entry)) ⌝ }
 {
     if !are_lines(n, p, q, a.len()) {
         return;
     }
-    turn_lines(parameters, n, n, p - 1, q - 1, n, n, a);
+    turn_lines(parameters, n, n, p - 1, q - 1, a);
 }
 
 // Whether p and q are two different lines of a matrix of order n, and a length is that of the matrix.
@@ -130,44 +120,21 @@ fn is_line(n: usize, p: usize) -> bool
     p <= n
 }
 
-// Turns the values at i and j of the first of n lines, and those `step` farther in each line after it; the lines p and q are skipped.
-fn turn_lines(
-    parameters: Parameters,
-    n: usize,
-    step: usize,
-    i: usize,
-    j: usize,
-    p: usize,
-    q: usize,
-    a: &mut [f64],
-)
+// Turns the values at i and j of the first of n lines, and those `step` farther in each line after it.
+fn turn_lines(parameters: Parameters, n: usize, step: usize, i: usize, j: usize, a: &mut [f64])
     requires { ⌜ ((r : ℕ) → r < n → (i + r * step < length (now a)) × (j + r * step < length (now a))) ⌝ }
-    ensures { λ _. ⌜ now (a .exit) ≡ turnLines (λ r. i + r * step) (λ r. j + r * step) (isOne p q) parameters n (now (a .entry)) ⌝ }
+    ensures { λ _. ⌜ now (a .exit) ≡ turnLines (λ r. i + r * step) (λ r. j + r * step) parameters n (now (a .entry)) ⌝ }
 {
     for r in 0..n {
-        turn_line(parameters, r, p, q, i + r * step, j + r * step, a);
+        turn_places(parameters, i + r * step, j + r * step, a);
     }
 }
 
-// The values at the indices i and j, turned unless r is p or q.
-fn turn_line(
-    parameters: Parameters,
-    r: usize,
-    p: usize,
-    q: usize,
-    i: usize,
-    j: usize,
-    a: &mut [f64],
-)
+// Turns the values at the indices i and j.
+fn turn_places(parameters: Parameters, i: usize, j: usize, a: &mut [f64])
     requires { ⌜ (i < length (now a)) × (j < length (now a)) ⌝ }
-    ensures { λ _. ⌜ now (a .exit) ≡ lineTurned (isOne p q) parameters r i j (now (a .entry)) ⌝ }
+    ensures { λ _. ⌜ now (a .exit) ≡ placesTurned parameters i j (now (a .entry)) ⌝ }
 {
-    if r == p {
-        return;
-    }
-    if r == q {
-        return;
-    }
     let sides = rotation::turn(parameters, a[i], a[j]);
     a[i] = sides.left;
     a[j] = sides.right;

@@ -1,15 +1,16 @@
 -- What stands in each row and column after the turn of a pair. Assumes nothing.
 use Prim.Native.Nat.{ℕ}
 use mathlib.Core.Path.{_≡_, refl, sym}
-use mathlib.Core.Bool.{Bool, true, false}
+use mathlib.Core.Bool.{Bool, true, false, cond, _||_, _&&_}
 use mathlib.Core.Logic.{_≢_}
 use borrow.Author.Tests.{eqb-true, eqb-false, eq-eqb, ne-eqb}
 use lib.Dec.{eqb}
 use lib.Ieee.{Float}
 use Rattle.float64.specs.Values.{plusZero}
+use Rattle.systolic.proofs.Bounded.{or-false}
 use Rattle.rotation.specs.declared.Parameters.{Parameters}
 use Rattle.rotation.specs.Rotation.{diagonalOf, turnOf}
-use Rattle.matrix.specs.Turns.{turnedAt, rowTurn, columnTurn, columnTurnAll}
+use Rattle.matrix.specs.Turns.{turnedAt, isOne, rowTurn, columnTurn, rowTurnAll, columnTurnAll}
 use Rattle.plain.specs.State.{withEntry, pairTurned}
 
 -- a line is the first of a pair, or the second, or neither
@@ -81,3 +82,53 @@ module _ (P : Parameters) (p q : ℕ) (A : ℕ → ℕ → Float) where
       pub at-others : (c : ℕ) → c ≢ p → c ≢ q → pairTurned P p q A r c ≡ A r c
       unfolding pairTurned withEntry columnTurn rowTurn turnedAt
       at-others c cp cq = rw (ne-eqb c p cp, ne-eqb c q cq, ne-eqb r p rp, ne-eqb r q rq)
+
+-- ---- The four entries of the pair are set last, so the turns before may go through all columns and rows.
+same-either : (b : Bool) {x y : Float} → y ≡ x → cond b x y ≡ x
+same-either true e = refl
+same-either false e = e
+
+module _ (P : Parameters) (p q : ℕ) (A : ℕ → ℕ → Float) where
+  first-one : isOne p q p ≡ true
+  first-one = rw (eq-eqb p p refl)
+
+  second-one : isOne p q q ≡ true
+  second-one = go (eqb q p)
+    where
+      go : (b : Bool) → (b || eqb q q) ≡ true
+      go true = refl
+      go false = eq-eqb q q refl
+
+  whole-row : (r c : ℕ) → c ≢ p → c ≢ q → columnTurnAll P p q (rowTurnAll P p q A) r c ≡ columnTurn P p q (rowTurn P p q A) r c
+  unfolding columnTurnAll rowTurnAll columnTurn rowTurn turnedAt
+  whole-row r c cp cq = rw (ne-eqb c p cp, ne-eqb c q cq) (sym (same-either (isOne p q r) refl))
+
+  whole-column : (r c : ℕ) → r ≢ p → r ≢ q → columnTurnAll P p q (rowTurnAll P p q A) r c ≡ columnTurn P p q (rowTurn P p q A) r c
+  unfolding columnTurnAll rowTurnAll columnTurn rowTurn turnedAt
+  whole-column r c rp rq = rw (first-one, second-one, ne-eqb r p rp, ne-eqb r q rq) (rw (same-either (isOne p q c) refl))
+
+  -- the entries at p and q may differ
+  four-set : (w x y z : Float) (X Y : ℕ → ℕ → Float) (r c : ℕ) → (isOne p q r ≡ false → X r c ≡ Y r c) → (isOne p q c ≡ false → X r c ≡ Y r c)
+      → withEntry q p w (withEntry p q x (withEntry q q y (withEntry p p z X))) r c ≡ withEntry q p w (withEntry p q x (withEntry q q y (withEntry p p z Y))) r c
+  unfolding withEntry
+  four-set w x y z X Y r c h k = go (eqb r p) (eqb r q) (eqb c p) (eqb c q) h k
+    where
+      go : (a b d e : Bool) → ((a || b) ≡ false → X r c ≡ Y r c) → ((d || e) ≡ false → X r c ≡ Y r c)
+          → cond (b && d) w (cond (a && e) x (cond (b && e) y (cond (a && d) z (X r c)))) ≡ cond (b && d) w (cond (a && e) x (cond (b && e) y (cond (a && d) z (Y r c))))
+      go true b true e h k = refl
+      go true b false true h k = refl
+      go true b false false h k = rw (k refl)
+      go false true true e h k = refl
+      go false true false true h k = refl
+      go false true false false h k = rw (k refl)
+      go false false d e h k = rw (h refl)
+
+  pub turned-whole : (r c : ℕ)
+      → withEntry q p plusZero (withEntry p q plusZero (withEntry q q (diagonalOf P (A p p) (A q q) (A p q) .right)
+      (withEntry p p (diagonalOf P (A p p) (A q q) (A p q) .left) (columnTurnAll P p q (rowTurnAll P p q A))))) r c
+      ≡ pairTurned P p q A r c
+  unfolding pairTurned
+  turned-whole r c =
+      four-set plusZero plusZero _ _ (columnTurnAll P p q (rowTurnAll P p q A)) (columnTurn P p q (rowTurn P p q A)) r c
+      (λ e. let o = or-false _ _ e in whole-column r c (eqb-false _ _ (o .0)) (eqb-false _ _ (o .1)))
+      (λ e. let o = or-false _ _ e in whole-row r c (eqb-false _ _ (o .0)) (eqb-false _ _ (o .1)))

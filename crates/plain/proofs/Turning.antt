@@ -13,10 +13,11 @@ use Rattle.rotation.specs.declared.Parameters.the-variants.{Still}
 use Rattle.rotation.specs.declared.Sides.{Sides}
 use Rattle.rotation.specs.Rotation.{ofPair, diagonalOf}
 use Rattle.matrix.specs.Matrix.{at, flat}
-use Rattle.matrix.specs.Turns.{twoLines, onLines, rowTurn, columnTurn, columnTurnAll}
+use Rattle.matrix.specs.Turns.{twoLines, onLines, rowTurn, columnTurn, rowTurnAll, columnTurnAll}
 use Rattle.matrix.proofs.Flat.{flat-length}
-use Rattle.matrix.proofs.Within.{are-two}
-use Rattle.matrix.proofs.Same.{Same, first-line, second-line, flat-same, flat-again, one-more, columns-same, turned-flat, still-rows, still-columns, still-all-columns}
+use Rattle.matrix.proofs.Within.{are-two, two-as}
+use Rattle.matrix.proofs.Same.{Same, first-line, second-line, flat-same, flat-again, one-more, all-columns-same, turned-flat, still-rows, still-columns, still-all-columns}
+use Rattle.plain.proofs.Spots.{turned-whole}
 use Rattle.plain.specs.State.{withEntry, parametersOf, pairTurned, pairStep, stateOf, Held}
 
 -- ---- one entry
@@ -59,20 +60,20 @@ module _ (n p q : ℕ) where
 
   -- ---- a turn: the rows, the columns, the diagonal, the rest
   pub turn-made : (P : Parameters) (l l₁ l₂ l₃ l₄ l₅ : List Float) (s : Sides) → twoLines n p q (length l) ≡ true
-      → l₁ ≡ onLines n p q (rowTurn P p q) l → l₂ ≡ onLines n p q (columnTurn P p q) l₁
+      → l₁ ≡ onLines n p q (rowTurnAll P p q) l → l₂ ≡ onLines n p q (columnTurnAll P p q) l₁
       → s ≡ diagonalOf P (at n l p p) (at n l q q) (at n l p q)
       → l₃ ≡ flat n (withEntry p p (s .left) (at n l₂)) → l₄ ≡ flat n (withEntry q q (s .right) (at n l₃))
       → l₅ ≡ flat n (withEntry q p plusZero (withEntry p q plusZero (at n l₄)))
       → l₅ ≡ flat n (pairTurned P p q (at n l))
-  unfolding pairTurned
   turn-made P l l₁ l₂ l₃ l₄ l₅ s two e₁ e₂ d e₃ e₄ e₅ =
       let t = are-two n p q (length l) two in
-      let f₁ : l₁ ≡ flat n (rowTurn P p q (at n l)) = e₁ ∙ turned-flat n p q (rowTurn P p q) l two in
-      let two₁ : twoLines n p q (length l₁) ≡ true = ap (twoLines n p q) (ap length f₁ ∙ flat-length n _ ∙ sym (t .long)) ∙ two in
-      let f₂ = one-more n _ (columnTurn P p q) (columns-same n P p q (first-line t) (second-line t)) f₁ (e₂ ∙ turned-flat n p q (columnTurn P p q) l₁ two₁) in
+      let f₁ : l₁ ≡ flat n (rowTurnAll P p q (at n l)) = e₁ ∙ turned-flat n p q (rowTurnAll P p q) l two in
+      let two₁ : twoLines n p q (length l₁) ≡ true = two-as n p q two (ap length f₁ ∙ flat-length n _ ∙ sym (t .long)) in
+      let f₂ = one-more n _ (columnTurnAll P p q) (all-columns-same n P p q (first-line t) (second-line t)) f₁ (e₂ ∙ turned-flat n p q (columnTurnAll P p q) l₁ two₁) in
       let f₃ = one-more n _ (withEntry p p (s .left)) (entry-same p p (s .left) n) f₂ e₃ in
       let f₄ = one-more n _ (withEntry q q (s .right)) (entry-same q q (s .right) n) f₃ e₄ in
       rw d at (one-more n _ (λ A. withEntry q p plusZero (withEntry p q plusZero A)) cleared-same f₄ e₅)
+      ∙ flat-same n _ _ (λ r c hr hc. turned-whole P p q (at n l) r c)
 
   -- ---- the step of a pair, still or turned
   pub turn-held : (P : Parameters) (l l′ e e′ : List Float) → twoLines n p q (length l) ≡ true → length e ≡ n * n → P ≡ parametersOf p q (at n l)
@@ -80,7 +81,7 @@ module _ (n p q : ℕ) where
   unfolding pairStep stateOf
   turn-held P l l′ e e′ two long z f g =
       let t = are-two n p q (length l) two in
-      let two′ : twoLines n p q (length e) ≡ true = ap (twoLines n p q) (long ∙ sym (t .long)) ∙ two in
+      let two′ : twoLines n p q (length e) ≡ true = two-as n p q two (long ∙ sym (t .long)) in
       record { matrix-held = rw z at f; vectors-held = rw z at (g ∙ turned-flat n p q (columnTurnAll P p q) e two′) }
 
   still-turned : (A : ℕ → ℕ → Float) (r c : ℕ) → pairTurned Still p q A r c ≡ withEntry q p plusZero (withEntry p q plusZero A) r c

@@ -133,7 +133,7 @@ fn make_pair(n: usize, p: usize, q: usize, a: &mut [f64], vectors: &mut [f64])
         Parameters::Still => clear_pair(n, p, q, a),
         Parameters::Turn(t, c, s) => {
             turn_matrix(t, c, s, n, p, q, a);
-            matrix::turn_all_columns(Parameters::Turn(t, c, s), n, p, q, vectors);
+            matrix::turn_columns(Parameters::Turn(t, c, s), n, p, q, vectors);
         }
     }
 }

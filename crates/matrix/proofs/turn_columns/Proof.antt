@@ -19,12 +19,6 @@ sub-turn-lines c = let t = are-two _ _ _ _ (sym (c .before .are-lines .ensures) 
 sub-turn-lines-2 : tie.Need-sub-turn-lines-2
 sub-turn-lines-2 c = let t = are-two _ _ _ _ (sym (c .before .are-lines .ensures) ∙ not-false _ (c .if1 .left)) in omega (arith, t .first-above, t .second-above)
 
-sub-turn-lines-3 : tie.Need-sub-turn-lines-3
-sub-turn-lines-3 c = let t = are-two _ _ _ _ (sym (c .before .are-lines .ensures) ∙ not-false _ (c .if1 .left)) in omega (arith, t .first-above, t .second-above)
-
-sub-turn-lines-4 : tie.Need-sub-turn-lines-4
-sub-turn-lines-4 c = let t = are-two _ _ _ _ (sym (c .before .are-lines .ensures) ∙ not-false _ (c .if1 .left)) in omega (arith, t .first-above, t .second-above)
-
 turn-lines-requires : tie.Need-turn-lines-requires
 turn-lines-requires c κs =
     let b = c .before in
@@ -47,8 +41,6 @@ turn-columns-spec =
     returns
     sub-turn-lines
     sub-turn-lines-2
-    sub-turn-lines-3
-    sub-turn-lines-4
     turn-lines-requires
     same-length
     returns-2)

@@ -29,12 +29,6 @@ mul-turn-lines-2 c =
     let b = c .before .before .before .args in
     omega (arith, offsets-within (b .parameters) _ _ _ (b .a .now) (are-two _ _ _ _ (sym (c .before .are-lines .ensures) ∙ not-false _ (c .if1 .left))) .1)
 
-sub-turn-lines-3 : tie.Need-sub-turn-lines-3
-sub-turn-lines-3 c = let t = are-two _ _ _ _ (sym (c .before .are-lines .ensures) ∙ not-false _ (c .if1 .left)) in omega (arith, t .first-above, t .second-above)
-
-sub-turn-lines-4 : tie.Need-sub-turn-lines-4
-sub-turn-lines-4 c = let t = are-two _ _ _ _ (sym (c .before .are-lines .ensures) ∙ not-false _ (c .if1 .left)) in omega (arith, t .first-above, t .second-above)
-
 turn-lines-requires : tie.Need-turn-lines-requires
 turn-lines-requires c κs =
     let b = c .before in
@@ -59,8 +53,6 @@ turn-rows-spec =
     mul-turn-lines
     sub-turn-lines-2
     mul-turn-lines-2
-    sub-turn-lines-3
-    sub-turn-lines-4
     turn-lines-requires
     same-length
     returns-2)

@@ -19,8 +19,8 @@ enum-known-t c = search needs
 turn-matrix-requires : tie.Need-turn-matrix-requires
 turn-matrix-requires c κs = search needs
 
-turn-all-columns-requires : tie.Need-turn-all-columns-requires
-turn-all-columns-requires c κs = search needs
+turn-columns-requires : tie.Need-turn-columns-requires
+turn-columns-requires c κs = search needs
 
 same-length : tie.Need-same-length
 same-length c = search needs
@@ -44,7 +44,7 @@ returns-2 c =
     let m = s .before .before .before .before in
     let k = m .before .before .before in
     let start = k .before .before .before .before .before .before in
-    turn-held _ _ _ _ (start .args .a .now) _ (start .args .vectors .now) _ (start .pre .0) (start .pre .1) (sym (k .t .given .1) ∙ k .before .before .parameters .ensures) (m .turn-matrix .ensures) (s .turn-all-columns .ensures)
+    turn-held _ _ _ _ (start .args .a .now) _ (start .args .vectors .now) _ (start .pre .0) (start .pre .1) (sym (k .t .given .1) ∙ k .before .before .parameters .ensures) (m .turn-matrix .ensures) (s .turn-columns .ensures)
 
 pub make-pair-spec : {M : Type 1} → statement M
 make-pair-spec =
@@ -55,7 +55,7 @@ make-pair-spec =
     clear-pair-requires
     enum-known-t
     turn-matrix-requires
-    turn-all-columns-requires
+    turn-columns-requires
     same-length
     returns
     same-length-2

@@ -1,13 +1,7 @@
-use Rattle.matrix.proofs.Lines.{is-first, is-second, is-neither, line-skipped, line-turned}
+use Rattle.matrix.proofs.Lines.{places-are}
 use borrow.Author.Needs.{needs}
-use Rattle.matrix.proofs.turn_line.Statement.{statement}
-use Rattle.matrix.proofs.turn_line.Tie as tie
-
-returns : tie.Need-returns
-returns c = line-skipped _ _ _ _ _ _ (is-first _ _ _ (c .if1 .taken))
-
-returns-2 : tie.Need-returns-2
-returns-2 c = line-skipped _ _ _ _ _ _ (is-second _ _ _ (c .before .if1 .left) (c .if2 .taken))
+use Rattle.matrix.proofs.turn_places.Statement.{statement}
+use Rattle.matrix.proofs.turn_places.Tie as tie
 
 mul-turn : tie.Need-mul-turn
 mul-turn c = search needs
@@ -39,15 +33,13 @@ slice-write-a-2 c = search needs
 same-length : tie.Need-same-length
 same-length c = search needs
 
-returns-3 : tie.Need-returns-3
-returns-3 c = line-turned _ _ _ _ _ _ _ (is-neither _ _ _ (c .before .before .before .before .if1 .left) (c .before .before .before .if2 .left)) (c .turn .ensures)
+returns : tie.Need-returns
+returns c = places-are _ _ _ _ _ (c .turn .ensures)
 
-pub turn-line-spec : {M : Type 1} → statement M
-turn-line-spec =
+pub turn-places-spec : {M : Type 1} → statement M
+turn-places-spec =
     tie.close
     (tie.spec
-    returns
-    returns-2
     mul-turn
     slice-read-turn
     mul-turn-2
@@ -58,4 +50,4 @@ turn-line-spec =
     mul-a-2
     slice-write-a-2
     same-length
-    returns-3)
+    returns)
