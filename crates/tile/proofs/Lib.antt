@@ -1,0 +1,4 @@
+pub mod Schedules
+pub mod Working
+pub mod Wiring
+pub mod Ticking

@@ -1,0 +1,4 @@
+pub mod Schedule
+pub mod Turned
+pub mod Lines
+pub mod Tiles

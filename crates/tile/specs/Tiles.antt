@@ -1,0 +1,37 @@
+-- The tile of the code as the theory's tile, whose cells are an entry of the matrix and one of the eigenvectors. Definitions only.
+use Rattle.float64.specs.Values.{plusZero}
+use lib.Ieee.{Float}
+use Rattle.systolic.specs.Slots.{inOrder}
+use Rattle.systolic.specs.Blocks.{Block}
+use Rattle.systolic.specs.Synchronous.{Operations}
+use Rattle.systolic.specs.Sequential.{operationsOf}
+use Rattle.systolic.specs.Tiles as theory
+use Rattle.plain.specs.Cells.{Cell, cell, rules}
+use Rattle.tile.specs.declared.Part.{Part}
+use Rattle.tile.specs.declared.Tile.{Tile}
+use Rattle.tile.specs.declared.schedule.Action.{Action}
+use Rattle.tile.specs.declared.schedule.Action.the-variants.{Idle, First, Rotate, Second, Third, Final}
+
+unfoldable pub blockOf : Part → Block Cell
+blockOf p =
+    record {
+      α = cell (p .matrix .alpha) (p .vectors .alpha);
+      β = cell (p .matrix .beta) (p .vectors .beta);
+      γ = cell (p .matrix .gamma) (p .vectors .gamma);
+      δ = cell (p .matrix .delta) (p .vectors .delta);
+    }
+
+unfoldable pub theTile : Tile → theory.Tile Cell Float Float
+theTile x = record { cells = blockOf (x .cells); lines = blockOf (x .lines); rowLine = x .row; columnLine = x .column; mark = x .mark }
+
+-- What the tiles do, by the rules of the plain run. A tick does not look at the start.
+unfoldable pub operations : Operations Cell Float Float
+operations = operationsOf rules (inOrder 1) (λ r c. cell plusZero plusZero) (cell plusZero plusZero) plusZero plusZero
+
+abbrev pub theAction : Action → theory.Action
+theAction Idle = theory.idle
+theAction First = theory.first
+theAction Rotate = theory.rotate
+theAction Second = theory.second
+theAction Third = theory.third
+theAction Final = theory.final

@@ -1,0 +1,182 @@
+// The cells of a tile: read, rotated, tested.
+ghost use mathlib.Core.Path.{_≡_};
+ghost use mathlib.Core.Bool.{_||_};
+ghost use Rattle.tile.specs.Tiles.{theAction};
+ghost use Rattle.tile.specs.Turned.{rowsTurned, columnsTurned, bothTurned, offDiagonalOf, onDiagonalOf, rotatedOf, workedOf, someNotFinite, quadNotFinite};
+use crate::Part;
+use crate::Quad;
+use crate::schedule::Action;
+use rotation::Parameters;
+
+// The cells of a tile after its work, and what its parameter lines carry.
+pub struct Work {
+    pub cells: Part,
+    pub row: f64,
+    pub column: f64,
+}
+
+pub fn worked(
+    action: Action,
+    cells: Part,
+    ins: Part,
+    i: usize,
+    j: usize,
+    row: f64,
+    column: f64,
+    old_row: f64,
+    old_column: f64,
+) -> Work
+    ensures { λ r. ⌜ r ≡ workedOf (theAction action) cells ins i j row column «old_row» «old_column» ⌝ }
+{
+    match action {
+        Action::Idle => Work {
+            cells: cells,
+            row: old_row,
+            column: old_column,
+        },
+        Action::First => rotated(cells, i, j, row, column),
+        Action::Rotate => rotated(ins, i, j, row, column),
+        Action::Second => Work {
+            cells: cells,
+            row: old_row,
+            column: old_column,
+        },
+        Action::Third => Work {
+            cells: cells,
+            row: old_row,
+            column: old_column,
+        },
+        Action::Final => Work {
+            cells: ins,
+            row: old_row,
+            column: old_column,
+        },
+    }
+}
+
+// A tile off the diagonal passes on the tangents that it receives.
+pub fn rotated(part: Part, i: usize, j: usize, row: f64, column: f64) -> Work
+    ensures { λ r. ⌜ r ≡ rotatedOf part i j row column ⌝ }
+{
+    if i == j {
+        return on_diagonal(part);
+    }
+    let cells = off_diagonal(part, i < j, row, column);
+    Work {
+        cells: cells,
+        row: row,
+        column: column,
+    }
+}
+
+// A tile on the diagonal finds its tangent and sends it along its row and its column.
+pub fn on_diagonal(part: Part) -> Work
+    ensures { λ r. ⌜ r ≡ onDiagonalOf part ⌝ }
+{
+    let a = part.matrix;
+    let e = part.vectors;
+    let parameters = rotation::of_pair(a.alpha, a.delta, a.beta);
+    let sides = rotation::diagonal(parameters, a.alpha, a.delta, a.beta);
+    let matrix = Quad {
+        alpha: sides.left,
+        beta: 0.0,
+        gamma: 0.0,
+        delta: sides.right,
+    };
+    let vectors = turn_columns(parameters, e);
+    let cells = Part {
+        matrix: matrix,
+        vectors: vectors,
+    };
+    let tangent = rotation::passed_on(parameters);
+    Work {
+        cells: cells,
+        row: tangent,
+        column: tangent,
+    }
+}
+
+// The eigenvectors get the column turn alone.
+pub fn off_diagonal(part: Part, above: bool, row: f64, column: f64) -> Part
+    ensures { λ r. ⌜ r ≡ offDiagonalOf part above row column ⌝ }
+{
+    let a = part.matrix;
+    let e = part.vectors;
+    let rows = rotation::of_tangent(row);
+    let columns = rotation::of_tangent(column);
+    let matrix = turn_both(rows, columns, above, a);
+    let vectors = turn_columns(columns, e);
+    Part {
+        matrix: matrix,
+        vectors: vectors,
+    }
+}
+
+// Above the diagonal the rows are turned first, below it the columns.
+pub fn turn_both(rows: Parameters, columns: Parameters, above: bool, q: Quad) -> Quad
+    ensures { λ r. ⌜ r ≡ bothTurned rows columns above q ⌝ }
+{
+    if above {
+        return turn_columns(columns, turn_rows(rows, q));
+    }
+    turn_rows(rows, turn_columns(columns, q))
+}
+
+pub fn turn_rows(parameters: Parameters, q: Quad) -> Quad
+    ensures { λ r. ⌜ r ≡ rowsTurned parameters q ⌝ }
+{
+    match parameters {
+        Parameters::Still => q,
+        Parameters::Turn(_, c, s) => Quad {
+            alpha: c * q.alpha - s * q.gamma,
+            beta: c * q.beta - s * q.delta,
+            gamma: s * q.alpha + c * q.gamma,
+            delta: s * q.beta + c * q.delta,
+        },
+    }
+}
+
+pub fn turn_columns(parameters: Parameters, q: Quad) -> Quad
+    ensures { λ r. ⌜ r ≡ columnsTurned parameters q ⌝ }
+{
+    match parameters {
+        Parameters::Still => q,
+        Parameters::Turn(_, c, s) => Quad {
+            alpha: c * q.alpha - s * q.beta,
+            beta: s * q.alpha + c * q.beta,
+            gamma: c * q.gamma - s * q.delta,
+            delta: s * q.gamma + c * q.delta,
+        },
+    }
+}
+
+// Whether a tile is marked after a tick that leaves it the given cells.
+pub fn is_marked(mark: bool, cells: Part) -> bool
+    ensures { λ r. ⌜ r ≡ (mark || someNotFinite cells) ⌝ }
+{
+    if mark {
+        return true;
+    }
+    let a = cells.matrix;
+    let e = cells.vectors;
+    if not_finite(a) {
+        return true;
+    }
+    not_finite(e)
+}
+
+// Whether an entry is not finite.
+pub fn not_finite(q: Quad) -> bool
+    ensures { λ r. ⌜ r ≡ quadNotFinite q ⌝ }
+{
+    if !float64::is_finite(q.alpha) {
+        return true;
+    }
+    if !float64::is_finite(q.beta) {
+        return true;
+    }
+    if !float64::is_finite(q.gamma) {
+        return true;
+    }
+    !float64::is_finite(q.delta)
+}

@@ -1,0 +1,66 @@
+// One tile of the array in one tick (document 01, "The array").
+ghost use mathlib.Core.Path.{_≡_};
+ghost use Rattle.systolic.specs.Tiles.{tickTile};
+ghost use Rattle.tile.specs.Tiles.{blockOf, theTile, operations};
+
+mod cells;
+mod lines;
+mod schedule;
+
+// A 2 by 2 part α β / γ δ of a matrix, row by row.
+pub struct Quad {
+    pub alpha: f64,
+    pub beta: f64,
+    pub gamma: f64,
+    pub delta: f64,
+}
+
+// A part of the matrix and the like part of the eigenvectors.
+pub struct Part {
+    pub matrix: Quad,
+    pub vectors: Quad,
+}
+
+// The cells of a tile, its outgoing lines, each named after the corner that it leaves by, its outgoing parameter lines along its row and
+// along its column, and its mark.
+pub struct Tile {
+    pub cells: Part,
+    pub lines: Part,
+    pub row: f64,
+    pub column: f64,
+    pub mark: bool,
+}
+
+impl Tile {
+    // The tile in row i and column j, from 0, after a tick of a run of so many steps; `last` is the last row and column. Its lines bring the
+    // part `ins` and the tangents `row` and `column`.
+    pub fn after(
+        self,
+        ins: Part,
+        row: f64,
+        column: f64,
+        last: usize,
+        steps: usize,
+        tick: usize,
+        i: usize,
+        j: usize,
+    ) -> Tile
+        ensures { λ r. ⌜ theTile r ≡ tickTile operations last steps tick i j (theTile self) (blockOf ins) row column ⌝ }
+    {
+        let action = schedule::action_at(steps, i, j, tick);
+        let cells = self.cells;
+        let lines = self.lines;
+        let work = cells::worked(action, cells, ins, i, j, row, column, self.row, self.column);
+        let new = work.cells;
+        let phase = schedule::phase_in(action);
+        let out = lines::after(phase, last, i, j, new, lines);
+        let mark = cells::is_marked(self.mark, new);
+        Tile {
+            cells: new,
+            lines: out,
+            row: work.row,
+            column: work.column,
+            mark: mark,
+        }
+    }
+}
