@@ -2,3 +2,4 @@ pub mod Schedules
 pub mod Working
 pub mod Wiring
 pub mod Ticking
+pub mod Joining

@@ -1,6 +1,6 @@
 -- The lines of a tile after a phase, on the structs of the code. Definitions only.
 use Prim.Native.Nat.{ℕ, _-_, _%_}
-use mathlib.Core.Bool.{cond, _||_}
+use mathlib.Core.Bool.{Bool, cond, _||_}
 use lib.Dec.{eqb, ltb}
 use lib.Ieee.{Float}
 use Rattle.tile.specs.declared.Quad.{Quad}
@@ -50,3 +50,19 @@ linesOf phase m i j q old = setOf phase (edgeOf m i j) (orderOf i j) (interchang
 
 unfoldable pub partLines : ℕ → ℕ → ℕ → ℕ → Part → Part → Part
 partLines phase m i j p old = record { matrix = linesOf phase m i j (p .matrix) (old .matrix); vectors = linesOf phase m i j (p .vectors) (old .vectors) }
+
+-- The corner in the lower row or the upper, in the right column or the left.
+unfoldable pub cornerOf : Bool → Bool → Quad → Float
+cornerOf lower right q = cond lower (cond right (q .delta) (q .gamma)) (cond right (q .beta) (q .alpha))
+
+-- A side is joined with the facing side of the neighbour, or at an end with itself.
+unfoldable pub incomingQuad : Quad → Quad → Quad → Quad → ℕ → ℕ → ℕ → Quad
+incomingQuad a b c d m i j =
+    quad (cornerOf (ltb 0 i) (ltb 0 j) a) (cornerOf (ltb 0 i) (eqb j m) b) (cornerOf (eqb i m) (ltb 0 j) c) (cornerOf (eqb i m) (eqb j m) d)
+
+unfoldable pub incomingPart : Part → Part → Part → Part → ℕ → ℕ → ℕ → Part
+incomingPart a b c d m i j =
+    record {
+      matrix = incomingQuad (a .matrix) (b .matrix) (c .matrix) (d .matrix) m i j;
+      vectors = incomingQuad (a .vectors) (b .vectors) (c .vectors) (d .vectors) m i j;
+    }

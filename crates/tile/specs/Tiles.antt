@@ -1,11 +1,13 @@
 -- The tile of the code as the theory's tile, whose cells are an entry of the matrix and one of the eigenvectors. Definitions only.
 use Rattle.float64.specs.Values.{plusZero}
 use lib.Ieee.{Float}
-use Rattle.systolic.specs.Slots.{inOrder}
+use Prim.Native.Nat.{ℕ}
+use Rattle.systolic.specs.Slots.{left, right, inOrder}
 use Rattle.systolic.specs.Blocks.{Block}
 use Rattle.systolic.specs.Synchronous.{Operations}
 use Rattle.systolic.specs.Sequential.{operationsOf}
 use Rattle.systolic.specs.Tiles as theory
+use Rattle.systolic.specs.Tiles.{joined}
 use Rattle.plain.specs.Cells.{Cell, cell, rules}
 use Rattle.tile.specs.declared.Part.{Part}
 use Rattle.tile.specs.declared.Tile.{Tile}
@@ -35,3 +37,13 @@ theAction Rotate = theory.rotate
 theAction Second = theory.second
 theAction Third = theory.third
 theAction Final = theory.final
+
+-- What the lines bring to tile (i, j), where a, b, c and d are the lines of the tiles that its corners are joined with.
+unfoldable pub broughtTo : ℕ → ℕ → ℕ → Block Cell → Block Cell → Block Cell → Block Cell → Block Cell
+broughtTo m i j a b c d =
+    record {
+      α = pickCell (joined m left i .side) (joined m left j .side) a;
+      β = pickCell (joined m left i .side) (joined m right j .side) b;
+      γ = pickCell (joined m right i .side) (joined m left j .side) c;
+      δ = pickCell (joined m right i .side) (joined m right j .side) d;
+    }

@@ -1,7 +1,7 @@
 // One tile of the array in one tick (document 01, "The array").
 ghost use mathlib.Core.Path.{_≡_};
 ghost use Rattle.systolic.specs.Tiles.{tickTile};
-ghost use Rattle.tile.specs.Tiles.{blockOf, theTile, operations};
+ghost use Rattle.tile.specs.Tiles.{blockOf, theTile, operations, broughtTo};
 
 mod cells;
 mod lines;
@@ -29,6 +29,21 @@ pub struct Tile {
     pub row: f64,
     pub column: f64,
     pub mark: bool,
+}
+
+// What comes in by each corner of the tile in row i and column j, from the lines of the tiles that its corners are joined with.
+pub fn incoming(
+    alpha: Part,
+    beta: Part,
+    gamma: Part,
+    delta: Part,
+    last: usize,
+    i: usize,
+    j: usize,
+) -> Part
+    ensures { λ r. ⌜ blockOf r ≡ broughtTo last i j (blockOf alpha) (blockOf beta) (blockOf gamma) (blockOf delta) ⌝ }
+{
+    lines::incoming(alpha, beta, gamma, delta, last, i, j)
 }
 
 impl Tile {

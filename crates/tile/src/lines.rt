@@ -2,7 +2,7 @@
 ghost use mathlib.Core.Path.{_≡_};
 ghost use mathlib.Core.Bool.{_||_};
 ghost use lib.Dec.{eqb};
-ghost use Rattle.tile.specs.Lines.{interchanged, acrossOf, edgeOf, orderOf, setOf, setIn0, setIn1, setIn2, linesOf, partLines};
+ghost use Rattle.tile.specs.Lines.{interchanged, acrossOf, edgeOf, orderOf, setOf, setIn0, setIn1, setIn2, linesOf, partLines, cornerOf, incomingQuad, incomingPart};
 use crate::Part;
 use crate::Quad;
 
@@ -178,4 +178,67 @@ fn set_in_2(edge: usize, order: usize, out: Quad, old: Quad) -> Quad
             delta: inner.delta,
         },
     }
+}
+
+// What comes in by each corner, from the lines of the tiles that it is joined with.
+pub fn incoming(
+    alpha: Part,
+    beta: Part,
+    gamma: Part,
+    delta: Part,
+    last: usize,
+    i: usize,
+    j: usize,
+) -> Part
+    ensures { λ r. ⌜ r ≡ incomingPart alpha beta gamma delta last i j ⌝ }
+{
+    let alpha_a = alpha.matrix;
+    let beta_a = beta.matrix;
+    let gamma_a = gamma.matrix;
+    let delta_a = delta.matrix;
+    let matrix = incoming_quad(alpha_a, beta_a, gamma_a, delta_a, last, i, j);
+    let alpha_e = alpha.vectors;
+    let beta_e = beta.vectors;
+    let gamma_e = gamma.vectors;
+    let delta_e = delta.vectors;
+    let vectors = incoming_quad(alpha_e, beta_e, gamma_e, delta_e, last, i, j);
+    Part {
+        matrix: matrix,
+        vectors: vectors,
+    }
+}
+
+pub fn incoming_quad(
+    alpha: Quad,
+    beta: Quad,
+    gamma: Quad,
+    delta: Quad,
+    last: usize,
+    i: usize,
+    j: usize,
+) -> Quad
+    ensures { λ r. ⌜ r ≡ incomingQuad alpha beta gamma delta last i j ⌝ }
+{
+    Quad {
+        alpha: corner(i > 0, j > 0, alpha),
+        beta: corner(i > 0, j == last, beta),
+        gamma: corner(i == last, j > 0, gamma),
+        delta: corner(i == last, j == last, delta),
+    }
+}
+
+// The corner in the lower row or the upper, in the right column or the left.
+pub fn corner(lower: bool, right: bool, q: Quad) -> f64
+    ensures { λ r. ⌜ r ≡ cornerOf lower right q ⌝ }
+{
+    if lower {
+        if right {
+            return q.delta;
+        }
+        return q.gamma;
+    }
+    if right {
+        return q.beta;
+    }
+    q.alpha
 }
