@@ -3,7 +3,7 @@ use Rattle.float64.specs.Values.{plusZero}
 use lib.Ieee.{Float}
 use Prim.Native.Nat.{ℕ}
 use Rattle.systolic.specs.Slots.{left, right, inOrder}
-use Rattle.systolic.specs.Blocks.{Block}
+use Rattle.systolic.specs.Blocks.{Block, cell as pickCell}
 use Rattle.systolic.specs.Synchronous.{Operations}
 use Rattle.systolic.specs.Sequential.{operationsOf}
 use Rattle.systolic.specs.Tiles as theory

@@ -1,0 +1,62 @@
+-- What a tick answers, by the tests of the code. Assumes nothing.
+use Prim.Native.Nat.{ℕ, _-_, _*_, _≤_, _<_}
+use mathlib.Core.Path.{_≡_, refl, sym, ap, _∙_}
+use mathlib.Core.Bool.{Bool, true, false, cond, true≢false}
+use native.Mathlib.Omega.{arith}
+use native.Mathlib.Nat.{mul-le-mul}
+use borrow.Author.Tests.{lt-ltb, le-ltb, ltb-true, ltb-false}
+use lib.Dec.{ltb}
+use Rattle.refusal.specs.Refusal.{Told, given, refused, told}
+use Rattle.refusal.specs.declared.Refusal.the-variants.{Order, Sweeps}
+use Rattle.ordering.specs.Pairs.{limit, noOrder}
+use Rattle.ordering.proofs.Orders.{order-is}
+use Rattle.plain.specs.Run.{mostSweeps}
+use Rattle.array.specs.Arrays.{Tick, made, stopped, ticksOf, progressOf}
+
+module _ (n sweeps t : ℕ) where
+  pub refused-1 : noOrder n ≡ true → told Order ≡ progressOf n sweeps t
+  unfolding progressOf
+  refused-1 e = rw e
+
+  module _ (order : noOrder n ≡ false) where
+    pub refused-2 : mostSweeps < sweeps → told Sweeps ≡ progressOf n sweeps t
+    unfolding progressOf
+    refused-2 h = rw (order, lt-ltb 16 sweeps h)
+
+    module _ (few : sweeps ≤ mostSweeps) where
+      pub is-made : t < ticksOf n sweeps → given made ≡ progressOf n sweeps t
+      unfolding progressOf
+      is-made h = rw (order, le-ltb 16 sweeps few, lt-ltb t (ticksOf n sweeps) h)
+
+      pub is-stopped : ticksOf n sweeps ≤ t → given stopped ≡ progressOf n sweeps t
+      unfolding progressOf
+      is-stopped h = rw (order, le-ltb 16 sweeps few, le-ltb t (ticksOf n sweeps) h)
+
+      -- the number of steps is small
+      pub few-steps : sweeps * (n - 1) ≤ mostSweeps * limit
+      few-steps = let o = order-is n order .2 in let h : n - 1 ≤ limit = omega arith in mul-le-mul few h
+
+-- what is known where a tick is made
+pub record Means (n sweeps t : ℕ) : Type 0 where
+  pub order : noOrder n ≡ false
+  pub few : sweeps ≤ mostSweeps
+  pub before-end : t < ticksOf n sweeps
+
+abbrev isMade : Told Tick → Bool
+isMade (given made) = true
+isMade (given stopped) = false
+isMade (refused k values) = false
+
+pub made-means : (n sweeps t : ℕ) → given made ≡ progressOf n sweeps t → Means n sweeps t
+unfolding progressOf
+made-means n sweeps t e = go (noOrder n) (ltb mostSweeps sweeps) (ltb t (ticksOf n sweeps)) refl refl refl (sym e)
+  where
+    differ : {A : Type 0} (x : Told Tick) → isMade x ≡ false → x ≡ given made → A
+    differ x f e = absurd (true≢false (sym (ap isMade e) ∙ f))
+
+    go : (a b c : Bool) → noOrder n ≡ a → ltb mostSweeps sweeps ≡ b → ltb t (ticksOf n sweeps) ≡ c
+        → cond a (told Order) (cond b (told Sweeps) (cond c (given made) (given stopped))) ≡ given made → Means n sweeps t
+    go true b c x y z e = differ _ refl e
+    go false true c x y z e = differ _ refl e
+    go false false true x y z e = record { order = x; few = ltb-false 16 sweeps y; before-end = ltb-true _ _ z }
+    go false false false x y z e = differ _ refl e

@@ -1,0 +1,5 @@
+pub mod Grid
+pub mod Nearby
+pub mod Made
+pub mod Ending
+pub mod Handed
