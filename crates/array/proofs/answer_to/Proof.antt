@@ -28,10 +28,10 @@ add-if3 : tie.Need-add-if3
 add-if3 c = let t = c .before in let o = order-is _ (sym (t .before .is-no-order .ensures) ∙ t .if1 .left) .2 in omega (arith, few-steps _ (t .before .before .args .sweeps) (t .before .before .args .tick) (sym (t .before .is-no-order .ensures) ∙ t .if1 .left) (omega arith))
 
 returns-3 : tie.Need-returns-3
-returns-3 c = let t = c .before .before in is-made _ _ _ (sym (t .before .is-no-order .ensures) ∙ t .if1 .left) (omega arith) (c .if3 .taken)
+returns-3 c = let t = c .before .before in let a = t .before .before .args in is-made (a .n) (a .sweeps) (a .tick) (sym (t .before .is-no-order .ensures) ∙ t .if1 .left) (omega arith) (omega arith)
 
 returns-4 : tie.Need-returns-4
-returns-4 c = let t = c .before .before in is-stopped _ _ _ (sym (t .before .is-no-order .ensures) ∙ t .if1 .left) (omega arith) (c .if3 .left)
+returns-4 c = let t = c .before .before in let a = t .before .before .args in is-stopped (a .n) (a .sweeps) (a .tick) (sym (t .before .is-no-order .ensures) ∙ t .if1 .left) (omega arith) (omega arith)
 
 pub answer-to-spec : {M : Type 1} → statement M
 answer-to-spec =

@@ -1,3 +1,4 @@
+use native.Mathlib.Omega.{arith}
 use Rattle.tile.proofs.Schedules.{before-end, between, past-end, no-steps, at-end}
 use borrow.Author.Needs.{needs}
 use Rattle.tile.proofs.schedule.action_since.Statement.{statement}
@@ -7,7 +8,7 @@ in-step-requires : tie.Need-in-step-requires
 in-step-requires c κs = search needs
 
 returns : tie.Need-returns
-returns c = before-end _ _ (c .before .if1 .taken) (c .in-step .ensures)
+returns c = let a = c .before .before .args in before-end (a .steps) (a .since) (omega arith) (c .in-step .ensures)
 
 returns-2 : tie.Need-returns-2
 returns-2 c = between _ _ (c .before .if1 .left) (c .if2 .taken)

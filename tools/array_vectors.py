@@ -1,0 +1,617 @@
+#!/usr/bin/env python3
+"""Writes crates/array_vectors/stdin and crates/array_vectors/stdout: whole runs of the array, runs by hand
+and single ticks of wild records, and what comes of them by document 01, "The array". Run it as
+
+    python3 tools/array_vectors.py
+
+The tiles, the wires and the ticks follow the documents: document 01, "The array"; document 000, the
+connections and Algorithm Interchange; document 003, Program 3. Tiles, rows and columns are counted from 1
+as there. The parameters of a pair, the turn of two values and the matrices are those of plain_vectors.py.
+Before anything is written, runs of the array are held against the plain run of that file.
+
+A case begins with a word for its kind.
+
+0, a whole run: the words of plain_vectors. The answer has the number of ticks before the two results.
+1, a run by hand: n, the sweeps, the length of the matrix, the matrix and a number of ticks. The answer is
+   the refusal of the start, if it is refused, then what the last tick answered (0 made, 1 stopped,
+   2 refused, 3 there was none), and of the last record n, the sweeps, the tick and the N by N tiles, row by
+   row.
+2, a tick of a wild record: n, the sweeps, the tick, and the word that every cell and line of all tiles
+   holds. The answer is that of the tick, followed by its number if it is refused, and of the record given
+   back n, the sweeps, the tick and the tiles P_11, P_12, P_21 and P_16,16.
+
+Of a tile these are printed: the cells α β γ δ of the matrix and of the vectors, the lines that leave by
+α β γ δ with values of the matrix and of the vectors, the parameter lines along the row and along the
+column, and the mark.
+"""
+import functools
+import math
+import pathlib
+import random
+import sys
+
+sys.dont_write_bytecode = True  # the import below leaves no file
+import plain_vectors as plain
+from plain_vectors import INFINITY, LARGEST, LAST, NAN, ONE, SIGN, STILL
+
+MOST = 16  # tiles in a row of the record
+CORNERS = "αβγδ"
+OFFSETS = {"α": (0, 0), "β": (0, 1), "γ": (1, 0), "δ": (1, 1)}  # row and column in a 2 by 2 part
+MADE, STOPPED, REFUSED, NONE = range(4)
+WHOLE, BY_HAND, WILD = range(3)
+
+
+# The record. The cells of a tile and its outgoing lines are two parts, of the matrix and of the vectors,
+# each with a value for each corner.
+
+
+class Tile:
+    def __init__(self, value):
+        self.cells = [dict.fromkeys(CORNERS, value) for _ in range(2)]
+        self.lines = [dict.fromkeys(CORNERS, value) for _ in range(2)]
+        self.row = self.column = value
+        self.mark = False
+
+
+class Array:
+    """A record with one value in every cell and line. Tiles beyond row and column N are not in use."""
+
+    def __init__(self, n, sweeps, tick, value):
+        self.n, self.sweeps, self.tick = n, sweeps, tick
+        self.tiles = {(i, j): Tile(value) for i in range(1, MOST + 1) for j in range(1, MOST + 1)}
+
+    @property
+    def N(self):
+        return self.n // 2
+
+    @property
+    def K(self):
+        return self.sweeps * (self.n - 1)
+
+    def places(self):
+        return places(self.N)
+
+
+@functools.cache
+def places(N):
+    return [(i, j) for i in range(1, N + 1) for j in range(1, N + 1)]
+
+
+def start(n, sweeps, matrix):
+    """The record of a start that is not refused."""
+    array = Array(n, sweeps, 0, 0.0)
+    wholes = plain.rows_of(n, matrix), plain.identity(n)
+    for i, j in array.places():
+        for part, rows in zip(array.tiles[i, j].cells, wholes):
+            for corner, (r, c) in OFFSETS.items():
+                part[corner] = rows[2 * i - 2 + r][2 * j - 2 + c]
+    return array
+
+
+def zeros():
+    """The record of a refused start."""
+    return Array(0, 0, 0, 0.0)
+
+
+# The wires.
+
+# Where an output leads: the rows and the columns onward, and the input. It is the first of the four whose
+# tile there is. Those of β are printed in document 000, and the others are its mirrors.
+LEADS = {
+    "α": [(-1, -1, "δ"), (0, -1, "β"), (-1, 0, "γ"), (0, 0, "α")],
+    "β": [(-1, 1, "γ"), (0, 1, "α"), (-1, 0, "δ"), (0, 0, "β")],
+    "γ": [(1, -1, "β"), (0, -1, "δ"), (1, 0, "α"), (0, 0, "γ")],
+    "δ": [(1, 1, "α"), (0, 1, "γ"), (1, 0, "β"), (0, 0, "δ")],
+}
+
+
+def end_of(N, i, j, corner):
+    """The place and the input that an output of P_ij leads to."""
+    for rows, columns, end in LEADS[corner]:
+        if 1 <= i + rows <= N and 1 <= j + columns <= N:
+            return (i + rows, j + columns), end
+
+
+@functools.cache
+def wires(N):
+    """For each place and input the place and the output that lead there."""
+    sources = {place: {} for place in places(N)}
+    for i, j in places(N):
+        for corner in CORNERS:
+            place, end = end_of(N, i, j, corner)
+            assert end not in sources[place]
+            sources[place][end] = (i, j), corner
+    return sources
+
+
+def cells_brought(array, i, j):
+    """What the matrix lines and the vector lines bring to P_ij."""
+    brought = [{}, {}]
+    for end, (place, corner) in wires(array.N)[i, j].items():
+        for part, lines in zip(brought, array.tiles[place].lines):
+            part[end] = lines[corner]
+    return brought
+
+
+def tangents_brought(array, i, j):
+    """What the parameter lines along its row and along its column bring to P_ij, which come from the side
+    of the diagonal."""
+    inward = -1 if i < j else 1
+    return array.tiles[i, j + inward].row, array.tiles[i - inward, j].column
+
+
+def leaving(i, j):
+    """Algorithm Interchange: the cells that leave P_ij by α, β, γ and δ."""
+    if i == 1 and j == 1:
+        return "αβγδ"
+    if i == 1:
+        return "βαδγ"
+    if j == 1:
+        return "γδαβ"
+    return "δγβα"
+
+
+@functools.cache
+def lines_set(N, i, j, phase):
+    """Program 3: the lines that P_ij sets where T - Δ is the phase (mod 3)."""
+    tests = [
+        {"β": i > j, "γ": i < j},
+        {"α": i == 1 or j == 1, "δ": i == N or j == N},
+        {"α": i > 1 and j > 1, "β": i <= j, "γ": i >= j, "δ": i < N and j < N},
+    ]
+    return [corner for corner, is_set in tests[phase].items() if is_set]
+
+
+# The rotations.
+
+
+def angle_of(t):
+    """STILL, or the cosine and the sine, from a tangent."""
+    if t == 0:
+        return STILL
+    c = 1 / math.sqrt(1 + t * t)
+    return c, t * c
+
+
+def row_turn(angle, x):
+    if angle is STILL:
+        return x
+    alpha, gamma = plain.turn(*angle, x["α"], x["γ"])
+    beta, delta = plain.turn(*angle, x["β"], x["δ"])
+    return {"α": alpha, "β": beta, "γ": gamma, "δ": delta}
+
+
+def column_turn(angle, x):
+    if angle is STILL:
+        return x
+    alpha, beta = plain.turn(*angle, x["α"], x["β"])
+    gamma, delta = plain.turn(*angle, x["γ"], x["δ"])
+    return {"α": alpha, "β": beta, "γ": gamma, "δ": delta}
+
+
+def rotate_diagonal(tile):
+    matrix, vectors = tile.cells
+    a, b, d = matrix["α"], matrix["β"], matrix["δ"]
+    found = plain.parameters(a, d, b)
+    t = 0.0
+    if found is not STILL:
+        t = found[0]
+        a, d = a - t * b, d + t * b
+    tile.cells = [{"α": a, "β": 0.0, "γ": 0.0, "δ": d}, column_turn(angle_of(t), vectors)]
+    tile.row = tile.column = t
+
+
+def rotate_off_diagonal(tile, is_above, row, column):
+    """Turns by the tangents that the parameter lines bring, and passes them on."""
+    rows, columns = angle_of(row), angle_of(column)
+    matrix, vectors = tile.cells
+    if is_above:
+        matrix = column_turn(columns, row_turn(rows, matrix))
+    else:
+        matrix = row_turn(rows, column_turn(columns, matrix))
+    tile.cells = [matrix, column_turn(columns, vectors)]
+    tile.row, tile.column = row, column
+
+
+# A tick.
+
+
+def refused_by(n, sweeps):
+    """The number of a tick's refusal."""
+    if n % 2 == 1 or n < 2 or n > 2 * MOST:
+        return 1
+    return 2 if sweeps > 16 else None
+
+
+def since_delta(array, i, j):
+    """T - Δ of P_ij."""
+    return array.tick - abs(i - j)
+
+
+def is_due(array, i, j):
+    """Whether P_ij rotates or stops in this tick."""
+    since = since_delta(array, i, j)
+    return since % 3 == 0 and 0 <= since <= 3 * array.K
+
+
+def work(array, i, j, brought):
+    """The work of P_ij in a tick. What its lines bring is None unless it rotates or stops."""
+    tile, since, last = array.tiles[i, j], since_delta(array, i, j), 3 * array.K
+    if since < 0 or since > last:
+        return
+    if brought and since > 0:
+        tile.cells = brought[0]
+    if since == last:
+        return
+    if brought and i == j:
+        rotate_diagonal(tile)
+    elif brought:
+        rotate_off_diagonal(tile, i < j, *brought[1])
+    for corner in lines_set(array.N, i, j, since % 3):
+        cell = leaving(i, j)[CORNERS.index(corner)]
+        for cells, lines in zip(tile.cells, tile.lines):
+            lines[corner] = cells[cell]
+
+
+def is_finite(tile):
+    return all(math.isfinite(value) for part in tile.cells for value in part.values())
+
+
+def tick(array):
+    """Makes a tick, all reads before all writes. Gives the answer, and the number where it is refused."""
+    number = refused_by(array.n, array.sweeps)
+    if number:
+        return REFUSED, number
+    if array.tick > 3 * array.K + array.N - 1:
+        return STOPPED, None
+    brought = {}
+    for i, j in array.places():
+        if is_due(array, i, j):
+            tangents = tangents_brought(array, i, j) if i != j else None
+            brought[i, j] = cells_brought(array, i, j), tangents
+    for i, j in array.places():
+        tile = array.tiles[i, j]
+        work(array, i, j, brought.get((i, j)))
+        tile.mark = tile.mark or not is_finite(tile)
+    array.tick += 1
+    return MADE, None
+
+
+# Whole runs.
+
+
+def refusal_of(case):
+    """The outcome of a case that is refused before a run."""
+    unswept = case if case.sweeps > 16 else case._replace(sweeps=0)
+    outcome = plain.outcome_of(unswept)
+    return None if outcome.number is None else outcome
+
+
+def whole(array, part):
+    """The patterns of the matrix or of the vectors in the cells."""
+    rows = [[None] * array.n for _ in range(array.n)]
+    for i, j in array.places():
+        for corner, (r, c) in OFFSETS.items():
+            rows[2 * i - 2 + r][2 * j - 2 + c] = array.tiles[i, j].cells[part][corner]
+    return plain.patterns_of(rows)
+
+
+def ran(case):
+    """The outcome of a run that is not refused before it, and the ticks made."""
+    array, ticks = start(case.n, case.sweeps, case.matrix), 0
+    while tick(array)[0] == MADE:
+        ticks += 1
+    if any(tile.mark for tile in array.tiles.values()):
+        nothing = [plain.ZERO] * case.n**2
+        return plain.Outcome(number=8, result=nothing, vectors=nothing), ticks
+    return plain.Outcome(result=whole(array, 0), vectors=whole(array, 1)), ticks
+
+
+def run(case):
+    refusal = refusal_of(case)
+    return (refusal, 0) if refusal else ran(case)
+
+
+# What is checked before anything is written.
+
+
+def check_wires():
+    """Every input has a line, every line is set in one of the phases, and the connections of β are those
+    that are printed."""
+    for N in range(1, MOST + 1):
+        for i, j in places(N):
+            assert sorted(wires(N)[i, j]) == sorted(CORNERS)
+            assert sorted(sum((lines_set(N, i, j, phase) for phase in range(3)), [])) == sorted(CORNERS)
+            if i > 1 and j < N:
+                printed = (i - 1, j + 1), "γ"
+            elif i == 1 and j < N:
+                printed = (i, j + 1), "α"
+            elif i > 1 and j == N:
+                printed = (i - 1, j), "δ"
+            else:
+                printed = (i, j), "β"
+            assert end_of(N, i, j, "β") == printed
+
+
+def agreed(case):
+    """Holds a run of the array against the plain run, and gives the outcome of both."""
+    expected = plain.outcome_of(case)
+    outcome, ticks = run(case)
+    assert outcome == expected._replace(spoiled=None), case
+    is_run = outcome.number in (None, 8)
+    assert ticks == (3 * case.sweeps * (case.n - 1) + case.n // 2 if is_run else 0)
+    return outcome, ticks
+
+
+def check_runs(rng, rounds):
+    """Runs of all orders and numbers of sweeps."""
+    cases = [drawn for _ in range(rounds) for drawn in plain.runs(rng)]
+    assert {case.n for _, case in cases} == set(range(2, 33, 2))
+    assert {case.sweeps for _, case in cases} == set(range(17))
+    spoiled = sum(agreed(case)[0].number == 8 for _, case in cases)
+    finite = len(cases) - spoiled
+    print(f"{len(cases)} runs as the plain run: {finite} stay finite, {spoiled} are spoiled and marked")
+    print("runs: " + plain.summary(kind.__name__ for kind, _ in cases))
+
+
+def plain_steps(case):
+    """The matrix and the vectors after each step of the plain run, and the lines in the registers."""
+    n = case.n
+    a, vectors = plain.rows_of(n, case.matrix), plain.identity(n)
+    left, right = list(range(1, n, 2)), list(range(2, n + 1, 2))
+    for _ in plain.make_steps(n, case.sweeps, a, vectors):
+        yield [[row[:] for row in rows] for rows in (a, vectors)], list(zip(left, right))
+        left, right = plain.moved(left, right)
+
+
+def part_at(a, rows, columns):
+    """The patterns of a matrix at two of its rows and two of its columns."""
+    return {corner: bits(a[rows[r] - 1][columns[c] - 1]) for corner, (r, c) in OFFSETS.items()}
+
+
+def check_rotations(case):
+    """Holds the cells of each tile, right after each of its rotations, against the plain run after that
+    step, and gives the number of the rotations."""
+    steps, array, count = list(plain_steps(case)), start(case.n, case.sweeps, case.matrix), 0
+    while tick(array)[0] == MADE:
+        for i, j in array.places():
+            k, phase = divmod(since_delta(array, i, j) - 1, 3)
+            if phase == 0 and 0 <= k < array.K:
+                matrices, pairs = steps[k]
+                for cells, rows in zip(array.tiles[i, j].cells, matrices):
+                    found = {corner: bits(value) for corner, value in cells.items()}
+                    assert found == part_at(rows, pairs[i - 1], pairs[j - 1]), (case, i, j, k)
+                count += 1
+    return count
+
+
+def check_all_rotations(rng):
+    cases = [case for _, case in plain.runs(rng) if case.n <= 14]
+    count = sum(check_rotations(case) for case in cases)
+    print(f"{count} rotations of tiles in {len(cases)} runs as the plain run's steps, NaNs as one value")
+
+
+# The cases of whole runs.
+
+
+def amount(n):
+    """How many cases an order gets."""
+    return 12 if n <= 8 else 5 if n <= 16 else 2
+
+
+def some_runs(rng):
+    k = 0
+    for n in range(2, 33, 2):
+        for _ in range(amount(n)):
+            kind, sweeps = plain.kind_for(n, k), k % 17
+            if kind is plain.spoiled_late:
+                sweeps = max(sweeps, 1)
+            yield plain.case_of(n, sweeps, kind(rng, n, sweeps))
+            k += 1
+
+
+def whole_runs(rng):
+    """Document 01's examples, runs of all sizes, and some of the refusals before a run."""
+    for case, outcome in plain.EXAMPLES:
+        assert ran(case)[0] == outcome._replace(spoiled=None)
+        yield case
+    for n, sweeps in [(2, 0), (8, 1), (32, 16)]:
+        yield plain.case_of(n, sweeps, plain.ordinary(rng, n, sweeps))
+    yield from some_runs(rng)
+    yield from [case for _, case in plain.refusals(rng)][3::6]
+
+
+# Orders, sweeps and ticks by document 01, "The printed sheet" and "Entries to try".
+TICKS = {(2, 1, 4), (2, 0, 1), (8, 1, 25)}
+
+
+def check_variety(made):
+    """Whole runs of every order and number of sweeps, document 01's ticks, spoiled runs, every refusal."""
+    sizes = {(case.n, case.sweeps, ticks) for case, _, ticks in made if ticks > 0}
+    assert {n for n, _, _ in sizes} == set(range(2, 33, 2))
+    assert {sweeps for _, sweeps, _ in sizes} == set(range(17))
+    assert sizes >= TICKS
+    numbers = [outcome.number or "none" for _, outcome, _ in made]
+    assert set(numbers) == {"none", 1, 2, 3, 5, 6, 8}
+    print("whole runs by the number of the refusal: " + plain.summary(numbers))
+
+
+# The cases of runs by hand: an order, sweeps, a kind of matrix, and numbers of ticks, a case for each.
+
+HAND_RUNS = [
+    (2, 0, plain.ordinary, [0, 1, 2]),
+    (2, 1, plain.ordinary, [0, 1, 2, 3, 4, 5]),
+    (2, 16, plain.signed_zeros, [48, 60]),
+    (2, 1, plain.spoiled_by_nan, [1, 2, 4]),
+    (4, 0, plain.sparse, [1, 2, 3]),
+    (4, 1, plain.ordinary, [1, 2, 3, 4, 5, 10, 11, 12]),
+    (4, 2, plain.spoiled_by_turn, [3, 7, 20]),
+    (4, 16, plain.whole_numbers, [146, 500]),
+    (4, 1, plain.far_diagonals, [1, 2]),
+    (6, 1, plain.like_sizes, [2, 3, 5]),
+    (6, 1, plain.signed_zeros, [1, 2, 3, 8]),
+    (6, 2, plain.sparse, [20, 33, 34]),
+    (6, 3, plain.spoiled_late, [30, 48]),
+    (8, 1, plain.ordinary, [4, 5, 6, 24, 25, 26]),
+    (8, 2, plain.spoiled_by_sum, [1, 3]),
+    (10, 2, plain.subnormal, [8, 31]),
+    (12, 1, plain.huge, [7, 39]),
+    (16, 1, plain.covariances, [8, 30]),
+    (20, 1, plain.spoiled_late, [50]),
+    (32, 1, plain.ordinary, [46]),
+    (32, 2, plain.unlike_sizes, [210]),
+]
+
+
+def hand_runs(rng):
+    """The cases of the starts and the numbers of ticks."""
+    for n, sweeps, kind, numbers in HAND_RUNS:
+        for ticks in numbers:
+            yield plain.case_of(n, sweeps, kind(rng, n, sweeps)), ticks
+    yield plain.case_of(0, 1, []), 1
+    yield plain.Case(3, 17, plain.ordinary(rng, 3, 0), 9, 9), 2
+    yield plain.Case(LAST, 1, plain.ordinary(rng, 2, 0), 4, 4), 0
+    yield plain.case_of(4, 17, plain.ordinary(rng, 4, 0)), 3
+    yield plain.Case(4, 1, plain.ordinary(rng, 4, 0)[:15], 16, 16), 12
+    yield plain.Case(6, 1, plain.ordinary(rng, 6, 0) + [ONE], 36, 36), 1
+    yield plain.changed(rng, 4, {(2, 3): INFINITY, (4, 1): NAN}), 0
+    yield plain.unequal(rng, 4, [(4, 3, 0), (4, 2, 63)]), 5
+
+
+# The wild records: an order, sweeps and a tick, each with a word from WILD_WORDS.
+
+WILD_SIZES = [
+    (0, 0, 0),
+    (1, 1, 0),
+    (3, 1, 4),
+    (31, 17, LAST),
+    (33, 0, 0),
+    (34, 16, 3),
+    ((1 << 32) + 2, 1, 0),
+    (1 << 63, 0, 1),
+    (LAST, LAST, LAST),
+    (2, 17, 0),
+    (32, 17, 1504),
+    (8, 1 << 63, 0),
+    (32, LAST, LAST),
+    (2, 0, 1),
+    (2, 1, 4),
+    (8, 1, 25),
+    (32, 0, 16),
+    (32, 16, 1504),
+    (4, 1, 1 << 63),
+    (32, 16, LAST),
+    (2, 0, 0),
+    (2, 1, 0),
+    (2, 1, 1),
+    (2, 1, 2),
+    (2, 1, 3),
+    (4, 1, 0),
+    (4, 1, 1),
+    (4, 1, 9),
+    (8, 1, 22),
+    (8, 1, 24),
+    (32, 0, 15),
+    (32, 1, 0),
+    (32, 1, 1),
+    (32, 16, 700),
+    (32, 16, 701),
+    (32, 16, 702),
+    (32, 16, 703),
+    (32, 16, 704),
+    (32, 16, 705),
+    (32, 16, 706),
+    (32, 16, 1488),
+    (32, 16, 1489),
+    (32, 16, 1503),
+]
+WILD_WORDS = [
+    ONE,
+    NAN,
+    0x3FD3 << 48,
+    SIGN,
+    LARGEST,
+    SIGN + (0x4025 << 48),
+    LAST,  # a NaN
+    1,
+    SIGN + INFINITY,
+    0x5FF << 52,  # the square of this is infinite
+    INFINITY,
+]
+
+
+# The files.
+
+
+def bits(value):
+    return NAN if math.isnan(value) else plain.pattern_of(value)
+
+
+def words_of(tile):
+    parts = [bits(part[corner]) for part in tile.cells + tile.lines for corner in CORNERS]
+    return [*parts, bits(tile.row), bits(tile.column), int(tile.mark)]
+
+
+def record_of(array, shown):
+    tiles = [words_of(array.tiles[place]) for place in shown]
+    return [array.n, array.sweeps, array.tick, *sum(tiles, [])]
+
+
+def whole_run_lines(case, outcome, ticks, fill):
+    """The lines of a whole run and of its answer, which is the plain run's with the ticks before the
+    results."""
+    answer = plain.answer_of(case, fill, outcome)
+    results = case.result_size + case.vectors_size
+    answer.insert(len(answer) - results, plain.lines_of([ticks])[0])
+    return plain.lines_of([WHOLE, *plain.head(case, fill), *case.matrix]), answer
+
+
+def hand_run_lines(case, ticks):
+    """The lines of a run by hand and of its answer. Every tick after a refused start is refused by 1."""
+    agreed(case)
+    refusal = refusal_of(case)
+    array = zeros() if refusal else start(case.n, case.sweeps, case.matrix)
+    told = NONE
+    for _ in range(ticks):
+        told, number = tick(array)
+        assert number == (1 if refusal else None)
+    answer = plain.answer_of(case._replace(result_size=0, vectors_size=0), 0, refusal) if refusal else []
+    words = [BY_HAND, case.n, case.sweeps, len(case.matrix), *case.matrix, ticks]
+    return plain.lines_of(words), answer + plain.lines_of([told, *record_of(array, array.places())])
+
+
+def wild_lines(n, sweeps, now, word):
+    array = Array(n, sweeps, now, plain.value_of(word))
+    told, refusal = tick(array)
+    answer = [told] if refusal is None else [told, refusal]
+    record = record_of(array, [(1, 1), (1, 2), (2, 1), (MOST, MOST)])
+    return plain.lines_of([WILD, n, sweeps, now, word]), plain.lines_of(answer + record)
+
+
+def all_lines(rng):
+    """The lines of each case and of its answer."""
+    made = [(case, *agreed(case)) for case in whole_runs(rng)]
+    check_variety(made)
+    wholes = [whole_run_lines(*drawn, fill) for drawn, fill in zip(made, plain.finite_patterns(rng))]
+    hands = [hand_run_lines(case, ticks) for case, ticks in hand_runs(rng)]
+    words = [WILD_WORDS[k % len(WILD_WORDS)] for k in range(len(WILD_SIZES))]
+    wilds = [wild_lines(*sizes, word) for sizes, word in zip(WILD_SIZES, words)]
+    print(f"{len(wholes)} whole runs, {len(hands)} runs by hand, {len(wilds)} wild records")
+    return wholes + hands + wilds
+
+
+def main():
+    rng = random.Random(1985)
+    check_wires()
+    check_runs(rng, 3)
+    check_all_rotations(rng)
+    made = all_lines(rng)
+    crate = pathlib.Path(__file__).resolve().parent.parent / "crates" / "array_vectors"
+    crate.mkdir(exist_ok=True)
+    for name, side in [("stdin", 0), ("stdout", 1)]:
+        text = "".join(line for lines in made for line in lines[side])
+        (crate / name).write_text(text, encoding="ascii")
+
+
+if __name__ == "__main__":
+    main()
