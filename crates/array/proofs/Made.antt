@@ -4,15 +4,16 @@ use mathlib.Core.Path.{_≡_, refl, sym, ap, _∙_}
 use mathlib.Core.Bool.{Bool, true, false, cond}
 use mathlib.Core.List.{List}
 use native.Mathlib.Omega.{arith}
-use borrow.Author.Tests.{eq-eqb, eqb-true, eqb-false, ltb-false}
+use borrow.Author.Tests.{ltb-false}
 use lib.Dec.{eqb, ltb}
 use lib.ListN.{getD}
 use lib.Ieee.{Float}
 use Rattle.systolic.specs.Slots.{left, right, slot}
-use Rattle.systolic.specs.Blocks.{Block, tab, pick}
+use Rattle.systolic.specs.Blocks.{tab, pick}
 use Rattle.systolic.specs.Tiles as theory
-use Rattle.systolic.specs.Tiles.{joined, tickTile, newTile, newCells, newParameter, turnTile, stepAt, actionAt, distance, Action, idle, first, rotate, second, third, final}
+use Rattle.systolic.specs.Tiles.{joined, tickTile, stepAt, actionAt, distance}
 use Rattle.systolic.specs.Arrays.{nearer, incoming, tick}
+use Rattle.systolic.proofs.Neighbourhood.{tile-same}
 use Rattle.ordering.specs.Registers.{most}
 use Rattle.plain.specs.Cells.{Cell}
 use Rattle.tile.specs.declared.Part.{Part}
@@ -30,35 +31,6 @@ tile-again x = refl
 pub theory-again : (y : theory.Tile Cell Float Float) → theTile (tileOf y) ≡ y
 unfolding tileOf partOf theTile blockOf
 theory-again y = refl
-
--- ---- a tile on the diagonal uses no parameter line
-module _ (m K t i j : ℕ) (x : theory.Tile Cell Float Float) (ins : Block Cell) (h v h′ v′ : Float) (e : i ≡ j) where
-  cells-alone : (a : Action) → newCells operations (stepAt (distance i j) t) i j a (x .cells) ins h v ≡ newCells operations (stepAt (distance i j) t) i j a (x .cells) ins h′ v′
-  unfolding newCells turnTile
-  cells-alone idle = refl
-  cells-alone first = rw (eq-eqb i j e)
-  cells-alone rotate = rw (eq-eqb i j e)
-  cells-alone second = refl
-  cells-alone third = refl
-  cells-alone final = refl
-
-  parameter-alone : (f : Block Cell → Float) (a : Action) (p p′ o : Float) → newParameter f i j a (x .cells) ins p o ≡ newParameter f i j a (x .cells) ins p′ o
-  unfolding newParameter
-  parameter-alone f idle p p′ o = refl
-  parameter-alone f first p p′ o = rw (eq-eqb i j e)
-  parameter-alone f rotate p p′ o = rw (eq-eqb i j e)
-  parameter-alone f second p p′ o = refl
-  parameter-alone f third p p′ o = refl
-  parameter-alone f final p p′ o = refl
-
-  diagonal-alone : tickTile operations m K t i j x ins h v ≡ tickTile operations m K t i j x ins h′ v′
-  unfolding tickTile newTile
-  diagonal-alone =
-      rw (
-        cells-alone (actionAt K (distance i j) t),
-        parameter-alone (operations .sendsRow (stepAt (distance i j) t) i) (actionAt K (distance i j) t) h h′ (x .rowLine),
-        parameter-alone (operations .sendsColumn (stepAt (distance i j) t) i) (actionAt K (distance i j) t) v v′ (x .columnLine),
-      )
 
 -- ---- the neighbours
 module _ (m : ℕ) where
@@ -96,19 +68,13 @@ module _ (m K t i j : ℕ) (l : List Tile) where
   lines-brought =
       rw (← (joined-up m i), ← (joined-up m j), ← (joined-down m i), ← (joined-down m j)) (unfold incoming tab pick broughtTo theArray theTile in refl)
 
-  -- a tick with the parameters that the code reads
+  -- a tick with the parameters that the code reads: a tile on the diagonal uses none
   reads : tickTile operations m K t i j (theArray l i j) (incoming m (theArray l) i j) (tileAt l i (towardOf i j) .row) (tileAt l (towardOf j i) j .column)
       ≡ tick operations m K t (theArray l) i j
-  unfolding tick
-  reads = go (eqb i j) refl
-    where
-      go : (b : Bool) → eqb i j ≡ b
-          → tickTile operations m K t i j (theArray l i j) (incoming m (theArray l) i j) (tileAt l i (towardOf i j) .row) (tileAt l (towardOf j i) j .column)
-          ≡ tickTile operations m K t i j (theArray l i j) (incoming m (theArray l) i j) (theArray l i (nearer i j) .rowLine) (theArray l (nearer j i) j .columnLine)
-      go true e = diagonal-alone m K t i j (theArray l i j) (incoming m (theArray l) i j) _ _ _ _ (eqb-true _ _ e)
-      go false e =
-          let w : ¬ (i ≡ j) = eqb-false _ _ e in
-          rw (toward-nearer i j w, toward-nearer j i (λ z. w (sym z))) (unfold theArray theTile in refl)
+  unfolding tick tickTile theArray theTile
+  reads =
+      tile-same operations m (stepAt (distance i j) t) i j (actionAt K (distance i j) t) _ _ _ _ _ _
+      (λ n. ap (λ (k : ℕ). tileAt l i k .row) (toward-nearer i j n)) (λ n. ap (λ (k : ℕ). tileAt l k j .column) (toward-nearer j i (λ z. n (sym z))))
 
   -- the tile that the code makes
   pub tile-made : {x : Tile} (ins a b c d : Part) {row column : Float} (near : Near) → near ≡ nearOf m i j

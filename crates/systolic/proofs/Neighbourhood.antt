@@ -44,7 +44,7 @@ parameter-same s i j h h′ o f second b x = refl
 parameter-same s i j h h′ o f third b x = refl
 parameter-same s i j h h′ o f final b x = refl
 
-tile-same : {X H W : Type 0} (S : Operations X H W) (m k i j : ℕ) (a : Action) (o : Tile X H W) (x : Block X) (h h′ : H) (v v′ : W)
+pub tile-same : {X H W : Type 0} (S : Operations X H W) (m k i j : ℕ) (a : Action) (o : Tile X H W) (x : Block X) (h h′ : H) (v v′ : W)
     → (¬ (i ≡ j) → h ≡ h′) → (¬ (i ≡ j) → v ≡ v′) → newTile S m k i j a o x h v ≡ newTile S m k i j a o x h′ v′
 unfolding newTile
 tile-same S m k i j a o x h h′ v v′ f g =
