@@ -3,3 +3,4 @@ pub mod Nearby
 pub mod Made
 pub mod Ending
 pub mod Handed
+pub mod Neighbours
