@@ -82,6 +82,10 @@ pub turned-flat : (n p q : ℕ) (turn : (ℕ → ℕ → Float) → ℕ → ℕ 
     → onLines n p q turn l ≡ flat n (turn (at n l))
 turned-flat n p q turn l e = sym (on-lines n p q turn l e)
 
+pub same-either : (b : Bool) {x y : Float} → y ≡ x → cond b x y ≡ x
+same-either true e = refl
+same-either false e = e
+
 -- ---- a still pair changes nothing
 module _ (p q : ℕ) (A : ℕ → ℕ → Float) (r c : ℕ) where
   still-at : (i : ℕ) (x y z : Float) → (i ≡ p → z ≡ x) → (i ≡ q → z ≡ y) → turnedAt Still p q i x y z ≡ z
@@ -92,10 +96,6 @@ module _ (p q : ℕ) (A : ℕ → ℕ → Float) (r c : ℕ) where
       go true b e h = sym (f (eqb-true _ _ e))
       go false true e h = sym (g (eqb-true _ _ h))
       go false false e h = refl
-
-  same-either : (b : Bool) {x y : Float} → y ≡ x → cond b x y ≡ x
-  same-either true e = refl
-  same-either false e = e
 
   pub still-rows : rowTurn Still p q A r c ≡ A r c
   unfolding rowTurn

@@ -5,7 +5,7 @@ use mathlib.Core.Bool.{Bool, true, false, not, cond, _||_, _&&_}
 use mathlib.Core.List.{List}
 use native.Mathlib.Omega.{arith}
 use native.Mathlib.Nat.{div-add-mod', mul-le-mul}
-use borrow.Author.Tests.{eqb-true, ltb-false}
+use borrow.Author.Tests.{eqb-true, ltb-false, not-false}
 use lib.Arith.{digits-lt}
 use lib.Dec.{T, eqb, ltb}
 use lib.ListN.{length, getD}
@@ -57,12 +57,8 @@ product-fits a b h k = let w : a * b ≤ mostSweeps * limit = mul-le-mul h k in 
 
 -- ---- the two lists at the end
 module _ (n : ℕ) where
-  of-not : (b : Bool) → not b ≡ false → b ≡ true
-  of-not true e = refl
-  of-not false e = sym e
-
   finite-of-list : (A : ℕ → ℕ → Float) (l : List Float) → l ≡ flat n A → length l ≡ n * n → someNotFinite l ≡ false → Finite n A
-  finite-of-list A l e long f r c hr hc = rw (← (read-again n A r c hr hc), ← e) (of-not _ (unfold someNotFinite at in (any-to (length l) _ f ((r - 1) * n + (c - 1)) inside)))
+  finite-of-list A l e long f r c hr hc = rw (← (read-again n A r c hr hc), ← e) (not-false _ (unfold someNotFinite at in (any-to (length l) _ f ((r - 1) * n + (c - 1)) inside)))
     where
       inside : (r - 1) * n + (c - 1) < length l
       inside = rw long (digits-lt {q = r - 1} {m = n} {r = c - 1} {c = n} (omega arith) (omega arith))

@@ -1,11 +1,12 @@
 -- An entry that isn't finite is not made finite again: so a run is spoiled exactly if an entry isn't finite at its end. Assumes nothing.
 use Prim.Native.Nat.{ℕ, zero, suc, _+_, _-_, _*_, _/_}
-use mathlib.Core.Path.{_≡_, refl, sym, ap}
-use mathlib.Core.Bool.{Bool, true, false, not}
+use mathlib.Core.Path.{_≡_, ap}
+use mathlib.Core.Bool.{true, false, not}
 use mathlib.Core.List.{List}
 use mathlib.Core.Logic.{_≢_}
 use native.Mathlib.Nat.{zero-add, suc-add}
 use native.Mathlib.Omega.{arith}
+use borrow.Author.Tests.{not-false}
 use lib.ListN.{getD}
 use lib.Ieee.{Float}
 use Rattle.float64.specs.Values.{finite}
@@ -26,6 +27,9 @@ pub record FiniteState (n : ℕ) (X : State) : Type 0 where
   pub finite-matrix : Finite n (X .matrix)
   pub finite-vectors : Finite n (X .vectors)
 
+become : {x y : Float} → x ≡ y → finite x ≡ true → finite y ≡ true
+become e h = rw (← e) h
+
 module _ (n p q : ℕ) (hp : Line n p) (hq : Line n q) (pq : p ≢ q) where
   -- ---- one pair
   pub matrix-persists : (A : ℕ → ℕ → Float) → Mirrored n A → Finite n (pairTurned (parametersOf p q A) p q A) → Finite n A
@@ -33,9 +37,6 @@ module _ (n p q : ℕ) (hp : Line n p) (hq : Line n q) (pq : p ≢ q) where
     where
       P : Parameters
       P = parametersOf p q A
-
-      become : {x y : Float} → x ≡ y → finite x ≡ true → finite y ≡ true
-      become e h = rw (← e) h
 
       diagonal : (finite (A p p) ≡ true) × (finite (A q q) ≡ true) × (finite (A p q) ≡ true)
       diagonal =
@@ -63,9 +64,6 @@ module _ (n p q : ℕ) (hp : Line n p) (hq : Line n q) (pq : p ≢ q) where
   pub vectors-persist : (P : Parameters) (A : ℕ → ℕ → Float) → Finite n (columnTurnAll P p q A) → Finite n A
   vectors-persist P A f r c hr hc = go (spot p q c)
     where
-      become : {x y : Float} → x ≡ y → finite x ≡ true → finite y ≡ true
-      become e h = rw (← e) h
-
       both : (finite (A r p) ≡ true) × (finite (A r q) ≡ true)
       both = turn-kept P (A r p) (A r q) (become (all-first P p q A r) (f r p hr hp)) (become (all-second P p q A r pq) (f r q hr hq))
 
@@ -103,10 +101,6 @@ module _ (n : ℕ) where
   unfolding notFinite
   finite-state X e = record { finite-matrix = λ r c hr hc. each r c hr hc .0; finite-vectors = λ r c hr hc. each r c hr hc .1 }
     where
-      of-not : (b : Bool) → not b ≡ false → b ≡ true
-      of-not true e = refl
-      of-not false e = sym e
-
       from-one : (r : ℕ) → Line n r → 1 + (r - 1) ≡ r
       from-one r h = omega arith
 
@@ -114,7 +108,7 @@ module _ (n : ℕ) where
       each r c hr hc =
           let w = rw (from-one r hr, from-one c hc) at (any-to n _ (any-to n _ e (r - 1) (omega arith)) (c - 1) (omega arith)) in
           let o = or-false _ _ w in
-          (of-not _ (o .0), of-not _ (o .1))
+          (not-false _ (o .0), not-false _ (o .1))
 
   pub state-finite : (X : State) → FiniteState n X → notFinite n X ≡ false
   unfolding notFinite

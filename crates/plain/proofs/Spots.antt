@@ -11,6 +11,7 @@ use Rattle.systolic.proofs.Bounded.{or-false}
 use Rattle.rotation.specs.declared.Parameters.{Parameters}
 use Rattle.rotation.specs.Rotation.{diagonalOf, turnOf}
 use Rattle.matrix.specs.Turns.{turnedAt, isOne, rowTurn, columnTurn, rowTurnAll, columnTurnAll}
+use Rattle.matrix.proofs.Same.{same-either}
 use Rattle.plain.specs.State.{withEntry, pairTurned}
 
 -- a line is the first of a pair, or the second, or neither
@@ -84,10 +85,6 @@ module _ (P : Parameters) (p q : ℕ) (A : ℕ → ℕ → Float) where
       at-others c cp cq = rw (ne-eqb c p cp, ne-eqb c q cq, ne-eqb r p rp, ne-eqb r q rq)
 
 -- ---- The four entries of the pair are set last, so the turns before may go through all columns and rows.
-same-either : (b : Bool) {x y : Float} → y ≡ x → cond b x y ≡ x
-same-either true e = refl
-same-either false e = e
-
 module _ (P : Parameters) (p q : ℕ) (A : ℕ → ℕ → Float) where
   first-one : isOne p q p ≡ true
   first-one = rw (eq-eqb p p refl)
