@@ -15,7 +15,6 @@ use Rattle.systolic.specs.Tiles.{joined, tickTile, stepAt, actionAt, distance}
 use Rattle.systolic.specs.Arrays.{nearer, incoming, tick}
 use Rattle.systolic.proofs.Neighbourhood.{tile-same}
 use Rattle.ordering.specs.Registers.{most}
-use Rattle.plain.specs.Cells.{Cell}
 use Rattle.tile.specs.declared.Part.{Part}
 use Rattle.tile.specs.declared.Tile.{Tile}
 use Rattle.tile.specs.Tiles.{blockOf, theTile, operations, broughtTo}
@@ -24,13 +23,9 @@ use Rattle.array.specs.Arrays.{noTile, tileAt, partOf, tileOf, theArray,
 use Rattle.array.proofs.Grid.{Upto, upto-end}
 
 -- ---- the code's tile and the theory's
-pub tile-again : (x : Tile) → tileOf (theTile x) ≡ x
+tile-again : (x : Tile) → tileOf (theTile x) ≡ x
 unfolding tileOf partOf theTile blockOf
 tile-again x = refl
-
-pub theory-again : (y : theory.Tile Cell Float Float) → theTile (tileOf y) ≡ y
-unfolding tileOf partOf theTile blockOf
-theory-again y = refl
 
 -- ---- the neighbours
 module _ (m : ℕ) where

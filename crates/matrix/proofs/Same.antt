@@ -12,7 +12,7 @@ use Rattle.float64.specs.Values.{finite}
 use Rattle.rotation.specs.declared.Parameters.{Parameters}
 use Rattle.rotation.specs.declared.Parameters.the-variants.{Still}
 use Rattle.matrix.specs.Matrix.{at, flat}
-use Rattle.matrix.specs.Turns.{turnedAt, isOne, twoLines, onLines, rowTurn, columnTurn, rowTurnAll, columnTurnAll}
+use Rattle.matrix.specs.Turns.{turnedAt, isOne, twoLines, onLines, rowTurn, columnTurn, columnTurnAll}
 use Rattle.matrix.proofs.Flat.{at-flat, flat-is, flat-length}
 use Rattle.matrix.proofs.Within.{Two, on-lines}
 
@@ -58,10 +58,6 @@ module _ (n : ℕ) where
     pub rows-same : (A B : ℕ → ℕ → Float) → Same n A B → Same n (rowTurn P p q A) (rowTurn P p q B)
     unfolding rowTurn
     rows-same A B h r c hr hc = rw (h r c hr hc, h p c hp hc, h q c hq hc)
-
-    pub all-rows-same : (A B : ℕ → ℕ → Float) → Same n A B → Same n (rowTurnAll P p q A) (rowTurnAll P p q B)
-    unfolding rowTurnAll
-    all-rows-same A B h r c hr hc = rw (h r c hr hc, h p c hp hc, h q c hq hc)
 
     pub columns-same : (A B : ℕ → ℕ → Float) → Same n A B → Same n (columnTurn P p q A) (columnTurn P p q B)
     unfolding columnTurn
