@@ -1,13 +1,13 @@
 -- Document 01, "One rotation": the row turn and the column turn of the lines p and q of a matrix. Definitions only.
-use Prim.Native.Nat.{ℕ, zero, suc, _*_}
-use mathlib.Core.Bool.{Bool, false, not, cond, _||_, _&&_}
+use Prim.Native.Nat.{ℕ, zero, suc}
+use mathlib.Core.Bool.{Bool, not, cond, _||_, _&&_}
 use mathlib.Core.List.{List}
-use lib.Dec.{eqb, leb}
+use lib.Dec.{eqb}
 use lib.ListN.{length, getD, set}
 use lib.Ieee.{Float, nan}
 use Rattle.rotation.specs.declared.Parameters.{Parameters}
 use Rattle.rotation.specs.Rotation.{turnOf}
-use Rattle.matrix.specs.Matrix.{at, flat}
+use Rattle.matrix.specs.Matrix.{at, flat, isPlace}
 
 -- Place i of a line of which the places p and q are turned: x stood at p, y at q and z at i.
 unfoldable pub turnedAt : Parameters → ℕ → ℕ → ℕ → Float → Float → Float → Float
@@ -33,13 +33,9 @@ rowTurnAll P p q A r c = turnedAt P p q r (A p c) (A q c) (A r c)
 unfoldable pub columnTurnAll : Parameters → ℕ → ℕ → (ℕ → ℕ → Float) → ℕ → ℕ → Float
 columnTurnAll P p q A r c = turnedAt P p q c (A r p) (A r q) (A r c)
 
--- p is a line of a matrix of order n.
-abbrev pub isLine : ℕ → ℕ → Bool
-isLine n p = cond (eqb p 0) false (leb p n)
-
 -- p and q are two different lines, and a length is that of the matrix.
 unfoldable pub twoLines : ℕ → ℕ → ℕ → ℕ → Bool
-twoLines n p q length = isLine n p && (isLine n q && (not (eqb p q) && eqb length (n * n)))
+twoLines n p q length = not (eqb p q) && isPlace n p q length
 
 -- A list with the matrix in it turned, where it has the lines p and q.
 unfoldable pub onLines : ℕ → ℕ → ℕ → ((ℕ → ℕ → Float) → ℕ → ℕ → Float) → List Float → List Float

@@ -3,9 +3,11 @@ ghost use mathlib.Core.Path.{_≡_};
 ghost use Prim.Native.Nat.{ℕ, _+_, _*_, _<_};
 ghost use lib.ListN.{length};
 ghost use lib.Dec.{eqb};
+ghost use Rattle.float64.specs.Values.{plusZero};
+ghost use Rattle.lists.specs.Tabulate.{tabulate};
 ghost use Rattle.refusal.specs.Refusal.{toldAnswer};
-ghost use Rattle.matrix.specs.Matrix.{at, flat};
-ghost use Rattle.matrix.specs.Turns.{isLine, twoLines, onLines, rowTurnAll, columnTurnAll, placesTurned, turnLines};
+ghost use Rattle.matrix.specs.Matrix.{isLine, isPlace, entryOf};
+ghost use Rattle.matrix.specs.Turns.{twoLines, onLines, rowTurnAll, columnTurnAll, placesTurned, turnLines};
 ghost use Rattle.matrix.specs.Entries.{firstPlace, notFiniteAt, notMirroredAt, entriesOf};
 use refusal::Answer;
 use refusal::Refusal;
@@ -34,12 +36,27 @@ pub fn is_square(n: usize, length: usize) -> bool
     length == n * n
 }
 
-// The entry in row i + 1 and column j + 1.
-fn entry(n: usize, i: usize, j: usize, a: &[f64]) -> f64
-    requires { ⌜ (length (now a) ≡ n * n) × (i < n) × (j < n) ⌝ }
-    ensures { λ r. ⌜ r ≡ at n (now (a .entry)) (i + 1) (j + 1) ⌝ }
+// The entry in row r and column c, and NaN where there is none.
+pub fn entry(n: usize, r: usize, c: usize, a: &[f64]) -> f64
+    ensures { λ x. ⌜ x ≡ entryOf n (now (a .entry)) r c ⌝ }
 {
-    a[i * n + j]
+    if !is_place(n, r, c, a.len()) {
+        return float64::not_a_number();
+    }
+    a[(r - 1) * n + (c - 1)]
+}
+
+// Whether r and c are lines of a matrix of order n, and a length is that of the matrix.
+fn is_place(n: usize, r: usize, c: usize, length: usize) -> bool
+    ensures { λ x. ⌜ x ≡ isPlace n r c length ⌝ }
+{
+    if !is_line(n, r) {
+        return false;
+    }
+    if !is_line(n, c) {
+        return false;
+    }
+    is_square(n, length)
 }
 
 fn first_not_finite(n: usize, a: &[f64]) -> Answer
@@ -49,7 +66,7 @@ fn first_not_finite(n: usize, a: &[f64]) -> Answer
     let mut found = Answer::Accepted;
     'rows: for i in 0..n {
         for j in 0..n {
-            if !float64::is_finite(entry(n, i, j, a)) {
+            if !float64::is_finite(entry(n, i + 1, j + 1, a)) {
                 found = Answer::Refused(Refusal::NotFinite(i + 1, j + 1));
                 break 'rows;
             }
@@ -65,7 +82,7 @@ fn first_not_mirrored(n: usize, a: &[f64]) -> Answer
     let mut found = Answer::Accepted;
     'rows: for i in 0..n {
         for j in i + 1..n {
-            if !float64::same_bits(entry(n, i, j, a), entry(n, j, i, a)) {
+            if !float64::same_bits(entry(n, i + 1, j + 1, a), entry(n, j + 1, i + 1, a)) {
                 found = Answer::Refused(Refusal::NotMirrored(i + 1, j + 1));
                 break 'rows;
             }
@@ -98,16 +115,10 @@ pub fn turn_columns(parameters: Parameters, n: usize, p: usize, q: usize, a: &mu
 pub fn are_lines(n: usize, p: usize, q: usize, length: usize) -> bool
     ensures { λ r. ⌜ r ≡ twoLines n p q length ⌝ }
 {
-    if !is_line(n, p) {
-        return false;
-    }
-    if !is_line(n, q) {
-        return false;
-    }
     if p == q {
         return false;
     }
-    is_square(n, length)
+    is_place(n, p, q, length)
 }
 
 // Whether p is a line of a matrix of order n.
@@ -138,4 +149,13 @@ fn turn_places(parameters: Parameters, i: usize, j: usize, a: &mut [f64])
     let sides = rotation::turn(parameters, a[i], a[j]);
     a[i] = sides.left;
     a[j] = sides.right;
+}
+
+// Sets all values to +0.
+pub fn clear(a: &mut [f64])
+    ensures { λ _. ⌜ now (a .exit) ≡ tabulate (length (now (a .entry))) (λ k. plusZero) ⌝ }
+{
+    for k in 0..a.len() {
+        a[k] = 0.0;
+    }
 }

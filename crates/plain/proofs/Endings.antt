@@ -40,11 +40,11 @@ of-not true e = (λ _. refl, λ z. sym z ∙ e)
 of-not false e = (λ z. sym z ∙ e, λ _. refl)
 
 module _ (n : ℕ) (l e : List Float) where
-  pub spoils-first : {o : Outcome} → someNotFinite l ≡ true → o ≡ outcome (told Spoiled) (zeros n) (zeros n) → o ≡ finishOf n l e
+  pub spoils-first : {o : Outcome Unit} → someNotFinite l ≡ true → o ≡ outcome (told Spoiled) (zeros n) (zeros n) → o ≡ finishOf n l e
   unfolding finishOf
   spoils-first f z = rw f z
 
-  pub spoils-second : {o : Outcome} → someNotFinite l ≡ false → someNotFinite e ≡ true → o ≡ outcome (told Spoiled) (zeros n) (zeros n) → o ≡ finishOf n l e
+  pub spoils-second : {o : Outcome Unit} → someNotFinite l ≡ false → someNotFinite e ≡ true → o ≡ outcome (told Spoiled) (zeros n) (zeros n) → o ≡ finishOf n l e
   unfolding finishOf
   spoils-second f g z = rw (f, g) z
 
@@ -52,5 +52,5 @@ module _ (n : ℕ) (l e : List Float) where
   unfolding finishOf
   stays f g = rw (f, g)
 
-pub spoiled-outcome : (n : ℕ) {l e : List Float} → l ≡ zeros n → e ≡ zeros n → outcome (told Spoiled) l e ≡ outcome (told Spoiled) (zeros n) (zeros n)
+pub spoiled-outcome : {A : Type 0} (n : ℕ) {l e : List Float} → l ≡ zeros n → e ≡ zeros n → outcome {A = A} (told Spoiled) l e ≡ outcome (told Spoiled) (zeros n) (zeros n)
 spoiled-outcome n f g = rw (f, g)

@@ -123,7 +123,7 @@ module _ (n sweeps : ℕ) (l : List Float) (fitting : (k : ℕ) → T (fits bina
   start-mirrored = accepted-mirrored n l fitting (b .entries)
 
   -- a run is the start, the steps and the end
-  pub run-made : {o : Outcome} (l₀ e₀ l₁ e₁ : List Float) → l₀ ≡ l → e₀ ≡ flat n identity → Held n l₁ e₁ (after n (stepsOf n sweeps) (stateOf n l₀ e₀))
+  pub run-made : {o : Outcome Unit} (l₀ e₀ l₁ e₁ : List Float) → l₀ ≡ l → e₀ ≡ flat n identity → Held n l₁ e₁ (after n (stepsOf n sweeps) (stateOf n l₀ e₀))
       → o ≡ finishOf n l₁ e₁ → o ≡ ranOf n sweeps l
   unfolding finishOf ranOf
   run-made l₀ e₀ l₁ e₁ z y h f =
@@ -144,6 +144,6 @@ module _ (n sweeps : ℕ) (l r v : List Float) where
   unfolding runOf
   run-refused e = rw (← e)
 
-  pub run-accepted-as : {o : Outcome} → given tt ≡ beforeRun n sweeps l (length r) (length v) → o ≡ ranOf n sweeps l → o ≡ runOf n sweeps l r v
+  pub run-accepted-as : {o : Outcome Unit} → given tt ≡ beforeRun n sweeps l (length r) (length v) → o ≡ ranOf n sweeps l → o ≡ runOf n sweeps l r v
   unfolding runOf
   run-accepted-as e f = rw (← e) f

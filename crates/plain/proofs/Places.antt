@@ -1,4 +1,4 @@
--- One entry of a lent matrix, read and set. Assumes nothing.
+-- One entry of a lent matrix, set. Assumes nothing.
 use Prim.Native.Nat.{ℕ, _+_, _-_, _*_, _≤_, _<_}
 use mathlib.Core.Path.{_≡_, refl, sym, _∙_}
 use mathlib.Core.Bool.{Bool, true, false, cond, _&&_}
@@ -17,10 +17,6 @@ use Rattle.plain.specs.State.{withEntry}
 module _ (n p q : ℕ) (l : List Float) (long : length l ≡ n * n) (p1 : 1 ≤ p) (pn : p ≤ n) (q1 : 1 ≤ q) (qn : q ≤ n) where
   pub place-within : (p - 1) * n + (q - 1) < length l
   place-within = rw long (digits-lt {q = p - 1} {m = n} {r = q - 1} {c = n} (omega arith) (omega arith))
-
-  pub place-read : getD l ((p - 1) * n + (q - 1)) nan ≡ at n l p q
-  unfolding at
-  place-read = refl
 
   here : (i j : ℕ) → j < n → i + 1 ≡ p → j + 1 ≡ q → i * n + j ≡ (p - 1) * n + (q - 1)
   here i j hj e f = let a : i ≡ p - 1 = omega arith in let b : j ≡ q - 1 = omega arith in rw (a, b)

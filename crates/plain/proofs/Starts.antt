@@ -7,6 +7,7 @@ use borrow.Author.Tests.{eq-eqb, ne-eqb}
 use lib.ListN.{length, getD}
 use lib.Ieee.{Float, nan}
 use Rattle.float64.specs.Values.{plusZero, one}
+use Rattle.lists.specs.Tabulate.{tabulate}
 use Rattle.lists.proofs.Tabulated.{tabulated}
 use Rattle.lists.proofs.Filled.{Filled, filled-all}
 use Rattle.matrix.specs.Matrix.{flat}
@@ -16,20 +17,20 @@ use Rattle.plain.specs.Run.{zeros}
 pub copied : (from : List Float) (k : ℕ) (l : List Float) → Filled nan (λ i. getD from i nan) (length from) k l → length from ≤ k → l ≡ from
 copied from k l h o = filled-all k l h o ∙ sym (tabulated (length from) _ from nan refl (λ i b. refl))
 
-module _ (n k : ℕ) (l : List Float) where
-  pub zeros-filled : Filled nan (λ i. plusZero) (n * n) k l → n * n ≤ k → l ≡ zeros n
-  unfolding zeros flat
-  zeros-filled h o = filled-all k l h o
+pub cleared : (n : ℕ) {d : ℕ} {l : List Float} → d ≡ n * n → l ≡ tabulate d (λ k. plusZero) → l ≡ zeros n
+unfolding zeros flat
+cleared n long e = rw (← long) e
 
+module _ (n k : ℕ) (l : List Float) where
   pub identity-filled : Filled nan (λ i. identity (i / n + 1) (i % n + 1)) (n * n) k l → n * n ≤ k → l ≡ flat n identity
   unfolding flat
   identity-filled h o = filled-all k l h o
 
 module _ (i j : ℕ) where
-  pub on-diagonal : i ≡ j → one ≡ identity (i + 1) (j + 1)
+  pub on-diagonal : i ≡ j → one ≡ identity i j
   unfolding identity
-  on-diagonal e = rw (eq-eqb (i + 1) (j + 1) (omega arith))
+  on-diagonal e = rw (eq-eqb i j e)
 
-  pub off-diagonal : ¬ (i ≡ j) → plusZero ≡ identity (i + 1) (j + 1)
+  pub off-diagonal : ¬ (i ≡ j) → plusZero ≡ identity i j
   unfolding identity
-  off-diagonal e = rw (ne-eqb (i + 1) (j + 1) (λ z. e (omega arith)))
+  off-diagonal e = rw (ne-eqb i j e)

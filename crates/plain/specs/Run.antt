@@ -28,13 +28,13 @@ beforeRun n sweeps l lr lv =
     cond (noOrder n) (told Order)
     (cond (ltb mostSweeps sweeps) (told Sweeps) (cond (eqb lr (n * n) && eqb lv (n * n)) (entriesOf n l) (told Length)))
 
--- What a run answers, and what the two results hold after it.
-pub record Outcome : Type 0 where
-  pub says : Told Unit
+-- What a run answers, with a value of type A where it is not refused, and what the two results hold after it.
+pub record Outcome (A : Type 0) : Type 0 where
+  pub says : Told A
   pub result : List Float
   pub vectors : List Float
 
-abbrev pub outcome : Told Unit → List Float → List Float → Outcome
+abbrev pub outcome : {A : Type 0} → Told A → List Float → List Float → Outcome A
 outcome a l e = record { says = a; result = l; vectors = e }
 
 -- The matrix as lent, and the identity.
@@ -45,7 +45,7 @@ unfoldable pub zeros : ℕ → List Float
 zeros n = flat n (λ r c. plusZero)
 
 -- The outcome of a run that is not refused before it.
-unfoldable pub ranOf : ℕ → ℕ → List Float → Outcome
+unfoldable pub ranOf : ℕ → ℕ → List Float → Outcome Unit
 ranOf n sweeps l =
     cond (spoiled n (stepsOf n sweeps) (startOf n l)) (outcome (told Spoiled) (zeros n) (zeros n))
     (outcome (given tt) (flat n (after n (stepsOf n sweeps) (startOf n l) .matrix)) (flat n (after n (stepsOf n sweeps) (startOf n l) .vectors)))
@@ -54,14 +54,14 @@ ranOf n sweeps l =
 unfoldable pub someNotFinite : List Float → Bool
 someNotFinite l = any (length l) (λ k. not (finite (getD l k nan)))
 
-unfoldable pub finishOf : ℕ → List Float → List Float → Outcome
+unfoldable pub finishOf : ℕ → List Float → List Float → Outcome Unit
 finishOf n l e = cond (someNotFinite l || someNotFinite e) (outcome (told Spoiled) (zeros n) (zeros n)) (outcome (given tt) l e)
 
 -- A refusal leaves both results as they were.
-abbrev pub unlessRefused : Told Unit → Outcome → List Float → List Float → Outcome
+abbrev pub unlessRefused : {A : Type 0} → Told Unit → Outcome A → List Float → List Float → Outcome A
 unlessRefused (given x) o r v = o
 unlessRefused (refused k values) o r v = outcome (refused k values) r v
 
 -- The outcome of a run: l is the matrix, r and v are what the two results hold before.
-unfoldable pub runOf : ℕ → ℕ → List Float → List Float → List Float → Outcome
+unfoldable pub runOf : ℕ → ℕ → List Float → List Float → List Float → Outcome Unit
 runOf n sweeps l r v = unlessRefused (beforeRun n sweeps l (length r) (length v)) (ranOf n sweeps l) r v

@@ -33,8 +33,8 @@ pub fn run(
     }
 }
 
-// Refusals 1, 2, 3, 5 and 6, where the two results have the lengths first and second.
-fn verdict(n: usize, sweeps: usize, matrix: &[f64], first: usize, second: usize) -> Answer
+// Refusals 1, 2, 3, 5 and 6 of a run whose two results have the lengths first and second.
+pub fn verdict(n: usize, sweeps: usize, matrix: &[f64], first: usize, second: usize) -> Answer
     ensures { λ r. ⌜ toldAnswer r ≡ beforeRun n sweeps (now (matrix .entry)) first second ⌝ }
 {
     if ordering::is_no_order(n) {
@@ -83,14 +83,15 @@ fn set_identity(n: usize, a: &mut [f64])
     ensures { λ _. ⌜ now (a .exit) ≡ flat n identity ⌝ }
 {
     for k in 0..a.len() {
-        a[k] = identity_entry(k / n, k % n);
+        a[k] = identity(k / n + 1, k % n + 1);
     }
 }
 
-fn identity_entry(i: usize, j: usize) -> f64
-    ensures { λ r. ⌜ r ≡ identity (i + 1) (j + 1) ⌝ }
+// The entry of the identity in row r and column c.
+pub fn identity(r: usize, c: usize) -> f64
+    ensures { λ x. ⌜ x ≡ identity r c ⌝ }
 {
-    if i == j {
+    if r == c {
         return 1.0;
     }
     0.0
@@ -143,7 +144,11 @@ fn parameters(n: usize, p: usize, q: usize, a: &[f64]) -> Parameters
     requires { ⌜ twoLines n p q (length (now a)) ≡ true ⌝ }
     ensures { λ r. ⌜ r ≡ parametersOf p q (at n (now (a .entry))) ⌝ }
 {
-    rotation::of_pair(entry(n, p, p, a), entry(n, q, q, a), entry(n, p, q, a))
+    rotation::of_pair(
+        matrix::entry(n, p, p, a),
+        matrix::entry(n, q, q, a),
+        matrix::entry(n, p, q, a),
+    )
 }
 
 // The matrix with the lines p and q turned.
@@ -153,9 +158,9 @@ fn turn_matrix(t: f64, c: f64, s: f64, n: usize, p: usize, q: usize, a: &mut [f6
 {
     let sides = rotation::diagonal(
         Parameters::Turn(t, c, s),
-        entry(n, p, p, a),
-        entry(n, q, q, a),
-        entry(n, p, q, a),
+        matrix::entry(n, p, p, a),
+        matrix::entry(n, q, q, a),
+        matrix::entry(n, p, q, a),
     );
     matrix::turn_rows(Parameters::Turn(t, c, s), n, p, q, a);
     matrix::turn_columns(Parameters::Turn(t, c, s), n, p, q, a);
@@ -171,14 +176,6 @@ fn clear_pair(n: usize, p: usize, q: usize, a: &mut [f64])
 {
     set_entry(n, p, q, 0.0, a);
     set_entry(n, q, p, 0.0, a);
-}
-
-// The entry in row p and column q.
-fn entry(n: usize, p: usize, q: usize, a: &[f64]) -> f64
-    requires { ⌜ (length (now a) ≡ n * n) × (1 ≤ p) × (p ≤ n) × (1 ≤ q) × (q ≤ n) ⌝ }
-    ensures { λ r. ⌜ r ≡ at n (now (a .entry)) p q ⌝ }
-{
-    a[(p - 1) * n + (q - 1)]
 }
 
 // Sets the entry in row p and column q.
@@ -218,16 +215,7 @@ fn spoil(n: usize, a: &mut [f64], vectors: &mut [f64]) -> Answer
     requires { ⌜ (length (now a) ≡ n * n) × (length (now vectors) ≡ n * n) ⌝ }
     ensures { λ r. ⌜ outcome (toldAnswer r) (now (a .exit)) (now (vectors .exit)) ≡ outcome (told Spoiled) (zeros n) (zeros n) ⌝ }
 {
-    clear(n, a);
-    clear(n, vectors);
+    matrix::clear(a);
+    matrix::clear(vectors);
     Answer::Refused(Refusal::Spoiled)
-}
-
-fn clear(n: usize, a: &mut [f64])
-    requires { ⌜ length (now a) ≡ n * n ⌝ }
-    ensures { λ _. ⌜ now (a .exit) ≡ zeros n ⌝ }
-{
-    for k in 0..a.len() {
-        a[k] = 0.0;
-    }
 }

@@ -6,7 +6,7 @@ use Rattle.refusal.specs.Refusal.{Told, given, refused}
 use Rattle.plain.specs.Run.{Outcome}
 
 -- The number of a refusal, and 0 where nothing is refused.
-abbrev pub numberTold : Told Unit → ℕ
+abbrev pub numberTold : {A : Type 0} → Told A → ℕ
 numberTold (given x) = 0
 numberTold (refused k values) = k
 
@@ -20,5 +20,5 @@ abbrev pub numbered : ℕ → List Float → List Float → Numbered
 numbered k l e = record { number = k; result = l; vectors = e }
 
 -- An outcome of a run with its answer as a number.
-abbrev pub numberedOf : Outcome → Numbered
+abbrev pub numberedOf : {A : Type 0} → Outcome A → Numbered
 numberedOf o = numbered (numberTold (o .says)) (o .result) (o .vectors)

@@ -1,6 +1,7 @@
 // One tile of the array in one tick (document 01, "The array").
 ghost use mathlib.Core.Path.{_≡_};
 ghost use Rattle.systolic.specs.Tiles.{tickTile};
+ghost use Rattle.tile.specs.Lines.{cornerOf};
 ghost use Rattle.tile.specs.Tiles.{blockOf, theTile, operations, broughtTo};
 
 mod cells;
@@ -44,6 +45,24 @@ pub fn incoming(
     ensures { λ r. ⌜ blockOf r ≡ broughtTo last i j (blockOf alpha) (blockOf beta) (blockOf gamma) (blockOf delta) ⌝ }
 {
     lines::incoming(alpha, beta, gamma, delta, last, i, j)
+}
+
+impl Quad {
+    // The corner in the lower row or the upper, in the right column or the left.
+    pub fn corner(self, lower: bool, right: bool) -> f64
+        ensures { λ r. ⌜ r ≡ cornerOf lower right self ⌝ }
+    {
+        if lower {
+            if right {
+                return self.delta;
+            }
+            return self.gamma;
+        }
+        if right {
+            return self.beta;
+        }
+        self.alpha
+    }
 }
 
 impl Tile {

@@ -2,7 +2,7 @@
 ghost use mathlib.Core.Path.{_≡_};
 ghost use mathlib.Core.Bool.{_||_};
 ghost use lib.Dec.{eqb};
-ghost use Rattle.tile.specs.Lines.{interchanged, acrossOf, edgeOf, orderOf, setOf, setIn0, setIn1, setIn2, linesOf, partLines, cornerOf, incomingQuad, incomingPart};
+ghost use Rattle.tile.specs.Lines.{interchanged, acrossOf, edgeOf, orderOf, setOf, setIn0, setIn1, setIn2, linesOf, partLines, incomingQuad, incomingPart};
 use crate::Part;
 use crate::Quad;
 
@@ -220,25 +220,9 @@ pub fn incoming_quad(
     ensures { λ r. ⌜ r ≡ incomingQuad alpha beta gamma delta last i j ⌝ }
 {
     Quad {
-        alpha: corner(i > 0, j > 0, alpha),
-        beta: corner(i > 0, j == last, beta),
-        gamma: corner(i == last, j > 0, gamma),
-        delta: corner(i == last, j == last, delta),
+        alpha: alpha.corner(i > 0, j > 0),
+        beta: beta.corner(i > 0, j == last),
+        gamma: gamma.corner(i == last, j > 0),
+        delta: delta.corner(i == last, j == last),
     }
-}
-
-// The corner in the lower row or the upper, in the right column or the left.
-pub fn corner(lower: bool, right: bool, q: Quad) -> f64
-    ensures { λ r. ⌜ r ≡ cornerOf lower right q ⌝ }
-{
-    if lower {
-        if right {
-            return q.delta;
-        }
-        return q.gamma;
-    }
-    if right {
-        return q.beta;
-    }
-    q.alpha
 }

@@ -1,52 +1,18 @@
-use mathlib.Core.Path.{sym, _∙_}
+use mathlib.Core.Path.{_∙_}
 use native.Mathlib.Omega.{arith}
+use Rattle.matrix.proofs.Within.{one-line, by-place}
 use borrow.Author.Needs.{needs}
-use borrow.Author.Tests.{not-true, not-false}
-use Rattle.matrix.proofs.Within.{first-none, second-none, one-line, by-length}
 use Rattle.matrix.proofs.are_lines.Statement.{statement}
 use Rattle.matrix.proofs.are_lines.Tie as tie
 
-is-line-requires : tie.Need-is-line-requires
-is-line-requires c κs = search needs
-
 returns : tie.Need-returns
-returns c = first-none _ _ _ _ (sym (c .before .is-line .ensures) ∙ not-true _ (c .if1 .taken))
+returns c = one-line _ _ _ _ (omega arith)
 
-is-line-requires-2 : tie.Need-is-line-requires-2
-is-line-requires-2 c κs = search needs
+is-place-requires : tie.Need-is-place-requires
+is-place-requires c κs = search needs
 
 returns-2 : tie.Need-returns-2
-returns-2 c =
-    let s = c .before .before in
-    second-none _ _ _ _ (sym (s .before .is-line .ensures) ∙ not-false _ (s .if1 .left)) (sym (c .before .is-line2 .ensures) ∙ not-true _ (c .if2 .taken))
-
-returns-3 : tie.Need-returns-3
-returns-3 c =
-    let t = c .before in
-    let s = t .before .before in
-    one-line _ _ _ _ (sym (s .before .is-line .ensures) ∙ not-false _ (s .if1 .left)) (sym (t .before .is-line2 .ensures) ∙ not-false _ (t .if2 .left))
-    (omega arith)
-
-is-square-requires : tie.Need-is-square-requires
-is-square-requires c κs = search needs
-
-returns-4 : tie.Need-returns-4
-returns-4 c =
-    let u = c .before in
-    let t = u .before in
-    let s = t .before .before in
-    c .is-square .ensures
-    ∙ by-length _ _ _ _ (sym (s .before .is-line .ensures) ∙ not-false _ (s .if1 .left)) (sym (t .before .is-line2 .ensures) ∙ not-false _ (t .if2 .left))
-    (u .if3 .left)
+returns-2 c = c .is-place .ensures ∙ by-place _ _ _ _ (c .before .if1 .left)
 
 pub are-lines-spec : {M : Type 1} → statement M
-are-lines-spec =
-    tie.close
-    (tie.spec
-    is-line-requires
-    returns
-    is-line-requires-2
-    returns-2
-    returns-3
-    is-square-requires
-    returns-4)
+are-lines-spec = tie.close (tie.spec returns is-place-requires returns-2)

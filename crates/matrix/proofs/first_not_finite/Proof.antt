@@ -10,6 +10,7 @@ use Rattle.matrix.specs.Matrix.{at}
 use Rattle.matrix.specs.Entries.{first, notFiniteAt}
 use Rattle.refusal.specs.declared.Answer.the-variants.{Accepted}
 use Rattle.matrix.proofs.First.{first-none, first-more, first-found, is-finite, is-not-finite}
+use Rattle.matrix.proofs.Within.{entry-in}
 use Rattle.matrix.proofs.first_not_finite.Statement.{statement}
 use Rattle.matrix.proofs.first_not_finite.Tie as tie
 
@@ -31,17 +32,23 @@ rows-holds c = (search needs, refl, first-none _)
 loop-holds : tie.Need-loop-holds Inv-loop μ-loop Inv-rows μ-rows
 loop-holds c = (search needs, search needs, first-none _)
 
+add-entry : tie.Need-add-entry Inv-loop μ-loop Inv-rows μ-rows
+add-entry c = omega arith
+
+add-entry-2 : tie.Need-add-entry-2 Inv-loop μ-loop Inv-rows μ-rows
+add-entry-2 c = omega arith
+
 entry-requires : tie.Need-entry-requires Inv-loop μ-loop Inv-rows μ-rows
-entry-requires c κs = omega arith
+entry-requires c κs = search needs
 
 is-finite-requires : tie.Need-is-finite-requires Inv-loop μ-loop Inv-rows μ-rows
 is-finite-requires c κs = search needs
 
-add-t10 : tie.Need-add-t10 Inv-loop μ-loop Inv-rows μ-rows
-add-t10 c = omega arith
+add-t12 : tie.Need-add-t12 Inv-loop μ-loop Inv-rows μ-rows
+add-t12 c = omega arith
 
-add-t11 : tie.Need-add-t11 Inv-loop μ-loop Inv-rows μ-rows
-add-t11 c = omega arith
+add-t13 : tie.Need-add-t13 Inv-loop μ-loop Inv-rows μ-rows
+add-t13 c = omega arith
 
 add-j : tie.Need-add-j Inv-loop μ-loop Inv-rows μ-rows
 add-j c = omega arith
@@ -52,7 +59,7 @@ loop-less c = omega arith
 loop-again : tie.Need-loop-again Inv-loop μ-loop Inv-rows μ-rows
 loop-again c =
     let k = c .before .before .before .before in
-    let e = c .before .before .entry .ensures in
+    let e = c .before .before .entry .ensures ∙ entry-in _ _ _ _ (k .before .before .before .before .pre) (omega arith) (omega arith) in
     let f = ap finite (sym e) ∙ sym (c .before .is-finite .ensures) ∙ not-false _ (c .if1 .left) in
     (omega arith, search needs, first-more _ _ (k .loop .inv .2) (is-finite _ _ _ _ f))
 
@@ -74,7 +81,7 @@ returns-2 : tie.Need-returns-2 Inv-loop μ-loop Inv-rows μ-rows
 returns-2 c =
     let k = c .before .before .before .before in
     let r = k .before .before in
-    let e = c .before .before .entry .ensures in
+    let e = c .before .before .entry .ensures ∙ entry-in _ _ _ _ (k .before .before .before .before .pre) (omega arith) (omega arith) in
     let f = ap finite (sym e) ∙ sym (c .before .is-finite .ensures) ∙ not-true _ (c .if1 .taken) in
     sym (first-found _ _ _ _ _ (k .before .rows-test .taken) (r .rows .inv .2)
     (first-found _ _ _ _ _ (c .before .before .before .loop-test .taken) (k .loop .inv .2) (is-not-finite _ _ _ _ f)))
@@ -89,10 +96,12 @@ first-not-finite-spec =
     μ-rows
     rows-holds
     loop-holds
+    add-entry
+    add-entry-2
     entry-requires
     is-finite-requires
-    add-t10
-    add-t11
+    add-t12
+    add-t13
     add-j
     loop-less
     loop-again

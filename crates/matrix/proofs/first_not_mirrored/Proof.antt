@@ -9,6 +9,7 @@ use Rattle.matrix.specs.Matrix.{at}
 use Rattle.matrix.specs.Entries.{first, notMirroredAt}
 use Rattle.refusal.specs.declared.Answer.the-variants.{Accepted}
 use Rattle.matrix.proofs.First.{first-none, first-more, first-found, same, is-mirrored, is-not-mirrored, not-compared}
+use Rattle.matrix.proofs.Within.{entry-in}
 use Rattle.matrix.proofs.first_not_mirrored.Statement.{statement}
 use Rattle.matrix.proofs.first_not_mirrored.Tie as tie
 
@@ -33,20 +34,32 @@ add-j c = omega arith
 loop-holds : tie.Need-loop-holds Inv-loop μ-loop Inv-rows μ-rows
 loop-holds c = let r = c .before in let a = r .before .before .args in (omega arith, omega arith, search needs, not-compared (a .n) (a .a .now) (r .rows .i))
 
+add-entry : tie.Need-add-entry Inv-loop μ-loop Inv-rows μ-rows
+add-entry c = omega arith
+
+add-entry-2 : tie.Need-add-entry-2 Inv-loop μ-loop Inv-rows μ-rows
+add-entry-2 c = omega arith
+
 entry-requires : tie.Need-entry-requires Inv-loop μ-loop Inv-rows μ-rows
-entry-requires c κs = omega arith
+entry-requires c κs = search needs
+
+add-entry-3 : tie.Need-add-entry-3 Inv-loop μ-loop Inv-rows μ-rows
+add-entry-3 c = omega arith
+
+add-entry-4 : tie.Need-add-entry-4 Inv-loop μ-loop Inv-rows μ-rows
+add-entry-4 c = omega arith
 
 entry-requires-2 : tie.Need-entry-requires-2 Inv-loop μ-loop Inv-rows μ-rows
-entry-requires-2 c κs = omega arith
+entry-requires-2 c κs = search needs
 
 same-bits-requires : tie.Need-same-bits-requires Inv-loop μ-loop Inv-rows μ-rows
 same-bits-requires c κs = search needs
 
-add-t11 : tie.Need-add-t11 Inv-loop μ-loop Inv-rows μ-rows
-add-t11 c = omega arith
+add-t15 : tie.Need-add-t15 Inv-loop μ-loop Inv-rows μ-rows
+add-t15 c = omega arith
 
-add-t12 : tie.Need-add-t12 Inv-loop μ-loop Inv-rows μ-rows
-add-t12 c = omega arith
+add-t16 : tie.Need-add-t16 Inv-loop μ-loop Inv-rows μ-rows
+add-t16 c = omega arith
 
 add-j-2 : tie.Need-add-j-2 Inv-loop μ-loop Inv-rows μ-rows
 add-j-2 c = omega arith
@@ -57,8 +70,8 @@ loop-less c = omega arith
 loop-again : tie.Need-loop-again Inv-loop μ-loop Inv-rows μ-rows
 loop-again c =
     let k = c .before .before .before .before .before in
-    let e = c .before .before .before .entry .ensures in
-    let d = c .before .before .entry2 .ensures in
+    let e = c .before .before .before .entry .ensures ∙ entry-in _ _ _ _ (k .before .before .before .before .pre) (omega arith) (omega arith) in
+    let d = c .before .before .entry2 .ensures ∙ entry-in _ _ _ _ (k .before .before .before .before .pre) (omega arith) (omega arith) in
     let f = same (sym e) (sym d) ∙ sym (c .before .same-bits .ensures) ∙ not-false _ (c .if1 .left) in
     (omega arith, omega arith, search needs, first-more _ _ (k .loop .inv .3) (is-mirrored _ _ _ _ (omega arith) f))
 
@@ -80,8 +93,8 @@ returns-2 : tie.Need-returns-2 Inv-loop μ-loop Inv-rows μ-rows
 returns-2 c =
     let k = c .before .before .before .before .before in
     let r = k .before .before in
-    let e = c .before .before .before .entry .ensures in
-    let d = c .before .before .entry2 .ensures in
+    let e = c .before .before .before .entry .ensures ∙ entry-in _ _ _ _ (k .before .before .before .before .pre) (omega arith) (omega arith) in
+    let d = c .before .before .entry2 .ensures ∙ entry-in _ _ _ _ (k .before .before .before .before .pre) (omega arith) (omega arith) in
     let f = same (sym e) (sym d) ∙ sym (c .before .same-bits .ensures) ∙ not-true _ (c .if1 .taken) in
     sym (first-found _ _ _ _ _ (k .before .rows-test .taken) (r .rows .inv .2)
     (first-found _ _ _ _ _ (c .before .before .before .before .loop-test .taken) (k .loop .inv .3) (is-not-mirrored _ _ _ _ (omega arith) f)))
@@ -97,11 +110,15 @@ first-not-mirrored-spec =
     rows-holds
     add-j
     loop-holds
+    add-entry
+    add-entry-2
     entry-requires
+    add-entry-3
+    add-entry-4
     entry-requires-2
     same-bits-requires
-    add-t11
-    add-t12
+    add-t15
+    add-t16
     add-j-2
     loop-less
     loop-again

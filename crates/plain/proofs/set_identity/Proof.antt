@@ -5,6 +5,7 @@ use borrow.Author.Needs.{needs}
 use lib.Ieee.{nan}
 use lib.ListN.{length}
 use Rattle.lists.proofs.Filled.{Filled, filled-none, filled-next}
+use Rattle.matrix.proofs.Flat.{row-lt, column-lt}
 use Rattle.plain.specs.State.{identity}
 use Rattle.plain.proofs.Starts.{identity-filled}
 use Rattle.plain.proofs.set_identity.Statement.{statement}
@@ -20,14 +21,20 @@ abbrev μ-loop : tie.MeasureT-loop
 loop-holds : tie.Need-loop-holds Inv-loop μ-loop
 loop-holds c = (omega arith, omega arith, omega arith, filled-none _ (omega arith))
 
-div-identity-entry : tie.Need-div-identity-entry Inv-loop μ-loop
-div-identity-entry c = omega arith
+div-identity : tie.Need-div-identity Inv-loop μ-loop
+div-identity c = omega arith
 
-rem-identity-entry : tie.Need-rem-identity-entry Inv-loop μ-loop
-rem-identity-entry c = omega arith
+add-identity : tie.Need-add-identity Inv-loop μ-loop
+add-identity c = omega (arith, row-lt (c .before .before .before .args .n) (c .before .loop .k) (omega arith))
 
-identity-entry-requires : tie.Need-identity-entry-requires Inv-loop μ-loop
-identity-entry-requires c κs = search needs
+rem-identity : tie.Need-rem-identity Inv-loop μ-loop
+rem-identity c = omega arith
+
+add-identity-2 : tie.Need-add-identity-2 Inv-loop μ-loop
+add-identity-2 c = omega (arith, column-lt (c .before .before .before .args .n) (c .before .loop .k) (omega arith))
+
+identity-requires : tie.Need-identity-requires Inv-loop μ-loop
+identity-requires c κs = search needs
 
 mul-a : tie.Need-mul-a Inv-loop μ-loop
 mul-a c = omega arith
@@ -44,7 +51,7 @@ loop-less c = omega arith
 loop-again : tie.Need-loop-again Inv-loop μ-loop
 loop-again c =
     let k = c .before .before .loop in
-    (omega arith, omega arith, omega arith, filled-next _ _ _ (k .inv .3) (omega arith) (c .identity-entry .ensures))
+    (omega arith, omega arith, omega arith, filled-next _ _ _ (k .inv .3) (omega arith) (c .identity .ensures))
 
 same-length : tie.Need-same-length Inv-loop μ-loop
 same-length c = omega arith
@@ -59,9 +66,11 @@ set-identity-spec =
     Inv-loop
     μ-loop
     loop-holds
-    div-identity-entry
-    rem-identity-entry
-    identity-entry-requires
+    div-identity
+    add-identity
+    rem-identity
+    add-identity-2
+    identity-requires
     mul-a
     slice-write-a
     add-k

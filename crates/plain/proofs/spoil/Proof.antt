@@ -1,4 +1,5 @@
 use Rattle.plain.proofs.Endings.{spoiled-outcome}
+use Rattle.plain.proofs.Starts.{cleared}
 use borrow.Author.Needs.{needs}
 use Rattle.plain.proofs.spoil.Statement.{statement}
 use Rattle.plain.proofs.spoil.Tie as tie
@@ -18,7 +19,8 @@ same-length-2 c = search needs
 returns : tie.Need-returns
 returns c =
     let s = c .before .before in
-    spoiled-outcome _ (s .before .before .before .before .clear .ensures) (s .clear2 .ensures)
+    let p = s .before .before .before .before .before .before .before .before .pre in
+    spoiled-outcome _ (cleared _ (p .0) (s .before .before .before .before .clear .ensures)) (cleared _ (p .1) (s .clear2 .ensures))
 
 pub spoil-spec : {M : Type 1} → statement M
 spoil-spec = tie.close (tie.spec clear-requires clear-requires-2 same-length same-length-2 returns)

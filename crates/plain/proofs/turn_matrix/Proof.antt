@@ -1,25 +1,20 @@
+use mathlib.Core.Path.{_∙_}
 use native.Mathlib.Omega.{arith}
 use borrow.Author.Needs.{needs}
 use Rattle.rotation.specs.declared.Parameters.the-variants.{Turn}
-use Rattle.matrix.proofs.Within.{are-two, two-as}
+use Rattle.matrix.proofs.Within.{are-two, two-as, pair-entries}
 use Rattle.plain.proofs.Turning.{diagonal-at, turn-made}
 use Rattle.plain.proofs.turn_matrix.Statement.{statement}
 use Rattle.plain.proofs.turn_matrix.Tie as tie
 
 entry-requires : tie.Need-entry-requires
-entry-requires c κs =
-    let t = are-two _ _ _ _ (c .before .before .pre) in
-    (t .long, t .first-above, t .first-within, t .first-above, t .first-within)
+entry-requires c κs = search needs
 
 entry-requires-2 : tie.Need-entry-requires-2
-entry-requires-2 c κs =
-    let t = are-two _ _ _ _ (c .before .before .before .before .pre) in
-    (t .long, t .second-above, t .second-within, t .second-above, t .second-within)
+entry-requires-2 c κs = search needs
 
 entry-requires-3 : tie.Need-entry-requires-3
-entry-requires-3 c κs =
-    let t = are-two _ _ _ _ (c .before .before .before .before .before .before .pre) in
-    (t .long, t .first-above, t .first-within, t .second-above, t .second-within)
+entry-requires-3 c κs = search needs
 
 diagonal-requires : tie.Need-diagonal-requires
 diagonal-requires c κs = search needs
@@ -56,8 +51,9 @@ returns c =
     let d = s₁ .before .before in
     let e = d .before in
     let start = e .before .before .before .before .before .before .before in
+    let z = pair-entries _ _ _ _ (start .pre) in
     turn-made _ _ _ _ (start .args .a .now) _ _ _ _ _ _ (start .pre) (s₁ .turn-rows .ensures) (s₂ .turn-columns .ensures)
-    (diagonal-at _ _ _ _ (e .before .before .before .before .entry .ensures) (e .before .before .entry2 .ensures) (e .entry3 .ensures) (Turn (start .args .t) (start .args .c) (start .args .s)) (d .diagonal .ensures))
+    (diagonal-at _ _ _ _ (e .before .before .before .before .entry .ensures ∙ z .0) (e .before .before .entry2 .ensures ∙ z .1) (e .entry3 .ensures ∙ z .2) (Turn (start .args .t) (start .args .c) (start .args .s)) (d .diagonal .ensures))
     (s₃ .set-entry .ensures) (s₄ .set-entry2 .ensures) (s₅ .clear-pair .ensures)
 
 pub turn-matrix-spec : {M : Type 1} → statement M

@@ -11,7 +11,7 @@ use Rattle.plain_bench.proofs.bench_plain_run.Statement.{statement}
 use Rattle.plain_bench.proofs.bench_plain_run.Tie as tie
 
 -- k is the number of the answer b, and a run that leaves l and e has answered it.
-answers : {k : ℕ} {a b : Answer} {l e : List Float} (o : Outcome) → k ≡ numberTold (toldAnswer b) → a ≡ b → outcome (toldAnswer a) l e ≡ o → numbered k l e ≡ numberedOf o
+answers : {k : ℕ} {a b : Answer} {l e : List Float} (o : Outcome Unit) → k ≡ numberTold (toldAnswer b) → a ≡ b → outcome (toldAnswer a) l e ≡ o → numbered k l e ≡ numberedOf o
 answers {l = l} {e = e} o k-is a-is ran = ap (λ (m : ℕ). numbered m l e) (k-is ∙ ap (λ (x : Answer). numberTold (toldAnswer x)) (sym a-is)) ∙ ap numberedOf ran
 
 run-requires : tie.Need-run-requires

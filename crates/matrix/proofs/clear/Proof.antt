@@ -1,22 +1,21 @@
-use Prim.Native.Nat.{_-_, _*_, _≤_}
+use Prim.Native.Nat.{_-_, _≤_}
 use native.Mathlib.Omega.{arith}
 use mathlib.Core.Path.{_≡_, refl}
 use lib.Ieee.{nan}
 use lib.ListN.{length}
 use Rattle.float64.specs.Values.{plusZero}
-use Rattle.lists.proofs.Filled.{Filled, filled-none, filled-next}
-use Rattle.plain.proofs.Starts.{zeros-filled}
-use Rattle.plain.proofs.clear.Statement.{statement}
-use Rattle.plain.proofs.clear.Tie as tie
+use Rattle.lists.proofs.Filled.{Filled, filled-none, filled-next, filled-all}
+use Rattle.matrix.proofs.clear.Statement.{statement}
+use Rattle.matrix.proofs.clear.Tie as tie
 
 abbrev Inv-loop : tie.InvT-loop
-Inv-loop n a₀ k₀ k-end a k = (length a₀ ≡ n * n) × (k ≤ n * n) × Filled nan (λ i. plusZero) (n * n) k a
+Inv-loop a₀ k₀ k-end a k = (k ≤ length a₀) × Filled nan (λ i. plusZero) (length a₀) k a
 
 abbrev μ-loop : tie.MeasureT-loop
-μ-loop n a₀ k₀ k-end a k = length a₀ - k
+μ-loop a₀ k₀ k-end a k = length a₀ - k
 
 loop-holds : tie.Need-loop-holds Inv-loop μ-loop
-loop-holds c = (omega arith, omega arith, filled-none _ (omega arith))
+loop-holds c = (omega arith, filled-none _ refl)
 
 mul-a : tie.Need-mul-a Inv-loop μ-loop
 mul-a c = omega arith
@@ -31,13 +30,13 @@ loop-less : tie.Need-loop-less Inv-loop μ-loop
 loop-less c = omega arith
 
 loop-again : tie.Need-loop-again Inv-loop μ-loop
-loop-again c = let k = c .before .loop in (omega arith, omega arith, filled-next _ _ _ (k .inv .2) (omega arith) refl)
+loop-again c = let k = c .before .loop in (omega arith, filled-next _ _ _ (k .inv .1) (omega arith) refl)
 
 same-length : tie.Need-same-length Inv-loop μ-loop
 same-length c = omega arith
 
 returns : tie.Need-returns Inv-loop μ-loop
-returns c = zeros-filled _ _ _ (c .before .loop .inv .2) (omega arith)
+returns c = filled-all _ _ (c .before .loop .inv .1) (omega arith)
 
 pub clear-spec : {M : Type 1} → statement M
 clear-spec =

@@ -1,6 +1,6 @@
 use Rattle.tile.specs.Lines.{cornerOf}
-use Rattle.tile.proofs.lines.corner.Statement.{statement}
-use Rattle.tile.proofs.lines.corner.Tie as tie
+use Rattle.tile.proofs.Quad.corner.Statement.{statement}
+use Rattle.tile.proofs.Quad.corner.Tie as tie
 
 returns : tie.Need-returns
 unfolding cornerOf
