@@ -1,6 +1,10 @@
 pub mod Grid
+pub mod Starting
+pub mod Results
+pub mod Running
 pub mod Nearby
 pub mod Made
-pub mod Ending
+pub mod Answers
 pub mod Handed
 pub mod Neighbours
+pub mod Agreement

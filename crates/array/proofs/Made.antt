@@ -18,7 +18,7 @@ use Rattle.ordering.specs.Registers.{most}
 use Rattle.tile.specs.declared.Part.{Part}
 use Rattle.tile.specs.declared.Tile.{Tile}
 use Rattle.tile.specs.Tiles.{blockOf, theTile, operations, broughtTo}
-use Rattle.array.specs.declared.Near.{Near}
+use Rattle.array.specs.declared.wiring.Near.{Near}
 use Rattle.array.specs.Arrays.{noTile, tileAt, partOf, tileOf, theArray, downOf, towardOf, nearOf, tilesAfter}
 use Rattle.array.proofs.Grid.{Upto, upto-end}
 

@@ -7,7 +7,7 @@ use borrow.Author.Tests.{eq-eqb, ne-eqb, lt-ltb, le-ltb, ltb-true, eqb-false}
 use lib.Dec.{eqb, ltb}
 use Rattle.systolic.specs.Tiles as theory
 use Rattle.ordering.specs.Registers.{most}
-use Rattle.array.specs.declared.Near.{Near}
+use Rattle.array.specs.declared.wiring.Near.{Near}
 use Rattle.array.specs.Arrays.{downOf, towardOf, nearOf, Inside}
 
 -- ---- the tests of the code

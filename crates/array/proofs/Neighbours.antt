@@ -17,7 +17,7 @@ use Rattle.plain.specs.Run.{stepsOf}
 use Rattle.tile.specs.declared.Tile.{Tile}
 use Rattle.tile.specs.Tiles.{theTile, operations}
 use Rattle.ordering.proofs.Orders.{order-half}
-use Rattle.array.proofs.Ending.{made-means}
+use Rattle.array.proofs.Answers.{made-means}
 use Rattle.array.specs.declared.Array.{Array}
 use Rattle.array.specs.declared.Ticked.{Ticked}
 use Rattle.array.specs.Arrays.{noTile, tileAt, tileOf, theArray, tilesAfter, Tick, made, stopped, progressOf, arrayOf, Ticks}

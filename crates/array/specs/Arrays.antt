@@ -24,7 +24,7 @@ use Rattle.array.specs.declared.Array.{Array}
 use Rattle.array.specs.declared.Progress.{Progress}
 use Rattle.array.specs.declared.Progress.the-variants.{Made, Stopped, Refused}
 use Rattle.array.specs.declared.Ticked.{Ticked}
-use Rattle.array.specs.declared.Near.{Near}
+use Rattle.array.specs.declared.wiring.Near.{Near}
 
 -- What stands where there is no tile.
 unfoldable pub noQuad : Quad

@@ -1,10 +1,17 @@
 // The array of tiles (document 01, "The array").
 ghost use mathlib.Core.Path.{_≡_};
-ghost use Prim.Native.Nat.{_-_, _<_, _≤_};
-ghost use Rattle.ordering.specs.Registers.{most};
-ghost use Rattle.array.specs.Arrays.{toldProgress, progressOf, nearOf, Inside, downOf, towardOf, Ticks};
+ghost use Rattle.refusal.specs.Refusal.{given, told};
+ghost use Rattle.plain.specs.Run.{beforeRun, outcome};
+ghost use lib.ListN.{length};
+ghost use Rattle.array.specs.Arrays.{toldProgress, progressOf, ticksOf, Ticks};
+ghost use Rattle.array.specs.Runs.{startArray, noArray, Starts, ticked, handedOver, toldCompletion, wholeOf};
+use refusal::Answer;
 use refusal::Refusal;
 use tile::Tile;
+
+mod beginning;
+mod ending;
+mod wiring;
 
 // The order, the sweeps, the number of the next tick and the tiles: that in row i and column j, from 0, is at 16 i + j.
 pub struct Array {
@@ -12,6 +19,12 @@ pub struct Array {
     pub sweeps: usize,
     pub tick: usize,
     pub tiles: [Tile; 256],
+}
+
+// What a start answers, and the array beside it.
+pub struct Started {
+    pub answer: Answer,
+    pub array: Array,
 }
 
 pub enum Progress {
@@ -26,17 +39,93 @@ pub struct Ticked {
     pub array: Array,
 }
 
-// Where the tiles stand whose lines come in by each corner, along the row and along the column.
-struct Near {
-    alpha: usize,
-    beta: usize,
-    gamma: usize,
-    delta: usize,
-    row: usize,
-    column: usize,
+// What a whole run answers: the number of ticks that it made, or a refusal.
+pub enum Completion {
+    Completed(usize),
+    Refused(Refusal),
+}
+
+// Runs a number of sweeps on a matrix of order n by the array, and leaves the last matrix and the eigenvectors in the two results.
+pub fn run(
+    n: usize,
+    sweeps: usize,
+    matrix: &[f64],
+    result: &mut [f64],
+    vectors: &mut [f64],
+) -> Completion
+    ensures { λ r. ⌜ outcome (toldCompletion r) (now (result .exit)) (now (vectors .exit)) ≡ wholeOf n sweeps (now (matrix .entry)) (now (result .entry)) (now (vectors .entry)) ⌝ }
+{
+    match plain::verdict(n, sweeps, matrix, result.len(), vectors.len()) {
+        Answer::Accepted => run_accepted(n, sweeps, matrix, result, vectors),
+        Answer::Refused(refused) => Completion::Refused(refused),
+    }
+}
+
+// A run that is not refused before it.
+fn run_accepted(
+    n: usize,
+    sweeps: usize,
+    matrix: &[f64],
+    result: &mut [f64],
+    vectors: &mut [f64],
+) -> Completion
+    requires { ⌜ beforeRun n sweeps (now matrix) (length (now result)) (length (now vectors)) ≡ given tt ⌝ }
+    ensures { λ r. ⌜ outcome (toldCompletion r) (now (result .exit)) (now (vectors .exit)) ≡ handedOver (ticked (ticksOf n sweeps) (startArray n sweeps (now (matrix .entry)))) ⌝ }
+{
+    let mut array = Array::of_matrix(n, sweeps, matrix);
+    for _ in 0..3 * (sweeps * (n - 1)) + n / 2 {
+        let ticked = array.tick();
+        let next = ticked.array;
+        array = next;
+    }
+    ending::hand_over(array, result, vectors)
 }
 
 impl Array {
+    // The array before its first tick. A refused start gives zeros only.
+    pub fn start(n: usize, sweeps: usize, matrix: &[f64]) -> Started
+        ensures { λ r. ⌜ Starts n sweeps (now (matrix .entry)) r ⌝ }
+    {
+        match plain::verdict(n, sweeps, matrix, matrix.len(), matrix.len()) {
+            Answer::Accepted => Started {
+                answer: Answer::Accepted,
+                array: Array::of_matrix(n, sweeps, matrix),
+            },
+            Answer::Refused(refused) => Started {
+                answer: Answer::Refused(refused),
+                array: Array::none(),
+            },
+        }
+    }
+
+    // Cells from a matrix of order n and from the identity, lines at +0.
+    fn of_matrix(n: usize, sweeps: usize, matrix: &[f64]) -> Array
+        ensures { λ r. ⌜ r ≡ startArray n sweeps (now (matrix .entry)) ⌝ }
+    {
+        let mut tiles = [beginning::zero_tile(); 256];
+        for k in 0..256 {
+            tiles[k] = beginning::tile_at(n, k / 16, k % 16, matrix);
+        }
+        Array {
+            n: n,
+            sweeps: sweeps,
+            tick: 0,
+            tiles: tiles,
+        }
+    }
+
+    // Zeros only.
+    fn none() -> Array
+        ensures { λ r. ⌜ r ≡ noArray ⌝ }
+    {
+        Array {
+            n: 0,
+            sweeps: 0,
+            tick: 0,
+            tiles: [beginning::zero_tile(); 256],
+        }
+    }
+
     pub fn tick(self) -> Ticked
         ensures { λ r. ⌜ Ticks self r ⌝ }
     {
@@ -64,7 +153,7 @@ impl Array {
         let mut new = self;
         for i in 0..processors {
             for j in 0..processors {
-                let from = sources(last, i, j);
+                let from = wiring::sources(last, i, j);
                 let at_alpha = from.alpha;
                 let at_beta = from.beta;
                 let at_gamma = from.gamma;
@@ -118,57 +207,4 @@ fn answer_to(n: usize, sweeps: usize, tick: usize) -> Progress
         return Progress::Made;
     }
     Progress::Stopped
-}
-
-fn sources(last: usize, i: usize, j: usize) -> Near
-    requires { ⌜ (i ≤ last) × (j ≤ last) × (last < most) ⌝ }
-    ensures { λ r. ⌜ (r ≡ nearOf last i j) × Inside r ⌝ }
-{
-    let above = up(i);
-    let before = up(j);
-    let below = down(last, i);
-    let beyond = down(last, j);
-    Near {
-        alpha: above * 16 + before,
-        beta: above * 16 + beyond,
-        gamma: below * 16 + before,
-        delta: below * 16 + beyond,
-        row: i * 16 + toward(i, j),
-        column: toward(j, i) * 16 + j,
-    }
-}
-
-// The row or column before i, and 0 before 0.
-fn up(i: usize) -> usize
-    ensures { λ r. ⌜ r ≡ i - 1 ⌝ }
-{
-    if i == 0 {
-        return 0;
-    }
-    i - 1
-}
-
-// The row or column after i, and the last after itself.
-fn down(last: usize, i: usize) -> usize
-    requires { ⌜ i ≤ last ⌝ }
-    ensures { λ r. ⌜ r ≡ downOf last i ⌝ }
-{
-    if i == last {
-        return last;
-    }
-    i + 1
-}
-
-// One nearer to i than j, and j itself where it is i.
-fn toward(i: usize, j: usize) -> usize
-    requires { ⌜ (i < most) × (j < most) ⌝ }
-    ensures { λ r. ⌜ r ≡ towardOf i j ⌝ }
-{
-    if i < j {
-        return j - 1;
-    }
-    if j < i {
-        return j + 1;
-    }
-    j
 }

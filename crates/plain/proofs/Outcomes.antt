@@ -114,7 +114,7 @@ module _ (n sweeps : ℕ) (l : List Float) (fitting : (k : ℕ) → T (fits bina
   unfolding stateOf startOf
   start-alike e z = record { matrices = λ r c hr hc. refl; eigenvectors = λ r c hr hc. ap (λ (e : List Float). at n e r c) z ∙ read-again n identity r c hr hc }
 
-  start-finite : FiniteState n (startOf n l)
+  pub start-finite : FiniteState n (startOf n l)
   unfolding startOf
   start-finite = record { finite-matrix = accepted-finite n l fitting (b .entries); finite-vectors = identity-finite n }
 

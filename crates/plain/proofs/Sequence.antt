@@ -119,7 +119,8 @@ module _ (n : ℕ) (order : noOrder n ≡ false) (X : State) where
       ∙ pairs-cellwise k (lineAt (inOrder 1) (n / 2 - 1) k) _ _ (n / 2)
       (λ i o. (left-stands n order k i o, right-stands n order k i o, lines-differ n order k i o)) (after n k X))
 
-  fails-are : (Y : State) → failsIn rules 1 n (cellOf Y) ≡ notFinite n Y
+  -- the cells that fail are the entries that are not finite
+  pub fails-are : (Y : State) → failsIn rules 1 n (cellOf Y) ≡ notFinite n Y
   unfolding failsIn notFinite rules cellOf
   fails-are Y = refl
 

@@ -8,5 +8,6 @@ pub mod Skew
 pub mod Ticks
 pub mod Printed
 pub mod Neighbourhood
+pub mod Starts
 pub mod Steps
 pub mod Agreement

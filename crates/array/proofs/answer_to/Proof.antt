@@ -1,7 +1,7 @@
 use mathlib.Core.Path.{sym, _∙_}
 use native.Mathlib.Omega.{arith}
 use Rattle.ordering.proofs.Orders.{order-is}
-use Rattle.array.proofs.Ending.{refused-1, refused-2, is-made, is-stopped, few-steps}
+use Rattle.array.proofs.Answers.{refused-1, refused-2, is-made, is-stopped, few-steps}
 use borrow.Author.Needs.{needs}
 use Rattle.array.proofs.answer_to.Statement.{statement}
 use Rattle.array.proofs.answer_to.Tie as tie

@@ -10,7 +10,7 @@ use Rattle.array.specs.Arrays.{noQuad, noPart, noTile, tileAt, toldProgr
 use Rattle.array.proofs.Grid.{Upto, upto-start, upto-row, upto-next}
 use Rattle.array.proofs.Made.{made-at, tile-made, tiles-made}
 use Rattle.array.proofs.Handed.{stopped-stays, refused-stays, made-moves}
-use Rattle.array.proofs.Ending.{Means, made-means, few-steps}
+use Rattle.array.proofs.Answers.{Means, made-means, few-steps}
 use Rattle.array.proofs.Array.tick.Statement.{statement}
 use Rattle.array.proofs.Array.tick.Tie as tie
 

@@ -1,7 +1,7 @@
 use Rattle.array.proofs.Nearby.{toward-back, toward-on, toward-here}
 use borrow.Author.Needs.{needs}
-use Rattle.array.proofs.toward.Statement.{statement}
-use Rattle.array.proofs.toward.Tie as tie
+use Rattle.array.proofs.wiring.toward.Statement.{statement}
+use Rattle.array.proofs.wiring.toward.Tie as tie
 
 sub-result : tie.Need-sub-result
 sub-result c = search needs

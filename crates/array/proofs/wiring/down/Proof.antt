@@ -1,7 +1,7 @@
 use Rattle.array.proofs.Nearby.{down-last, down-other}
 use borrow.Author.Needs.{needs}
-use Rattle.array.proofs.down.Statement.{statement}
-use Rattle.array.proofs.down.Tie as tie
+use Rattle.array.proofs.wiring.down.Statement.{statement}
+use Rattle.array.proofs.wiring.down.Tie as tie
 
 returns : tie.Need-returns
 returns c = down-last _ _ (c .if1 .taken)

@@ -1,8 +1,8 @@
 use native.Mathlib.Omega.{arith}
 use Rattle.array.proofs.Nearby.{down-le, toward-le, near-is}
 use borrow.Author.Needs.{needs}
-use Rattle.array.proofs.sources.Statement.{statement}
-use Rattle.array.proofs.sources.Tie as tie
+use Rattle.array.proofs.wiring.sources.Statement.{statement}
+use Rattle.array.proofs.wiring.sources.Tie as tie
 
 up-requires : tie.Need-up-requires
 up-requires c κs = search needs

@@ -36,6 +36,15 @@ module _ (n sweeps t : ℕ) where
       pub few-steps : sweeps * (n - 1) ≤ mostSweeps * limit
       few-steps = let o = order-is n order .2 in let h : n - 1 ≤ limit = omega arith in mul-le-mul few h
 
+-- what is known of a run that is not refused
+pub record Bounds (n sweeps : ℕ) : Type 0 where
+  pub above : 2 ≤ n
+  pub within : n ≤ limit
+  pub steps : sweeps * (n - 1) ≤ mostSweeps * limit
+
+pub bounds : (n sweeps : ℕ) → noOrder n ≡ false → sweeps ≤ mostSweeps → Bounds n sweeps
+bounds n sweeps o few = let h = order-is n o in record { above = h .1; within = h .2; steps = few-steps n sweeps 0 o few }
+
 -- what is known where a tick is made
 pub record Means (n sweeps t : ℕ) : Type 0 where
   pub order : noOrder n ≡ false

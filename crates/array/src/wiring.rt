@@ -1,0 +1,68 @@
+// Which tiles the lines of a tile come from.
+ghost use mathlib.Core.Path.{_≡_};
+ghost use Prim.Native.Nat.{_-_, _<_, _≤_};
+ghost use Rattle.ordering.specs.Registers.{most};
+ghost use Rattle.array.specs.Arrays.{nearOf, Inside, downOf, towardOf};
+
+// Where the tiles stand whose lines come in by each corner, along the row and along the column.
+pub struct Near {
+    pub alpha: usize,
+    pub beta: usize,
+    pub gamma: usize,
+    pub delta: usize,
+    pub row: usize,
+    pub column: usize,
+}
+
+pub fn sources(last: usize, i: usize, j: usize) -> Near
+    requires { ⌜ (i ≤ last) × (j ≤ last) × (last < most) ⌝ }
+    ensures { λ r. ⌜ (r ≡ nearOf last i j) × Inside r ⌝ }
+{
+    let above = up(i);
+    let before = up(j);
+    let below = down(last, i);
+    let beyond = down(last, j);
+    Near {
+        alpha: above * 16 + before,
+        beta: above * 16 + beyond,
+        gamma: below * 16 + before,
+        delta: below * 16 + beyond,
+        row: i * 16 + toward(i, j),
+        column: toward(j, i) * 16 + j,
+    }
+}
+
+// The row or column before i, and 0 before 0.
+fn up(i: usize) -> usize
+    ensures { λ r. ⌜ r ≡ i - 1 ⌝ }
+{
+    if i == 0 {
+        return 0;
+    }
+    i - 1
+}
+
+// The row or column after i, and the last after itself.
+fn down(last: usize, i: usize) -> usize
+    requires { ⌜ i ≤ last ⌝ }
+    ensures { λ r. ⌜ r ≡ downOf last i ⌝ }
+{
+    if i == last {
+        return last;
+    }
+    i + 1
+}
+
+// One nearer to i than j, and j itself where it is i.
+fn toward(i: usize, j: usize) -> usize
+    requires { ⌜ (i < most) × (j < most) ⌝ }
+    ensures { λ r. ⌜ r ≡ towardOf i j ⌝ }
+{
+    if i < j {
+        return j - 1;
+    }
+    if j < i {
+        return j + 1;
+    }
+    j
+}
