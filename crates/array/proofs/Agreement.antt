@@ -266,7 +266,7 @@ module _ (n sweeps : ℕ) (l : List Float) (order : noOrder n ≡ false) (few : 
       go false = refl
 
 -- the start of an accepted run is finite
-start-clean : (n sweeps : ℕ) (l : List Float) (lr lv : ℕ) → ((k : ℕ) → T (fits binary64 (getD l k nan))) → Begins n sweeps l lr lv → notFinite n (startOf n l) ≡ false
+pub start-clean : (n sweeps : ℕ) (l : List Float) (lr lv : ℕ) → ((k : ℕ) → T (fits binary64 (getD l k nan))) → Begins n sweeps l lr lv → notFinite n (startOf n l) ≡ false
 start-clean n sweeps l lr lv fitting b = state-finite n (startOf n l) (start-finite n sweeps l fitting lr lv b)
 
 -- For every input: the whole run answers and leaves what the plain run does, and where it is not refused it has made 3 K + N ticks.

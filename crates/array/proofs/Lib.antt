@@ -8,3 +8,4 @@ pub mod Answers
 pub mod Handed
 pub mod Neighbours
 pub mod Agreement
+pub mod Hand
