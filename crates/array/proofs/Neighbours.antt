@@ -20,6 +20,7 @@ use Rattle.ordering.proofs.Orders.{order-half}
 use Rattle.array.proofs.Answers.{made-means}
 use Rattle.array.specs.declared.Array.{Array}
 use Rattle.array.specs.declared.Ticked.{Ticked}
+use Rattle.array.specs.Neighbours.{Agree}
 use Rattle.array.specs.Arrays.{noTile, tileAt, tileOf, theArray, tilesAfter, Tick, made, stopped, progressOf, arrayOf, Ticks}
 
 -- the tile in row i and column j after a tick
@@ -29,13 +30,6 @@ tile-after N K t l i j few hi hj =
     let r : (i * most + j) / most ≡ i = omega arith in
     let c : (i * most + j) % most ≡ j = omega arith in
     getD-tabulate (most * most) _ (i * most + j) noTile (omega arith) ∙ rw (r, c, lt-ltb i N hi, lt-ltb j N hj)
-
--- Two arrays agree in the tile in row i and column j and in the lines that lead to it. No parameter line leads to a tile on the diagonal.
-pub record Agree (N : ℕ) (x y : List Tile) (i j : ℕ) : Type 0 where
-  pub tile : tileAt x i j ≡ tileAt y i j
-  pub lines : (h g : Side) → pick (λ r c. theArray x r c .lines) (joined (N - 1) h i) (joined (N - 1) g j) ≡ pick (λ r c. theArray y r c .lines) (joined (N - 1) h i) (joined (N - 1) g j)
-  pub row : ¬ (i ≡ j) → tileAt x i (nearer i j) .row ≡ tileAt y i (nearer i j) .row
-  pub column : ¬ (i ≡ j) → tileAt x (nearer j i) j .column ≡ tileAt y (nearer j i) j .column
 
 module _ (x y : Array) (n-same : x .n ≡ y .n) (sweeps-same : x .sweeps ≡ y .sweeps) (tick-same : x .tick ≡ y .tick) (i j : ℕ) where
   alike : (N : ℕ) → Agree N (x .tiles) (y .tiles) i j → Alike (N - 1) (theArray (x .tiles)) (theArray (y .tiles)) i j

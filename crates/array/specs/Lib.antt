@@ -1,3 +1,4 @@
 pub mod Arrays
 pub mod Runs
 pub mod Hand
+pub mod Neighbours
