@@ -11,7 +11,7 @@ Before anything is written, runs of the array are held against the plain run of 
 
 A case begins with a word for its kind.
 
-0, a whole run: the words of plain_vectors. The answer has the number of ticks before the two results.
+0, a whole run: the words of plain_vectors. The answer begins with the number of ticks, unless it is refused.
 1, a run by hand: n, the sweeps, the length of the matrix, the matrix and a number of ticks. The answer is
    the refusal of the start, if it is refused, then what the last tick answered (0 made, 1 stopped,
    2 refused, 3 there was none), and of the last record n, the sweeps, the tick and the N by N tiles, row by
@@ -558,11 +558,11 @@ def record_of(array, shown):
 
 
 def whole_run_lines(case, outcome, ticks, fill):
-    """The lines of a whole run and of its answer, which is the plain run's with the ticks before the
-    results."""
+    """The lines of a whole run and of its answer, which is the plain run's with the ticks before the results
+    of a run that is not refused."""
     answer = plain.answer_of(case, fill, outcome)
-    results = case.result_size + case.vectors_size
-    answer.insert(len(answer) - results, plain.lines_of([ticks])[0])
+    if outcome.number is None:
+        answer = plain.lines_of([ticks]) + answer
     return plain.lines_of([WHOLE, *plain.head(case, fill), *case.matrix]), answer
 
 

@@ -1,5 +1,6 @@
 // Lines of text for test programs: u64 words as 16 hexadecimal digits in capital letters, read from
-// standard input and written to standard output, and decimal numbers after a word.
+// standard input and written to standard output, and decimal numbers after a word. The modules have
+// what such programs read and write in these lines: values, refusals, and the heads of runs.
 ghost use mathlib.Core.Path.{_≡_};
 ghost use Prim.Native.Nat.{_+_, _<_, _≤_};
 ghost use lib.ListN.{length, take};
@@ -7,6 +8,10 @@ ghost use Rattle.io.specs.Counts.{Counts};
 ghost use Rattle.hexio.specs.Lines.{codeOf, digitOf, lineOf, wordOf, Extended, Numbered};
 use libc::STDIN_FILENO;
 use libc::STDOUT_FILENO;
+
+pub mod refusals;
+pub mod runs;
+pub mod values;
 
 pub enum Line {
     Word(u64),

@@ -4,8 +4,8 @@
 // tools/ordering_vectors.py writes the input and the expected output.
 ghost use Prim.Native.Nat.{_^_, _<_, _≤_};
 use hexio::Line;
+use hexio::refusals;
 use ordering::Registers;
-use refusal::Answer;
 
 // A proved loop has to end, so it counts its turns down, from a number that no run uses up.
 fn main() {
@@ -26,18 +26,7 @@ fn answer_list() -> bool {
     let listed = ordering::pairs(n as usize, step as usize);
     let answer = listed.answer;
     let registers = listed.registers;
-    print_answer(answer) && print_registers(registers)
-}
-
-// Writes a refusal, and nothing for a list that is accepted.
-fn print_answer(answer: Answer) -> bool {
-    match answer {
-        Answer::Accepted => true,
-        Answer::Refused(refused) => hexio::print_number(
-            b"refused",
-            refusal::number(refused) as u64,
-        ),
-    }
+    refusals::print_answer(answer) && print_registers(registers)
 }
 
 fn print_registers(registers: Registers) -> bool {

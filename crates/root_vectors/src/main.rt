@@ -1,6 +1,8 @@
 // Reads bit patterns, one to a line, and writes the bits of the square root of each, or its refusal.
 // tools/root_vectors.py writes the input and the expected output.
 use hexio::Line;
+use hexio::refusals;
+use hexio::values;
 use root::Root;
 
 // A proved loop has to end, so it counts its turns down, from a number that no run uses up.
@@ -22,7 +24,7 @@ fn answer_line() -> bool {
 // Writes what the square root of the value with the pattern bits is.
 fn answer(bits: u64) -> bool {
     match root::sqrt(float64::from_bits(bits)) {
-        Root::Of(r) => hexio::print_word(float64::to_bits(r)),
-        Root::Refused(refused) => hexio::print_number(b"refused", refusal::number(refused) as u64),
+        Root::Of(r) => values::print_value(r),
+        Root::Refused(refused) => refusals::print_refusal(refused),
     }
 }

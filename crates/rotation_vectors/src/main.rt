@@ -2,6 +2,7 @@
 // its parameters: still, or the bits of the tangent, the cosine and the sine, one to a line.
 // tools/rotation_vectors.py writes the input and the expected output.
 use hexio::Line;
+use hexio::values;
 use libc::STDOUT_FILENO;
 use rotation::Parameters;
 
@@ -40,7 +41,5 @@ fn answer(a: f64, d: f64, b: f64) -> bool {
 }
 
 fn print_turn(t: f64, c: f64, s: f64) -> bool {
-    hexio::print_word(float64::to_bits(t))
-        && hexio::print_word(float64::to_bits(c))
-        && hexio::print_word(float64::to_bits(s))
+    values::print_value(t) && values::print_value(c) && values::print_value(s)
 }

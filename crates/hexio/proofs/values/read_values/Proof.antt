@@ -3,8 +3,8 @@ use Prim.Native.Nat.{_-_, _≤_}
 use mathlib.Core.Path.{_≡_}
 use borrow.Author.Needs.{needs}
 use lib.ListN.{length}
-use Rattle.plain_vectors.proofs.read_values.Statement.{statement}
-use Rattle.plain_vectors.proofs.read_values.Tie as tie
+use Rattle.hexio.proofs.values.read_values.Statement.{statement}
+use Rattle.hexio.proofs.values.read_values.Tie as tie
 
 abbrev Inv-loop : tie.InvT-loop
 Inv-loop a₀ k₀ k-end a k = (k ≤ length a₀) × (length a ≡ length a₀)

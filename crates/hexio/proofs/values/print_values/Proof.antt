@@ -2,8 +2,8 @@
 use Prim.Native.Nat.{_-_, _≤_}
 use borrow.Author.Needs.{needs}
 use lib.ListN.{length}
-use Rattle.plain_vectors.proofs.print_values.Statement.{statement}
-use Rattle.plain_vectors.proofs.print_values.Tie as tie
+use Rattle.hexio.proofs.values.print_values.Statement.{statement}
+use Rattle.hexio.proofs.values.print_values.Tie as tie
 
 abbrev Inv-loop : tie.InvT-loop
 Inv-loop a k₀ k-end k = k ≤ length a
@@ -14,17 +14,14 @@ abbrev μ-loop : tie.MeasureT-loop
 loop-holds : tie.Need-loop-holds Inv-loop μ-loop
 loop-holds c = search needs
 
-mul-to-bits : tie.Need-mul-to-bits Inv-loop μ-loop
-mul-to-bits c = search needs
+mul-print-value : tie.Need-mul-print-value Inv-loop μ-loop
+mul-print-value c = search needs
 
-shared-slice-read-to-bits : tie.Need-shared-slice-read-to-bits Inv-loop μ-loop
-shared-slice-read-to-bits c = search needs
+shared-slice-read-print-value : tie.Need-shared-slice-read-print-value Inv-loop μ-loop
+shared-slice-read-print-value c = search needs
 
-to-bits-requires : tie.Need-to-bits-requires Inv-loop μ-loop
-to-bits-requires c κs = search needs
-
-print-word-requires : tie.Need-print-word-requires Inv-loop μ-loop
-print-word-requires c κs = search needs
+print-value-requires : tie.Need-print-value-requires Inv-loop μ-loop
+print-value-requires c κs = search needs
 
 returns : tie.Need-returns Inv-loop μ-loop
 returns c = search needs
@@ -48,10 +45,9 @@ print-values-spec =
     Inv-loop
     μ-loop
     loop-holds
-    mul-to-bits
-    shared-slice-read-to-bits
-    to-bits-requires
-    print-word-requires
+    mul-print-value
+    shared-slice-read-print-value
+    print-value-requires
     returns
     add-k
     loop-less

@@ -1,0 +1,30 @@
+// Reads cases of the array, one word to a line, and writes what comes of each. A case begins with the
+// number of its kind: 0 is a whole run, 1 a run by hand and 2 a tick of a wild record.
+// tools/array_vectors.py writes the input and the expected output.
+use hexio::Line;
+
+mod by_hand;
+mod record;
+mod whole;
+mod wild;
+
+// A proved loop has to end, so it counts its turns down, from a number that no run uses up.
+fn main() {
+    let mut turns = u64::MAX;
+    while turns > 0 && answer_case() {
+        turns -= 1;
+    }
+}
+
+// Answers one case, and says whether there may be another.
+fn answer_case() -> bool {
+    let Line::Word(kind) = hexio::read_word() else {
+        return false;
+    };
+    match kind {
+        0 => whole::answer_run(),
+        1 => by_hand::answer_run(),
+        2 => wild::answer_tick(),
+        _ => false,
+    }
+}

@@ -1,0 +1,27 @@
+// Values as words, by their bits: a NaN is written as 7FF8000000000000, and every pattern of a NaN is read as one.
+use crate::Line;
+
+// Reads the values of a, and says whether they were all there.
+pub fn read_values(a: &mut [f64]) -> bool {
+    for k in 0..a.len() {
+        let Line::Word(word) = crate::read_word() else {
+            return false;
+        };
+        a[k] = float64::from_bits(word);
+    }
+    true
+}
+
+// Writes the values of a, one to a line, and says whether they were all written.
+pub fn print_values(a: &[f64]) -> bool {
+    for k in 0..a.len() {
+        if !print_value(a[k]) {
+            return false;
+        }
+    }
+    true
+}
+
+pub fn print_value(x: f64) -> bool {
+    crate::print_word(float64::to_bits(x))
+}
