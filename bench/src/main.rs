@@ -1,5 +1,7 @@
 //! Calls of the proved crates against Rust's: the bits on random inputs, and the time as ratios in one
 //! run. `bench/run` builds the libraries and starts this program.
+mod arrays;
+mod lent;
 mod plain;
 mod random;
 mod roots;

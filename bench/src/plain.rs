@@ -13,10 +13,10 @@ type Pairs = [(usize, usize); 16];
 
 /// Tangent, cosine and sine of a turn.
 #[derive(Clone, Copy)]
-struct Turn {
-    t: f64,
-    c: f64,
-    s: f64,
+pub struct Turn {
+    pub t: f64,
+    pub c: f64,
+    pub s: f64,
 }
 
 /// Runs the sweeps. A refusal is the number of document 01's table.
@@ -49,7 +49,7 @@ pub fn run(
     Ok(())
 }
 
-fn test_arguments(
+pub fn test_arguments(
     n: usize,
     sweeps: usize,
     matrix: &[f64],
@@ -97,13 +97,17 @@ fn moved(old: Pairs, last: usize) -> Pairs {
 }
 
 /// The turn of a pair, or none where it is still.
-fn parameters(a: f64, d: f64, b: f64) -> Option<Turn> {
+pub fn parameters(a: f64, d: f64, b: f64) -> Option<Turn> {
     if b == 0.0 {
         return None;
     }
     let xi = (d - a) / (2.0 * b);
     let sign = if xi < 0.0 { -1.0 } else { 1.0 };
-    let t = sign / (xi.abs() + (1.0 + xi * xi).sqrt());
+    of_tangent(sign / (xi.abs() + (1.0 + xi * xi).sqrt()))
+}
+
+/// The turn with the tangent t, or none where it is still.
+pub fn of_tangent(t: f64) -> Option<Turn> {
     if t == 0.0 {
         return None;
     }
@@ -112,7 +116,7 @@ fn parameters(a: f64, d: f64, b: f64) -> Option<Turn> {
 }
 
 impl Turn {
-    fn of(self, x: f64, y: f64) -> (f64, f64) {
+    pub fn of(self, x: f64, y: f64) -> (f64, f64) {
         (self.c * x - self.s * y, self.s * x + self.c * y)
     }
 }

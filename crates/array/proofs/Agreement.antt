@@ -39,23 +39,17 @@ use Rattle.plain.proofs.Sequence.{plain-sequential, plain-fails, fails-are}
 use Rattle.plain.proofs.Outcomes.{Begins, begins, start-finite}
 use Rattle.tile.specs.declared.Part.{Part}
 use Rattle.tile.specs.declared.Tile.{Tile}
-use Rattle.tile.specs.Lines.{cornerOf}
+use Rattle.tile.proofs.Joining.{sideBy, corner-cell}
 use Rattle.tile.specs.Tiles.{blockOf, theTile, operations}
 use Rattle.array.specs.declared.Array.{Array}
 use Rattle.array.specs.Arrays.{noTile, tileAt, partOf, tileOf, theArray, tilesAfter, ticksOf, progressOf}
-use Rattle.array.specs.Runs.{zeroPart, tileWith, quadAt, partAt, startTile, startArray, nextArray, ticked, joinedAt, matrixIn, vectorsIn, someMarked, handedOver, wholeOf, tellingIn, telling}
-use Rattle.array.proofs.Answers.{is-made, is-stopped}
+use Rattle.array.specs.Runs.{zeroPart, tileWith, quadAt, partAt, startTile, startArray, nextArray, ticked, GoesOn, joinedAt, matrixIn, vectorsIn, someMarked, handedOver, wholeOf, tellingIn, telling}
+use Rattle.array.proofs.Answers.{is-stopped}
+use Rattle.array.proofs.Made.{the-tile-of}
+use Rattle.array.proofs.Running.{tilesFrom, ticked-made}
 use Rattle.array.proofs.Neighbours.{tile-after}
 
--- ---- the theory's tile and the code's
-the-tile-of : (x : theory.Tile Cell Float Float) → theTile (tileOf x) ≡ x
-unfolding theTile tileOf partOf blockOf
-the-tile-of x = refl
-
 -- the slot of a line
-abbrev sideBy : Bool → Side
-sideBy b = cond b right left
-
 abbrev slotOf : ℕ → Slot
 slotOf r = slot ((r - 1) / 2) (sideBy (eqb ((r - 1) % 2) 1))
 
@@ -67,30 +61,14 @@ slot-line r h = go (eqb ((r - 1) % 2) 1) refl
     go true e = let w : (r - 1) % 2 ≡ 1 = eqb-true _ _ e in unfold inOrderAt in (omega arith)
     go false e = let w : ¬ ((r - 1) % 2 ≡ 1) = eqb-false _ _ e in unfold inOrderAt in (omega arith)
 
--- the corner of a part is a cell of its block
-module _ (p : Part) where
-  corner-entry : (a b : Bool) → cornerOf a b (p .matrix) ≡ cell (sideBy a) (sideBy b) (blockOf p) .entry
-  unfolding cornerOf cell blockOf
-  corner-entry true true = refl
-  corner-entry true false = refl
-  corner-entry false true = refl
-  corner-entry false false = refl
-
-  corner-vector : (a b : Bool) → cornerOf a b (p .vectors) ≡ cell (sideBy a) (sideBy b) (blockOf p) .vector
-  unfolding cornerOf cell blockOf
-  corner-vector true true = refl
-  corner-vector true false = refl
-  corner-vector false true = refl
-  corner-vector false false = refl
-
 module _ (l : List Tile) (r c : ℕ) where
   matrix-cell : matrixIn l r c ≡ pick (λ i j. theArray l i j .cells) (slotOf r) (slotOf c) .entry
   unfolding joinedAt pick slot theArray theTile
-  matrix-cell = corner-entry _ _ _
+  matrix-cell = ap (λ (x : Cell). x .entry) (corner-cell (tileAt l ((r - 1) / 2) ((c - 1) / 2) .cells) _ _)
 
   vectors-cell : vectorsIn l r c ≡ pick (λ i j. theArray l i j .cells) (slotOf r) (slotOf c) .vector
   unfolding joinedAt pick slot theArray theTile
-  vectors-cell = corner-vector _ _ _
+  vectors-cell = ap (λ (x : Cell). x .vector) (corner-cell (tileAt l ((r - 1) / 2) ((c - 1) / 2) .cells) _ _)
 
 -- ---- a run
 module _ (n sweeps : ℕ) (l : List Float) (order : noOrder n ≡ false) (few : sweeps ≤ mostSweeps) (long : length l ≡ n * n) where
@@ -111,8 +89,11 @@ module _ (n sweeps : ℕ) (l : List Float) (order : noOrder n ≡ false) (few : 
 
   -- the tiles after t ticks
   unfoldable pub tilesBy : ℕ → List Tile
-  tilesBy zero = startArray n sweeps l .tiles
-  tilesBy (suc t) = tilesAfter N K t (tilesBy t)
+  tilesBy t = tilesFrom N K 0 t (startArray n sweeps l .tiles)
+
+  tiles-step : (t : ℕ) → tilesBy (suc t) ≡ tilesAfter N K t (tilesBy t)
+  unfolding tilesBy tilesFrom
+  tiles-step t = rw zero-add
 
   within : (i : ℕ) → i ≤ m → i < N
   within i h = let o = order-half n order .0 in omega arith
@@ -133,7 +114,7 @@ module _ (n sweeps : ℕ) (l : List Float) (order : noOrder n ≡ false) (few : 
       rw (entry-in _ _ (a .0) (b .0), entry-in _ _ (a .0) (b .1), entry-in _ _ (a .1) (b .0), entry-in _ _ (a .1) (b .1))
 
   start-tile : (i j : ℕ) → i ≤ m → j ≤ m → tileAt (tilesBy 0) i j ≡ tileWith (partAt n l i j)
-  unfolding tilesBy startArray tileAt startTile
+  unfolding tilesBy tilesFrom startArray tileAt startTile
   start-tile i j hi hj =
       let few = order-half n order .1 in
       let p = within i hi in
@@ -167,8 +148,8 @@ module _ (n sweeps : ℕ) (l : List Float) (order : noOrder n ≡ false) (few : 
   tiles-are (suc t) i j hi hj = next (tiles-are t)
     where
       ticked-tile : theArray (tilesBy (suc t)) i j ≡ tick operations m K t (theArray (tilesBy t)) i j
-      ticked-tile = unfold theArray tilesBy in
-          (ap theTile (tile-after N K t (tilesBy t) i j (order-half n order .1) (within i hi) (within j hj)) ∙ the-tile-of _)
+      ticked-tile = unfold theArray in
+          (ap (λ (l : List Tile). theTile (tileAt l i j)) (tiles-step t) ∙ ap theTile (tile-after N K t (tilesBy t) i j (order-half n order .1) (within i hi) (within j hj)) ∙ the-tile-of _)
 
       next : ((i j : ℕ) → i ≤ m → j ≤ m → theArray (tilesBy t) i j ≡ arrayAfter S m K t i j) → theArray (tilesBy (suc t)) i j ≡ arrayAfter S m K (suc t) i j
       next same =
@@ -181,12 +162,10 @@ module _ (n sweeps : ℕ) (l : List Float) (order : noOrder n ≡ false) (few : 
   recordBy t = record { n = n; sweeps = sweeps; tick = t; tiles = tilesBy t }
 
   pub ticked-is : (t : ℕ) → t ≤ ticksOf n sweeps → ticked t (startArray n sweeps l) ≡ recordBy t
-  unfolding ticked
-  ticked-is zero h = unfold recordBy tilesBy startArray in refl
-  ticked-is (suc t) h = ap nextArray (ticked-is t (omega arith)) ∙ next
+  ticked-is t h = ticked-made (startArray n sweeps l) t goes-on ∙ unfold recordBy tilesBy startArray in (rw zero-add)
     where
-      next : nextArray (recordBy t) ≡ recordBy (suc t)
-      next = unfold nextArray recordBy tilesBy in (rw (← (is-made n sweeps t order few (omega arith))) (rw add-one))
+      goes-on : GoesOn (startArray n sweeps l) t
+      goes-on = unfold startArray in (record { order = order; few = few; room = omega arith })
 
   -- a later tick changes nothing
   pub ticked-stays : (k : ℕ) → ticked (k + ticksOf n sweeps) (startArray n sweeps l) ≡ recordBy (ticksOf n sweeps)

@@ -1,14 +1,19 @@
 -- The array that a tick hands back. Assumes nothing.
-use Prim.Native.Nat.{ℕ, _+_, _/_}
-use mathlib.Core.Path.{_≡_}
+use Prim.Native.Nat.{ℕ, _≤_}
+use mathlib.Core.Path.{_≡_, refl, _∙_}
+use mathlib.Core.Bool.{false}
 use mathlib.Core.List.{List}
+use native.Mathlib.Omega.{arith}
+use lib.Ieee.{Float}
 use Rattle.refusal.specs.Refusal.{given, told}
 use Rattle.refusal.specs.declared.Refusal.{Refusal}
-use Rattle.plain.specs.Run.{stepsOf}
-use Rattle.tile.specs.declared.Tile.{Tile}
+use Rattle.ordering.specs.Pairs.{noOrder}
+use Rattle.plain.specs.Run.{mostSweeps}
 use Rattle.array.specs.declared.Array.{Array}
 use Rattle.array.specs.declared.Progress.the-variants.{Made, Stopped, Refused}
-use Rattle.array.specs.Arrays.{made, stopped, tilesAfter, progressOf, Ticks}
+use Rattle.array.specs.Arrays.{made, stopped, ticksOf, progressOf, Ticks}
+use Rattle.array.specs.Runs.{startArray, nextArray, ticked, GoesOn}
+use Rattle.array.proofs.Answers.{Means, made-means}
 
 module _ (x : Array) where
   pub stopped-stays : given stopped ≡ progressOf (x .n) (x .sweeps) (x .tick) → Ticks x (record { answer = Stopped; array = x })
@@ -17,7 +22,12 @@ module _ (x : Array) where
   pub refused-stays : (r : Refusal) → told r ≡ progressOf (x .n) (x .sweeps) (x .tick) → Ticks x (record { answer = Refused r; array = x })
   refused-stays r e = record { answers = e; hands-back = rw (← e) }
 
-  pub made-moves : {n sweeps : ℕ} {tiles : List Tile} → given made ≡ progressOf (x .n) (x .sweeps) (x .tick) → n ≡ x .n → sweeps ≡ x .sweeps
-      → tiles ≡ tilesAfter (x .n / 2) (stepsOf (x .n) (x .sweeps)) (x .tick) (x .tiles)
-      → Ticks x (record { answer = Made; array = record { n = n; sweeps = sweeps; tick = x .tick + 1; tiles = tiles } })
-  made-moves e f g h = record { answers = e; hands-back = rw (← e) (rw (f, g, h)) }
+  pub made-moves : {y : Array} → given made ≡ progressOf (x .n) (x .sweeps) (x .tick) → y ≡ ticked 1 x → Ticks x (record { answer = Made; array = y })
+  made-moves e f = record { answers = e; hands-back = f ∙ unfold ticked nextArray in refl }
+
+  pub one-more : given made ≡ progressOf (x .n) (x .sweeps) (x .tick) → GoesOn x 1
+  one-more e = let w = made-means (x .n) (x .sweeps) (x .tick) e in record { order = w .order; few = w .few; room = omega (arith, w .before-end) }
+
+-- every tick of a run is made
+pub all-made : (n sweeps : ℕ) (l : List Float) {x : Array} → noOrder n ≡ false → sweeps ≤ mostSweeps → x ≡ startArray n sweeps l → GoesOn x (ticksOf n sweeps)
+all-made n sweeps l o few e = rw e (unfold startArray in (record { order = o; few = few; room = omega arith }))

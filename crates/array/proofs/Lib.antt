@@ -1,4 +1,3 @@
-pub mod Grid
 pub mod Starting
 pub mod Results
 pub mod Running

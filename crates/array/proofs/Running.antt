@@ -1,18 +1,21 @@
 -- Starts, and ticks one after the other. Assumes nothing.
-use Prim.Native.Nat.{ℕ, zero, suc, _+_}
+use Prim.Native.Nat.{ℕ, zero, suc, _+_, _-_, _/_, _≤_}
 use mathlib.Core.Path.{_≡_, refl, sym, ap, _∙_}
 use mathlib.Core.List.{List}
 use native.Mathlib.Numerals.{add-one}
+use native.Mathlib.Omega.{arith}
 use lib.ListN.{length}
 use lib.Ieee.{Float}
 use Rattle.refusal.specs.Refusal.{Told, given, refused, told}
 use Rattle.refusal.specs.declared.Refusal.{Refusal}
 use Rattle.refusal.specs.declared.Answer.the-variants as answer
-use Rattle.plain.specs.Run.{beforeRun, Outcome, outcome}
+use Rattle.plain.specs.Run.{stepsOf, beforeRun, Outcome, outcome}
+use Rattle.tile.specs.declared.Tile.{Tile}
+use Rattle.array.proofs.Answers.{is-made}
 use Rattle.array.specs.declared.Array.{Array}
 use Rattle.array.specs.declared.Ticked.{Ticked}
-use Rattle.array.specs.Arrays.{Tick, made, stopped, ticksOf, progressOf, arrayOf, Ticks}
-use Rattle.array.specs.Runs.{startArray, noArray, startTold, Starts, nextArray, ticked, handedOver, wholeOf}
+use Rattle.array.specs.Arrays.{tilesAfter, Tick, made, stopped, ticksOf, progressOf, arrayOf, Ticks}
+use Rattle.array.specs.Runs.{startArray, noArray, startTold, Starts, nextArray, ticked, GoesOn, handedOver, wholeOf}
 
 -- ---- the start
 module _ (n sweeps : ℕ) (l : List Float) {x : Array} where
@@ -23,14 +26,6 @@ module _ (n sweeps : ℕ) (l : List Float) {x : Array} where
   starts-refused r e f = record { answers = e; hands-back = rw (← e) f }
 
 -- ---- ticks
-pub tick-next : (x : Array) (r : Ticked) → Ticks x r → r .array ≡ nextArray x
-unfolding nextArray
-tick-next x r t = t .hands-back
-
-pub ticked-next : (k : ℕ) (x : Array) {y z : Array} → y ≡ ticked k x → z ≡ nextArray y → z ≡ ticked (k + 1) x
-unfolding ticked
-ticked-next k x e f = rw add-one (f ∙ ap nextArray e)
-
 order-kept : (t : Told Tick) (x : Array) → arrayOf t x .n ≡ x .n
 order-kept (given made) x = refl
 order-kept (given stopped) x = refl
@@ -40,6 +35,44 @@ pub ticked-order : (k : ℕ) (x : Array) → ticked k x .n ≡ x .n
 unfolding ticked nextArray
 ticked-order zero x = refl
 ticked-order (suc k) x = let y = ticked k x in order-kept (progressOf (y .n) (y .sweeps) (y .tick)) y ∙ ticked-order k x
+
+-- the tiles after k ticks from tick t on
+unfoldable pub tilesFrom : ℕ → ℕ → ℕ → ℕ → List Tile → List Tile
+tilesFrom N K t zero l = l
+tilesFrom N K t (suc k) l = tilesAfter N K (t + k) (tilesFrom N K t k l)
+
+pub tiles-next : (N K t k : ℕ) (l : List Tile) {l₁ l₂ : List Tile} → t ≤ k → l₁ ≡ tilesFrom N K t (k - t) l → l₂ ≡ tilesAfter N K k l₁ → l₂ ≡ tilesFrom N K t (k + 1 - t) l
+unfolding tilesFrom
+tiles-next N K t k l h e f =
+    let a : k + 1 - t ≡ suc (k - t) = omega arith in
+    let b : t + (k - t) ≡ k = omega arith in
+    rw (a, b) (f ∙ ap (tilesAfter N K k) e)
+
+pub tiles-none : (N K t : ℕ) (l : List Tile) → l ≡ tilesFrom N K t (t - t) l
+tiles-none N K t l = let a : t - t ≡ 0 = omega arith in rw a (unfold tilesFrom in refl)
+
+module _ (x : Array) where
+  abbrev N : ℕ
+  N = x .n / 2
+
+  abbrev K : ℕ
+  K = stepsOf (x .n) (x .sweeps)
+
+  -- ticks that are all made
+  pub ticked-made : (k : ℕ) → GoesOn x k → ticked k x ≡ record { n = x .n; sweeps = x .sweeps; tick = x .tick + k; tiles = tilesFrom N K (x .tick) k (x .tiles) }
+  unfolding ticked tilesFrom
+  ticked-made zero g = let e : x .tick + 0 ≡ x .tick = omega arith in rw e
+  ticked-made (suc k) g = ap nextArray (ticked-made k (record { order = g .order; few = g .few; room = omega (arith, g .room) })) ∙ next
+    where
+      next : nextArray (record { n = x .n; sweeps = x .sweeps; tick = x .tick + k; tiles = tilesFrom N K (x .tick) k (x .tiles) })
+          ≡ record { n = x .n; sweeps = x .sweeps; tick = x .tick + suc k; tiles = tilesAfter N K (x .tick + k) (tilesFrom N K (x .tick) k (x .tiles)) }
+      next = unfold nextArray in
+          (let e : x .tick + k + 1 ≡ x .tick + suc k = omega arith in
+          rw (← (is-made (x .n) (x .sweeps) (x .tick + k) (g .order) (g .few) (omega (arith, g .room)))) (rw e))
+
+  pub after-is : (k t : ℕ) {n sweeps : ℕ} {l : List Tile} → GoesOn x k → n ≡ x .n → sweeps ≡ x .sweeps → l ≡ tilesFrom N K (x .tick) (t - x .tick) (x .tiles) → t ≡ x .tick + k
+      → _≡_ {A = Array} (record { n = n; sweeps = sweeps; tick = x .tick + k; tiles = l }) (ticked k x)
+  after-is k t g e f h z = let a : x .tick + k - x .tick ≡ k = omega arith in rw (e, f, h, z, a) (sym (ticked-made k g))
 
 -- ---- a refused run, and one that is not
 module _ (n sweeps : ℕ) (l r v : List Float) where
@@ -52,13 +85,8 @@ module _ (n sweeps : ℕ) (l r v : List Float) where
   unfolding wholeOf
   whole-accepted e f = rw (← e) f
 
-pub ticked-none : {x y : Array} → x ≡ y → x ≡ ticked 0 y
-unfolding ticked
-ticked-none e = e
-
-pub at-end : (n sweeps : ℕ) (l : List Float) {k : ℕ} {x : Array} → x ≡ ticked k (startArray n sweeps l) → k ≡ ticksOf n sweeps
-    → handedOver x ≡ handedOver (ticked (ticksOf n sweeps) (startArray n sweeps l))
-at-end n sweeps l e z = ap handedOver (e ∙ ap (λ (k : ℕ). ticked k (startArray n sweeps l)) z)
+pub run-ends : (k : ℕ) {x y z : Array} → x ≡ y → z ≡ ticked k x → z ≡ ticked k y
+run-ends k e f = f ∙ ap (ticked k) e
 
 pub start-order : (n sweeps : ℕ) (l : List Float) (k : ℕ) → ticked k (startArray n sweeps l) .n ≡ n
 start-order n sweeps l k = ticked-order k (startArray n sweeps l) ∙ unfold startArray in refl

@@ -1,5 +1,5 @@
 -- Document 01, "The array": the start, the ticks one after the other and the whole run. Definitions only.
-use Prim.Native.Nat.{ℕ, zero, suc, _+_, _-_, _*_, _/_, _%_}
+use Prim.Native.Nat.{ℕ, zero, suc, _+_, _-_, _*_, _/_, _%_, _≤_}
 use mathlib.Core.Path.{_≡_}
 use mathlib.Core.Bool.{Bool, false, cond, _&&_}
 use mathlib.Core.List.{List}
@@ -12,9 +12,10 @@ use Rattle.refusal.specs.Refusal.{Told, given, refused, told, toldAnswer}
 use Rattle.refusal.specs.declared.Refusal.the-variants.{Spoiled}
 use Rattle.systolic.specs.Slots.{any}
 use Rattle.ordering.specs.Registers.{most}
+use Rattle.ordering.specs.Pairs.{noOrder}
 use Rattle.matrix.specs.Matrix.{flat, entryOf}
 use Rattle.plain.specs.State.{identity}
-use Rattle.plain.specs.Run.{beforeRun, Outcome, outcome, zeros, unlessRefused}
+use Rattle.plain.specs.Run.{mostSweeps, beforeRun, Outcome, outcome, zeros, unlessRefused}
 use Rattle.tile.specs.declared.Quad.{Quad}
 use Rattle.tile.specs.declared.Part.{Part}
 use Rattle.tile.specs.declared.Tile.{Tile}
@@ -73,6 +74,12 @@ nextArray x = arrayOf (progressOf (x .n) (x .sweeps) (x .tick)) x
 unfoldable pub ticked : ℕ → Array → Array
 ticked zero x = x
 ticked (suc k) x = nextArray (ticked k x)
+
+-- k more ticks are all made.
+pub record GoesOn (x : Array) (k : ℕ) : Type 0 where
+  pub order : noOrder (x .n) ≡ false
+  pub few : x .sweeps ≤ mostSweeps
+  pub room : x .tick + k ≤ ticksOf (x .n) (x .sweeps)
 
 -- ---- the results
 -- The entry in row r and column c, both from 1, of the matrix whose parts are given by the tiles' rows and columns.

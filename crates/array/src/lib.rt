@@ -4,7 +4,7 @@ ghost use Rattle.refusal.specs.Refusal.{given, told};
 ghost use Rattle.plain.specs.Run.{beforeRun, outcome};
 ghost use lib.ListN.{length};
 ghost use Rattle.array.specs.Arrays.{toldProgress, progressOf, ticksOf, Ticks};
-ghost use Rattle.array.specs.Runs.{startArray, noArray, Starts, ticked, handedOver, toldCompletion, wholeOf};
+ghost use Rattle.array.specs.Runs.{startArray, noArray, Starts, GoesOn, ticked, handedOver, toldCompletion, wholeOf};
 use refusal::Answer;
 use refusal::Refusal;
 use tile::Tile;
@@ -72,13 +72,9 @@ fn run_accepted(
     requires { ⌜ beforeRun n sweeps (now matrix) (length (now result)) (length (now vectors)) ≡ given tt ⌝ }
     ensures { λ r. ⌜ outcome (toldCompletion r) (now (result .exit)) (now (vectors .exit)) ≡ handedOver (ticked (ticksOf n sweeps) (startArray n sweeps (now (matrix .entry)))) ⌝ }
 {
-    let mut array = Array::of_matrix(n, sweeps, matrix);
-    for _ in 0..3 * (sweeps * (n - 1)) + n / 2 {
-        let ticked = array.tick();
-        let next = ticked.array;
-        array = next;
-    }
-    ending::hand_over(array, result, vectors)
+    let start = Array::of_matrix(n, sweeps, matrix);
+    let end = start.after(3 * (sweeps * (n - 1)) + n / 2);
+    ending::hand_over(end, result, vectors)
 }
 
 impl Array {
@@ -147,49 +143,65 @@ impl Array {
                 };
             }
         }
+        Ticked {
+            answer: Progress::Made,
+            array: self.after(1),
+        }
+    }
+
+    // The array after `count` more ticks, which are all made. In each tick all tiles read before any writes.
+    fn after(self, count: usize) -> Array
+        requires { ⌜ GoesOn self count ⌝ }
+        ensures { λ r. ⌜ r ≡ ticked count self ⌝ }
+    {
+        let n = self.n;
         let processors = n / 2;
         let last = processors - 1;
-        let steps = sweeps * (n - 1);
-        let mut new = self;
-        for i in 0..processors {
-            for j in 0..processors {
+        let steps = self.sweeps * (n - 1);
+        let first = self.tick;
+        let mut array = self;
+        let mut rows = [0.0; 256];
+        let mut columns = [0.0; 256];
+        for tick in first..first + count {
+            for k in 0..16 * processors {
+                let i = k / 16;
+                let j = k % 16;
+                if j >= processors {
+                    continue;
+                }
                 let from = wiring::sources(last, i, j);
+                let at_row = from.row;
+                let at_column = from.column;
+                rows[k] = array.tiles[at_row].row;
+                columns[k] = array.tiles[at_column].column;
+                if !tile::reads(steps, tick, i, j) {
+                    continue;
+                }
                 let at_alpha = from.alpha;
                 let at_beta = from.beta;
                 let at_gamma = from.gamma;
                 let at_delta = from.delta;
-                let at_row = from.row;
-                let at_column = from.column;
-                let alpha = self.tiles[at_alpha];
-                let beta = self.tiles[at_beta];
-                let gamma = self.tiles[at_gamma];
-                let delta = self.tiles[at_delta];
-                let alpha_lines = alpha.lines;
-                let beta_lines = beta.lines;
-                let gamma_lines = gamma.lines;
-                let delta_lines = delta.lines;
-                let ins = tile::incoming(
-                    alpha_lines,
-                    beta_lines,
-                    gamma_lines,
-                    delta_lines,
-                    last,
-                    i,
-                    j,
-                );
-                let row = self.tiles[at_row].row;
-                let column = self.tiles[at_column].column;
-                let k = i * 16 + j;
-                let old = self.tiles[k];
-                let tile = old.after(ins, row, column, last, steps, tick, i, j);
-                new.tiles[k] = tile;
+                let alpha = array.tiles[at_alpha];
+                let beta = array.tiles[at_beta];
+                let gamma = array.tiles[at_gamma];
+                let delta = array.tiles[at_delta];
+                let tile = array.tiles[k];
+                let taken = tile.taking(alpha, beta, gamma, delta, last, i, j);
+                array.tiles[k] = taken;
+            }
+            for k in 0..16 * processors {
+                let i = k / 16;
+                let j = k % 16;
+                if j >= processors {
+                    continue;
+                }
+                let tile = array.tiles[k];
+                let new = tile.after(rows[k], columns[k], last, steps, tick, i, j);
+                array.tiles[k] = new;
             }
         }
-        new.tick = tick + 1;
-        Ticked {
-            answer: Progress::Made,
-            array: new,
-        }
+        array.tick = first + count;
+        array
     }
 }
 

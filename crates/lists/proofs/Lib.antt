@@ -1,2 +1,3 @@
 pub mod Tabulated
 pub mod Filled
+pub mod Replaced

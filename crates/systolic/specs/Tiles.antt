@@ -18,6 +18,9 @@ pub record Tile (X H W : Type 0) : Type 0 where
   pub columnLine : W
   pub mark : Bool
 
+abbrev pub withCells : {X H W : Type 0} → Block X → Tile X H W → Tile X H W
+withCells b x = record { cells = b; lines = x .lines; rowLine = x .rowLine; columnLine = x .columnLine; mark = x .mark }
+
 -- The wiring is a product of one for rows and one for columns.
 -- Which register's cells leave by the side r of processor i: at the first processor those of that side, elsewhere those of the other.
 unfoldable pub carried : ℕ → Side → Side

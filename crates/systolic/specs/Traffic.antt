@@ -20,3 +20,12 @@ rotates final = false
 -- tile (i, j) receives a parameter along its row and one along its column in tick t
 unfoldable pub receives : ℕ → ℕ → ℕ → ℕ → Bool
 receives K t i j = not (eqb i j) && rotates (actionAt K (distance i j) t)
+
+-- A tile reads its cell lines.
+abbrev pub readsCells : Action → Bool
+readsCells idle = false
+readsCells first = false
+readsCells rotate = true
+readsCells second = false
+readsCells third = false
+readsCells final = true

@@ -52,30 +52,30 @@ module _ (k i j : ℕ) (h v : Float) where
       go true = unfold onDiagonalOf operations operationsOf rules blockOf in refl
       go false = refl
 
-  module _ (p ins : Part) (r c : Float) where
-    pub worked-cells : (a : Action) → blockOf (workedOf a p ins i j h v r c .cells) ≡ newCells operations k i j a (blockOf p) (blockOf ins) h v
+  module _ (p : Part) (r c : Float) where
+    pub worked-cells : (a : Action) → blockOf (workedOf a p i j h v r c .cells) ≡ newCells operations k i j a (blockOf p) (blockOf p) h v
     unfolding newCells
     worked-cells idle = refl
     worked-cells first = rotated-cells p
-    worked-cells rotate = rotated-cells ins
+    worked-cells rotate = rotated-cells p
     worked-cells second = refl
     worked-cells third = refl
     worked-cells final = refl
 
-    pub worked-row : (a : Action) → workedOf a p ins i j h v r c .row ≡ newParameter (operations .sendsRow k i) i j a (blockOf p) (blockOf ins) h r
+    pub worked-row : (a : Action) → workedOf a p i j h v r c .row ≡ newParameter (operations .sendsRow k i) i j a (blockOf p) (blockOf p) h r
     unfolding newParameter
     worked-row idle = refl
     worked-row first = rotated-row p
-    worked-row rotate = rotated-row ins
+    worked-row rotate = rotated-row p
     worked-row second = refl
     worked-row third = refl
     worked-row final = refl
 
-    pub worked-column : (a : Action) → workedOf a p ins i j h v r c .column ≡ newParameter (operations .sendsColumn k i) i j a (blockOf p) (blockOf ins) v c
+    pub worked-column : (a : Action) → workedOf a p i j h v r c .column ≡ newParameter (operations .sendsColumn k i) i j a (blockOf p) (blockOf p) v c
     unfolding newParameter
     worked-column idle = refl
     worked-column first = rotated-column p
-    worked-column rotate = rotated-column ins
+    worked-column rotate = rotated-column p
     worked-column second = refl
     worked-column third = refl
     worked-column final = refl

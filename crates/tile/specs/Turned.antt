@@ -60,13 +60,14 @@ unfoldable pub rotatedOf : Part → ℕ → ℕ → Float → Float → Work
 rotatedOf p i j row column =
     cond (eqb i j) (onDiagonalOf p) (record { cells = offDiagonalOf p (ltb i j) row column; row = row; column = column })
 
-abbrev pub workedOf : Action → Part → Part → ℕ → ℕ → Float → Float → Float → Float → Work
-workedOf idle p ins i j row column r c = record { cells = p; row = r; column = c }
-workedOf first p ins i j row column r c = rotatedOf p i j row column
-workedOf rotate p ins i j row column r c = rotatedOf ins i j row column
-workedOf second p ins i j row column r c = record { cells = p; row = r; column = c }
-workedOf third p ins i j row column r c = record { cells = p; row = r; column = c }
-workedOf final p ins i j row column r c = record { cells = ins; row = r; column = c }
+-- p are the cells of the tile, or what its lines bring where it reads them.
+abbrev pub workedOf : Action → Part → ℕ → ℕ → Float → Float → Float → Float → Work
+workedOf idle p i j row column r c = record { cells = p; row = r; column = c }
+workedOf first p i j row column r c = rotatedOf p i j row column
+workedOf rotate p i j row column r c = rotatedOf p i j row column
+workedOf second p i j row column r c = record { cells = p; row = r; column = c }
+workedOf third p i j row column r c = record { cells = p; row = r; column = c }
+workedOf final p i j row column r c = record { cells = p; row = r; column = c }
 
 unfoldable pub quadNotFinite : Quad → Bool
 quadNotFinite q = not (finite (q .alpha)) || (not (finite (q .beta)) || (not (finite (q .gamma)) || not (finite (q .delta))))

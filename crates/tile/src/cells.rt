@@ -18,7 +18,6 @@ pub struct Work {
 pub fn worked(
     action: Action,
     cells: Part,
-    ins: Part,
     i: usize,
     j: usize,
     row: f64,
@@ -26,7 +25,7 @@ pub fn worked(
     old_row: f64,
     old_column: f64,
 ) -> Work
-    ensures { λ r. ⌜ r ≡ workedOf (theAction action) cells ins i j row column «old_row» «old_column» ⌝ }
+    ensures { λ r. ⌜ r ≡ workedOf (theAction action) cells i j row column «old_row» «old_column» ⌝ }
 {
     match action {
         Action::Idle => Work {
@@ -35,7 +34,7 @@ pub fn worked(
             column: old_column,
         },
         Action::First => rotated(cells, i, j, row, column),
-        Action::Rotate => rotated(ins, i, j, row, column),
+        Action::Rotate => rotated(cells, i, j, row, column),
         Action::Second => Work {
             cells: cells,
             row: old_row,
@@ -47,7 +46,7 @@ pub fn worked(
             column: old_column,
         },
         Action::Final => Work {
-            cells: ins,
+            cells: cells,
             row: old_row,
             column: old_column,
         },

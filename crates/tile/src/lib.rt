@@ -1,6 +1,7 @@
 // One tile of the array in one tick (document 01, "The array").
 ghost use mathlib.Core.Path.{_≡_};
-ghost use Rattle.systolic.specs.Tiles.{tickTile};
+ghost use Rattle.systolic.specs.Tiles.{distance, withCells, actionAt, tickTile};
+ghost use Rattle.systolic.specs.Traffic.{readsCells};
 ghost use Rattle.tile.specs.Lines.{cornerOf};
 ghost use Rattle.tile.specs.Tiles.{blockOf, theTile, operations, broughtTo};
 
@@ -32,19 +33,11 @@ pub struct Tile {
     pub mark: bool,
 }
 
-// What comes in by each corner of the tile in row i and column j, from the lines of the tiles that its corners are joined with.
-pub fn incoming(
-    alpha: Part,
-    beta: Part,
-    gamma: Part,
-    delta: Part,
-    last: usize,
-    i: usize,
-    j: usize,
-) -> Part
-    ensures { λ r. ⌜ blockOf r ≡ broughtTo last i j (blockOf alpha) (blockOf beta) (blockOf gamma) (blockOf delta) ⌝ }
+// Whether the tile in row i and column j, from 0, reads its cell lines in a tick.
+pub fn reads(steps: usize, tick: usize, i: usize, j: usize) -> bool
+    ensures { λ r. ⌜ r ≡ readsCells (actionAt steps (distance i j) tick) ⌝ }
 {
-    lines::incoming(alpha, beta, gamma, delta, last, i, j)
+    schedule::reads_in(schedule::action_at(steps, i, j, tick))
 }
 
 impl Quad {
@@ -66,11 +59,37 @@ impl Quad {
 }
 
 impl Tile {
-    // The tile in row i and column j, from 0, after a tick of a run of so many steps; `last` is the last row and column. Its lines bring the
-    // part `ins` and the tangents `row` and `column`.
+    // The tile in row i and column j, from 0, with the cells that its lines bring from the tiles that its corners are joined with.
+    pub fn taking(
+        self,
+        alpha: Tile,
+        beta: Tile,
+        gamma: Tile,
+        delta: Tile,
+        last: usize,
+        i: usize,
+        j: usize,
+    ) -> Tile
+        ensures { λ r. ⌜ theTile r ≡ withCells (broughtTo last i j (blockOf (alpha .lines)) (blockOf (beta .lines)) (blockOf (gamma .lines)) (blockOf (delta .lines))) (theTile self) ⌝ }
+    {
+        let by_alpha = alpha.lines;
+        let by_beta = beta.lines;
+        let by_gamma = gamma.lines;
+        let by_delta = delta.lines;
+        let lines = self.lines;
+        Tile {
+            cells: lines::incoming(by_alpha, by_beta, by_gamma, by_delta, last, i, j),
+            lines: lines,
+            row: self.row,
+            column: self.column,
+            mark: self.mark,
+        }
+    }
+
+    // The tile in row i and column j, from 0, after a tick of a run of so many steps; `last` is the last row and column. A tile that reads its
+    // cell lines in this tick already holds what they bring. Its parameter lines bring the tangents `row` and `column`.
     pub fn after(
         self,
-        ins: Part,
         row: f64,
         column: f64,
         last: usize,
@@ -79,12 +98,12 @@ impl Tile {
         i: usize,
         j: usize,
     ) -> Tile
-        ensures { λ r. ⌜ theTile r ≡ tickTile operations last steps tick i j (theTile self) (blockOf ins) row column ⌝ }
+        ensures { λ r. ⌜ theTile r ≡ tickTile operations last steps tick i j (theTile self) (blockOf (self .cells)) row column ⌝ }
     {
         let action = schedule::action_at(steps, i, j, tick);
         let cells = self.cells;
         let lines = self.lines;
-        let work = cells::worked(action, cells, ins, i, j, row, column, self.row, self.column);
+        let work = cells::worked(action, cells, i, j, row, column, self.row, self.column);
         let new = work.cells;
         let phase = schedule::phase_in(action);
         let out = lines::after(phase, last, i, j, new, lines);

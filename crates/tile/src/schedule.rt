@@ -2,6 +2,7 @@
 ghost use mathlib.Core.Path.{_≡_};
 ghost use Rattle.tile.specs.Schedule.{inStep};
 ghost use Rattle.systolic.specs.Tiles.{distance, action, actionAt, phaseIn};
+ghost use Rattle.systolic.specs.Traffic.{readsCells};
 ghost use Rattle.tile.specs.Tiles.{theAction};
 
 // Nothing; the first rotation, which reads no cells; a later one; the two phases after a rotation; the last reading.
@@ -22,6 +23,20 @@ pub fn action_at(steps: usize, i: usize, j: usize, tick: usize) -> Action
         return Action::Idle;
     }
     action_since(steps, tick - away)
+}
+
+// Whether the cell lines are read.
+pub fn reads_in(action: Action) -> bool
+    ensures { λ r. ⌜ r ≡ readsCells (theAction action) ⌝ }
+{
+    match action {
+        Action::Idle => false,
+        Action::First => false,
+        Action::Rotate => true,
+        Action::Second => false,
+        Action::Third => false,
+        Action::Final => true,
+    }
 }
 
 // The phase in which lines are set, 3 for none.

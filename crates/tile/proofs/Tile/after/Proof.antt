@@ -21,7 +21,7 @@ is-marked-requires c κs = search needs
 returns : tie.Need-returns
 returns c =
     let w = c .before .before .before .before in
-    tile-ticked (w .before .before .before .before .args .self) _ _ _ _ _ _ _ _ (w .before .before .before .action-at .ensures) (w .worked .ensures) (c .before .before .phase-in .ensures) (c .before .after .ensures) (c .is-marked .ensures)
+    tile-ticked (w .before .before .before .before .args .self) _ _ _ _ _ _ _ (w .before .before .before .action-at .ensures) (w .worked .ensures) (c .before .before .phase-in .ensures) (c .before .after .ensures) (c .is-marked .ensures)
 
 pub after-spec : {M : Type 1} → statement M
 after-spec =

@@ -1,4 +1,4 @@
--- What the benchmark's function answers and leaves. Definitions only.
+-- What the benchmark's functions answer and leave. Definitions only.
 use Prim.Native.Nat.{ℕ}
 use mathlib.Core.List.{List}
 use lib.Ieee.{Float}
