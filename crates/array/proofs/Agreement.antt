@@ -1,9 +1,8 @@
 -- The array's run is the plain run, in every bit. Assumes nothing.
 use Prim.Native.Nat.{ℕ, zero, suc, _+_, _-_, _*_, _/_, _%_, _<_, _≤_}
-use mathlib.Core.Path.{_≡_, refl, sym, ap, _∙_}
+use mathlib.Core.Path.{_≡_, refl, ap, _∙_}
 use mathlib.Core.Bool.{Bool, true, false, cond}
 use mathlib.Core.List.{List}
-use native.Mathlib.Numerals.{add-one}
 use native.Mathlib.Nat.{zero-add, suc-add}
 use native.Mathlib.Omega.{arith}
 use borrow.Author.Tests.{lt-ltb, eqb-true, eqb-false}
@@ -14,10 +13,10 @@ use Rattle.refusal.specs.Refusal.{Told, given, refused, told}
 use Rattle.refusal.specs.declared.Refusal.the-variants.{Spoiled}
 use Rattle.float64.specs.Values.{plusZero}
 use Rattle.lists.proofs.Tabulated.{getD-tabulate}
-use Rattle.systolic.specs.Slots.{Side, left, right, Slot, slot, inOrderAt, inOrder, any}
-use Rattle.systolic.specs.Blocks.{Block, cell, tab, pick}
+use Rattle.systolic.specs.Slots.{Slot, slot, inOrderAt, inOrder, any}
+use Rattle.systolic.specs.Blocks.{cell, tab, pick}
 use Rattle.systolic.specs.Synchronous.{Operations}
-use Rattle.systolic.specs.Sequential.{blockAt, operationsOf, sequential, failsIn}
+use Rattle.systolic.specs.Sequential.{blockAt, operationsOf}
 use Rattle.systolic.specs.Tiles as theory
 use Rattle.systolic.specs.Arrays.{tick, arrayAfter}
 use Rattle.systolic.proofs.Bounded.{any-within}
@@ -31,19 +30,18 @@ use Rattle.matrix.specs.Matrix.{at, flat, entryOf}
 use Rattle.matrix.proofs.Same.{Line, flat-same}
 use Rattle.matrix.proofs.Within.{entry-at, place-is}
 use Rattle.matrix.proofs.Accepted.{accepted-long}
-use Rattle.plain.specs.State.{State, state, identity, after, notFinite, spoiled}
-use Rattle.plain.specs.Run.{mostSweeps, stepsOf, beforeRun, Outcome, outcome, startOf, zeros, ranOf, unlessRefused, runOf}
+use Rattle.plain.specs.State.{State, identity, after, notFinite, spoiled}
+use Rattle.plain.specs.Run.{mostSweeps, stepsOf, beforeRun, outcome, startOf, zeros, ranOf, unlessRefused, runOf}
 use Rattle.plain.specs.Cells.{Cell, cell as cellWith, cellOf, rules}
 use Rattle.plain.proofs.Persists.{state-finite}
 use Rattle.plain.proofs.Sequence.{plain-sequential, plain-fails, fails-are}
 use Rattle.plain.proofs.Outcomes.{Begins, begins, start-finite}
-use Rattle.tile.specs.declared.Part.{Part}
 use Rattle.tile.specs.declared.Tile.{Tile}
 use Rattle.tile.proofs.Joining.{sideBy, corner-cell}
 use Rattle.tile.specs.Tiles.{blockOf, theTile, operations}
 use Rattle.array.specs.declared.Array.{Array}
-use Rattle.array.specs.Arrays.{noTile, tileAt, partOf, tileOf, theArray, tilesAfter, ticksOf, progressOf}
-use Rattle.array.specs.Runs.{zeroPart, tileWith, quadAt, partAt, startTile, startArray, nextArray, ticked, GoesOn, joinedAt, matrixIn, vectorsIn, someMarked, handedOver, wholeOf, tellingIn, telling}
+use Rattle.array.specs.Arrays.{noTile, tileAt, partOf, theArray, tilesAfter, ticksOf}
+use Rattle.array.specs.Runs.{zeroPart, tileWith, quadAt, partAt, startTile, startArray, nextArray, ticked, GoesOn, joinedAt, matrixIn, vectorsIn, someMarked, handedOver, wholeOf, telling}
 use Rattle.array.proofs.Answers.{is-stopped}
 use Rattle.array.proofs.Made.{the-tile-of}
 use Rattle.array.proofs.Running.{tilesFrom, ticked-made}

@@ -1,28 +1,27 @@
 -- Runs by hand, over every list of calls. Assumes nothing.
-use Prim.Native.Nat.{ℕ, zero, suc, _+_, _-_, _*_, _/_, _≤_, _<_}
+use Prim.Native.Nat.{ℕ, zero, suc, _+_, _-_, _*_, _≤_, _<_}
 use mathlib.Core.Path.{_≡_, refl, sym, ap, _∙_}
 use mathlib.Core.Bool.{Bool, true, false, cond}
 use mathlib.Core.List.{List, [], _∷_}
 use native.Mathlib.Omega.{arith}
-use borrow.Author.Tests.{ltb-true, ltb-false, lt-ltb, le-ltb}
+use borrow.Author.Tests.{ltb-true, ltb-false}
 use lib.Dec.{T, ltb}
 use lib.ListN.{length, getD}
 use lib.Ieee.{Float, nan, binary64, fits}
 use Rattle.refusal.specs.Refusal.{Told, given, refused, told}
 use Rattle.refusal.specs.declared.Refusal.the-variants.{Order}
 use Rattle.ordering.specs.Pairs.{noOrder}
-use Rattle.matrix.proofs.Accepted.{accepted-long}
 use Rattle.plain.specs.State.{notFinite, spoiled}
 use Rattle.plain.specs.Run.{mostSweeps, stepsOf, startOf}
 use Rattle.plain.proofs.Outcomes.{Begins, begins}
 use Rattle.array.specs.declared.Array.{Array}
 use Rattle.array.specs.declared.Started.{Started}
 use Rattle.array.specs.declared.Ticked.{Ticked}
-use Rattle.array.specs.Arrays.{Tick, made, stopped, toldProgress, ticksOf, progressOf, Ticks}
-use Rattle.array.specs.Runs.{startArray, noArray, startTold, startedOf, Starts, nextArray, ticked, someMarked}
+use Rattle.array.specs.Arrays.{Tick, made, stopped, ticksOf, progressOf}
+use Rattle.array.specs.Runs.{startArray, noArray, startTold, startedOf, nextArray, ticked}
 use Rattle.array.specs.Hand.{lastArray, Follow, ByHand, answersOf, counted, RefusedByHand, firstMade, Agrees, Ended, AcceptedByHand, ClaimedByHand}
 use Rattle.array.proofs.Answers.{refused-1, is-made, is-stopped}
-use Rattle.array.proofs.Agreement.{tilesBy, recordBy, ticked-is, ticked-stays, last-matrix, last-vectors, last-marked, start-clean}
+use Rattle.array.proofs.Agreement.{recordBy, ticked-is, ticked-stays, last-matrix, last-vectors, last-marked, start-clean}
 
 -- ---- any list of calls
 -- what a tick of a record answers

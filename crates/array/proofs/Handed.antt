@@ -13,7 +13,7 @@ use Rattle.array.specs.declared.Array.{Array}
 use Rattle.array.specs.declared.Progress.the-variants.{Made, Stopped, Refused}
 use Rattle.array.specs.Arrays.{made, stopped, ticksOf, progressOf, Ticks}
 use Rattle.array.specs.Runs.{startArray, nextArray, ticked, GoesOn}
-use Rattle.array.proofs.Answers.{Means, made-means}
+use Rattle.array.proofs.Answers.{made-means}
 
 module _ (x : Array) where
   pub stopped-stays : given stopped ≡ progressOf (x .n) (x .sweeps) (x .tick) → Ticks x (record { answer = Stopped; array = x })

@@ -5,7 +5,6 @@ use mathlib.Core.Bool.{Bool, true, false, cond}
 use native.Mathlib.Omega.{arith}
 use borrow.Author.Tests.{eq-eqb, ne-eqb, lt-ltb, le-ltb, ltb-true, eqb-false}
 use lib.Dec.{eqb, ltb}
-use Rattle.systolic.specs.Tiles as theory
 use Rattle.ordering.specs.Registers.{most}
 use Rattle.array.specs.declared.wiring.Near.{Near}
 use Rattle.array.specs.Arrays.{downOf, towardOf, nearOf, Inside}

@@ -7,10 +7,7 @@ use native.Mathlib.Omega.{arith}
 use borrow.Author.Tests.{lt-ltb}
 use Rattle.lists.proofs.Tabulated.{getD-tabulate}
 use Rattle.refusal.specs.Refusal.{Told, given, refused}
-use Rattle.systolic.specs.Slots.{Side}
-use Rattle.systolic.specs.Blocks.{pick}
-use Rattle.systolic.specs.Tiles.{joined}
-use Rattle.systolic.specs.Arrays.{nearer, tick}
+use Rattle.systolic.specs.Arrays.{tick}
 use Rattle.systolic.proofs.Neighbourhood.{Alike, neighbourhood}
 use Rattle.ordering.specs.Registers.{most}
 use Rattle.plain.specs.Run.{stepsOf}

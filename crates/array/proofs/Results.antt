@@ -1,9 +1,8 @@
 -- The end of a whole run: marks, and cells written to their rows and columns. Assumes nothing.
 use Prim.Native.Nat.{ℕ, _+_, _-_, _*_, _/_, _%_, _<_}
-use mathlib.Core.Path.{_≡_, refl, sym, _∙_}
+use mathlib.Core.Path.{_≡_, sym}
 use mathlib.Core.Bool.{Bool, true, false}
 use mathlib.Core.List.{List}
-use native.Mathlib.Numerals.{add-one}
 use native.Mathlib.Omega.{arith}
 use lib.Dec.{eqb}
 use lib.Ieee.{Float, nan}
@@ -22,14 +21,6 @@ use Rattle.array.specs.Arrays.{tileAt}
 use Rattle.array.specs.Runs.{joinedAt, matrixIn, vectorsIn, someMarked, handedOver}
 
 -- ---- marks
-pub none-passes : (f : ℕ → Bool) → any 0 f ≡ false
-unfolding any
-none-passes f = refl
-
-pub none-passes-more : (f : ℕ → Bool) (k : ℕ) → any k f ≡ false → f k ≡ false → any (k + 1) f ≡ false
-unfolding any
-none-passes-more f k e g = rw (add-one, e, g)
-
 -- a tile of row i before column j is marked, and one of the rows before i
 abbrev pub markedInRow : ℕ → List Tile → ℕ → Bool
 markedInRow j l i = any j (λ j. tileAt l i j .mark)

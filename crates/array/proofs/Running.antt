@@ -2,7 +2,6 @@
 use Prim.Native.Nat.{ℕ, zero, suc, _+_, _-_, _/_, _≤_}
 use mathlib.Core.Path.{_≡_, refl, sym, ap, _∙_}
 use mathlib.Core.List.{List}
-use native.Mathlib.Numerals.{add-one}
 use native.Mathlib.Omega.{arith}
 use lib.ListN.{length}
 use lib.Ieee.{Float}
@@ -13,8 +12,7 @@ use Rattle.plain.specs.Run.{stepsOf, beforeRun, Outcome, outcome}
 use Rattle.tile.specs.declared.Tile.{Tile}
 use Rattle.array.proofs.Answers.{is-made}
 use Rattle.array.specs.declared.Array.{Array}
-use Rattle.array.specs.declared.Ticked.{Ticked}
-use Rattle.array.specs.Arrays.{tilesAfter, Tick, made, stopped, ticksOf, progressOf, arrayOf, Ticks}
+use Rattle.array.specs.Arrays.{tilesAfter, Tick, made, stopped, ticksOf, progressOf, arrayOf}
 use Rattle.array.specs.Runs.{startArray, noArray, startTold, Starts, nextArray, ticked, GoesOn, handedOver, wholeOf}
 
 -- ---- the start

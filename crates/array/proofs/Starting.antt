@@ -9,9 +9,7 @@ use Rattle.ordering.specs.Registers.{most}
 use Rattle.matrix.specs.Matrix.{entryOf}
 use Rattle.plain.specs.State.{identity}
 use Rattle.tile.specs.declared.Quad.{Quad}
-use Rattle.tile.specs.declared.Part.{Part}
 use Rattle.tile.specs.declared.Tile.{Tile}
-use Rattle.tile.specs.Lines.{quad}
 use Rattle.array.specs.declared.Array.{Array}
 use Rattle.array.specs.Runs.{zeroPart, tileWith, quadAt, partAt, startTile, startArray, noArray}
 

@@ -14,7 +14,7 @@ use Rattle.array.specs.declared.Array.{Array}
 use Rattle.array.specs.declared.Started.{Started}
 use Rattle.array.specs.declared.Ticked.{Ticked}
 use Rattle.array.specs.Arrays.{Tick, made, stopped, toldProgress, ticksOf, Ticks}
-use Rattle.array.specs.Runs.{startArray, noArray, startTold, Starts, ticked, matrixIn, vectorsIn, someMarked}
+use Rattle.array.specs.Runs.{startArray, noArray, Starts, ticked, matrixIn, vectorsIn, someMarked}
 
 -- The record that the last call gave.
 abbrev pub lastArray : Started → List Ticked → Array

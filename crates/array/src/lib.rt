@@ -1,6 +1,6 @@
 // The array of tiles (document 01, "The array").
 ghost use mathlib.Core.Path.{_≡_};
-ghost use Rattle.refusal.specs.Refusal.{given, told};
+ghost use Rattle.refusal.specs.Refusal.{given};
 ghost use Rattle.plain.specs.Run.{beforeRun, outcome};
 ghost use lib.ListN.{length};
 ghost use Rattle.array.specs.Arrays.{toldProgress, progressOf, ticksOf, Ticks};

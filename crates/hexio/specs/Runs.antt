@@ -1,5 +1,5 @@
 -- The heads of runs. Definitions only.
-use Prim.Native.Nat.{ℕ, _≤_}
+use Prim.Native.Nat.{_≤_}
 use Rattle.hexio.specs.declared.runs.Run.{Run}
 use Rattle.hexio.specs.declared.runs.Head.{Head}
 use Rattle.hexio.specs.declared.runs.Head.the-variants as head

@@ -1,9 +1,8 @@
 -- The end of a run: whether a value of a list isn't finite, and what is answered then. Assumes nothing.
-use Prim.Native.Nat.{ℕ, _+_, _<_}
+use Prim.Native.Nat.{ℕ, _<_}
 use mathlib.Core.Path.{_≡_, refl, sym, ap, _∙_}
 use mathlib.Core.Bool.{Bool, true, false, not}
 use mathlib.Core.List.{List}
-use native.Mathlib.Numerals.{add-one}
 use lib.ListN.{length, getD}
 use lib.Ieee.{Float, nan}
 use Rattle.refusal.specs.Refusal.{given, told}
@@ -17,15 +16,7 @@ use Rattle.plain.specs.Run.{Outcome, outcome, zeros, someNotFinite, fini
 abbrev pub notFiniteBelow : List Float → ℕ → Bool
 notFiniteBelow l k = any k (λ i. not (finite (getD l i nan)))
 
-pub none-yet : (l : List Float) → notFiniteBelow l 0 ≡ false
-unfolding any
-none-yet l = refl
-
 module _ (l : List Float) (k : ℕ) where
-  pub none-more : notFiniteBelow l k ≡ false → finite (getD l k nan) ≡ true → notFiniteBelow l (k + 1) ≡ false
-  unfolding any
-  none-more e f = rw (add-one, e, f)
-
   pub one-found : k < length l → finite (getD l k nan) ≡ false → false ≡ not (someNotFinite l)
   unfolding someNotFinite
   one-found h e = sym (ap not (any-hit (length l) _ k h (ap not e)))

@@ -2,6 +2,7 @@
 use Prim.Native.Nat.{ℕ, zero, suc, _+_, _≤_, _<_}
 use mathlib.Core.Path.{_≡_, refl, sym, _∙_, ap}
 use mathlib.Core.Bool.{Bool, true, false, cond, _||_, true≢false}
+use native.Mathlib.Numerals.{add-one}
 use native.Mathlib.Omega.{arith}
 use borrow.Author.Tests.{ltb-true, ltb-false}
 use lib.Dec.{ltb}
@@ -39,6 +40,14 @@ pub any-from : (n : ℕ) (f : ℕ → Bool) → ((i : ℕ) → i < n → f i ≡
 unfolding any
 any-from zero f g = refl
 any-from (suc n) f g = false-or (any n f) (f n) (any-from n f (λ i l. g i (omega arith))) (g n (omega arith))
+
+pub any-none : (f : ℕ → Bool) → any 0 f ≡ false
+unfolding any
+any-none f = refl
+
+pub any-more : (f : ℕ → Bool) (k : ℕ) → any k f ≡ false → f k ≡ false → any (k + 1) f ≡ false
+unfolding any
+any-more f k e g = rw (add-one, e, g)
 
 -- ---- one passes
 pub any-hit : (n : ℕ) (f : ℕ → Bool) (i : ℕ) → i < n → f i ≡ true → any n f ≡ true

@@ -5,7 +5,7 @@ use Rattle.systolic.specs.Slots.{Slot}
 use Rattle.systolic.specs.Blocks.{Block}
 use Rattle.systolic.specs.Sequential.{Rules, operationsOf}
 use Rattle.systolic.specs.Tiles.{distance, Tile, Action, idle, first, rotate, second, third, final, stepAt, actionAt, turnTile, newCells, newParameter, newTile, tickTile}
-use Rattle.systolic.specs.Arrays.{nearer, incoming, tick}
+use Rattle.systolic.specs.Arrays.{incoming, tick}
 
 module _ {X H W : Type 0} (R : Rules X H W) (l l′ : Slot → ℕ) (M M′ : ℕ → ℕ → X) (x x′ : X) (h h′ : H) (w w′ : W) where
   tile-any-start : (m k i j : ℕ) (a : Action) (o : Tile X H W) (b : Block X) (p : H) (v : W)

@@ -3,8 +3,7 @@ use native.Mathlib.Omega.{arith}
 use lib.ListN.{length}
 use Rattle.plain.proofs.Outcomes.{Begins, begins}
 use Rattle.array.specs.declared.Array.{Array}
-use Rattle.array.specs.Arrays.{ticksOf}
-use Rattle.array.specs.Runs.{ticked, handedOver}
+use Rattle.array.specs.Runs.{handedOver}
 use Rattle.array.proofs.Answers.{Bounds, bounds}
 use Rattle.array.proofs.Handed.{all-made}
 use Rattle.array.proofs.Running.{start-order, run-ends}

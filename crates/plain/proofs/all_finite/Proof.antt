@@ -1,11 +1,12 @@
 use Prim.Native.Nat.{_-_, _≤_}
-use mathlib.Core.Path.{_≡_, sym, _∙_}
-use mathlib.Core.Bool.{false}
+use mathlib.Core.Path.{_≡_, sym, ap, _∙_}
+use mathlib.Core.Bool.{false, not}
 use native.Mathlib.Omega.{arith}
 use borrow.Author.Needs.{needs}
 use borrow.Author.Tests.{not-true, not-false}
 use lib.ListN.{length}
-use Rattle.plain.proofs.Endings.{notFiniteBelow, none-yet, none-more, one-found, none-found}
+use Rattle.systolic.proofs.Bounded.{any-none, any-more}
+use Rattle.plain.proofs.Endings.{notFiniteBelow, one-found, none-found}
 use Rattle.plain.proofs.all_finite.Statement.{statement}
 use Rattle.plain.proofs.all_finite.Tie as tie
 
@@ -16,7 +17,7 @@ abbrev μ-loop : tie.MeasureT-loop
 μ-loop a k₀ k-end k = length a - k
 
 loop-holds : tie.Need-loop-holds Inv-loop μ-loop
-loop-holds c = (omega arith, none-yet (c .before .args .a .now))
+loop-holds c = (omega arith, any-none _)
 
 mul-is-finite : tie.Need-mul-is-finite Inv-loop μ-loop
 mul-is-finite c = omega arith
@@ -40,7 +41,7 @@ loop-again : tie.Need-loop-again Inv-loop μ-loop
 loop-again c =
     let s = c .before in
     let k = s .before .before .before in
-    (omega arith, none-more (k .before .before .args .a .now) _ (k .loop .inv .1) (sym (s .is-finite .ensures) ∙ not-false _ (c .if1 .left)))
+    (omega arith, any-more _ _ (k .loop .inv .1) (ap not (sym (s .is-finite .ensures) ∙ not-false _ (c .if1 .left))))
 
 returns-2 : tie.Need-returns-2 Inv-loop μ-loop
 returns-2 c = none-found _ _ (c .before .loop .inv .1) (omega arith)

@@ -1,5 +1,4 @@
 use mathlib.Core.Path.{sym, _∙_}
-use native.Mathlib.Omega.{arith}
 use Rattle.plain.proofs.Starts.{cleared}
 use Rattle.plain.proofs.Endings.{spoiled-outcome}
 use Rattle.array.proofs.Results.{spoiled-over, cells-over}

@@ -1,9 +1,10 @@
-use Prim.Native.Nat.{ℕ, _-_, _/_, _≤_}
+use Prim.Native.Nat.{_-_, _/_, _≤_}
 use mathlib.Core.Path.{_≡_}
 use mathlib.Core.Bool.{false}
 use native.Mathlib.Omega.{arith}
+use Rattle.systolic.proofs.Bounded.{any-none, any-more}
 use Rattle.array.specs.Arrays.{noQuad, noPart, noTile, tileAt}
-use Rattle.array.proofs.Results.{none-passes, none-passes-more, markedInRow, markedBefore, one-marked, none-marked}
+use Rattle.array.proofs.Results.{markedInRow, markedBefore, one-marked, none-marked}
 use Rattle.array.proofs.ending.is_marked.Statement.{statement}
 use Rattle.array.proofs.ending.is_marked.Tie as tie
 
@@ -20,10 +21,10 @@ abbrev μ-loop : tie.MeasureT-loop
 μ-loop array processors i₀ i = processors - i
 
 loop-holds : tie.Need-loop-holds Inv-loop2 μ-loop2 Inv-loop μ-loop
-loop-holds c = (omega arith, none-passes _)
+loop-holds c = (omega arith, any-none _)
 
 loop2-holds : tie.Need-loop2-holds Inv-loop2 μ-loop2 Inv-loop μ-loop
-loop2-holds c = (omega arith, none-passes _)
+loop2-holds c = (omega arith, any-none _)
 
 mul-if1 : tie.Need-mul-if1 Inv-loop2 μ-loop2 Inv-loop μ-loop
 mul-if1 c = omega arith
@@ -51,7 +52,7 @@ loop2-less c = omega arith
 
 loop2-again : tie.Need-loop2-again Inv-loop2 μ-loop2 Inv-loop μ-loop
 unfolding tileAt noTile noPart noQuad
-loop2-again c = (omega arith, none-passes-more _ _ (c .before .before .loop2 .inv .1) (c .if1 .left))
+loop2-again c = (omega arith, any-more _ _ (c .before .before .loop2 .inv .1) (c .if1 .left))
 
 add-i : tie.Need-add-i Inv-loop2 μ-loop2 Inv-loop μ-loop
 add-i c = omega arith
@@ -62,7 +63,7 @@ loop-less c = omega arith
 loop-again : tie.Need-loop-again Inv-loop2 μ-loop2 Inv-loop μ-loop
 loop-again c =
     let e : c .before .loop2 .j ≡ c .before .before .before .before .args .t1 .n / 2 = omega arith in
-    (omega arith, none-passes-more _ _ (c .before .before .before .loop .inv .1) (rw e at (c .before .loop2 .inv .1)))
+    (omega arith, any-more _ _ (c .before .before .before .loop .inv .1) (rw e at (c .before .loop2 .inv .1)))
 
 returns-2 : tie.Need-returns-2 Inv-loop2 μ-loop2 Inv-loop μ-loop
 returns-2 c = none-marked _ _ _ (c .before .loop .inv .1) (omega arith)

@@ -1,9 +1,8 @@
 use borrow.Author.Needs.{needs}
 use Prim.Native.Nat.{ℕ, _+_, _-_, _*_, _/_, _%_, _<_, _≤_}
-use mathlib.Core.Path.{_≡_, refl, _∙_}
+use mathlib.Core.Path.{_∙_}
 use native.Mathlib.Omega.{arith}
 use lib.Ieee.{nan}
-use lib.ListN.{length}
 use Rattle.lists.proofs.Filled.{Filled, filled-none, filled-next}
 use Rattle.ordering.specs.Pairs.{limit}
 use Rattle.matrix.proofs.Flat.{row-lt, column-lt}

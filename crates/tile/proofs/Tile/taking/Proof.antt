@@ -1,4 +1,3 @@
-use mathlib.Core.Path.{ap, _∙_}
 use Rattle.tile.proofs.Joining.{taking-brought}
 use borrow.Author.Needs.{needs}
 use Rattle.tile.proofs.Tile.taking.Statement.{statement}
