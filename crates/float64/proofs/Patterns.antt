@@ -1,15 +1,16 @@
 -- The values of patterns. Assumes nothing.
 use mathlib.Core.Path.{_≡_, refl, sym, ap, _∙_, subst}
 use mathlib.Core.Bool.{Bool, true, false, cond}
-use Prim.Native.Nat.{ℕ, suc, _+_, _-_, _*_, _/_, _%_, _^_, _≤_, _<_}
+use Prim.Native.Nat.{ℕ, zero, suc, _+_, _-_, _*_, _/_, _%_, _^_, _≤_, _<_}
 use native.Mathlib.Nat.{mul-assoc, mul-one}
 use native.Mathlib.Omega.{arith}
-use lib.Dec.{T, leb, eqb, eqb→eq, leb→le, not-T}
+use borrow.Author.Tests.{ne-eqb, ltb-true, ltb-false}
+use lib.Dec.{T, leb, ltb, eqb, eqb→eq, leb→le, not-T}
 use lib.Pow.{pow-add}
 use lib.Ieee.{Float, nan, inf, binary64, odd, fits, ofFields, ofBits, toBits}
 use lib.Ieee.Bits.{is-false, ofBits-toBits}
 use lib.Ieee.Digits.{odd-val}
-use Rattle.float64.specs.Values.{sameBits}
+use Rattle.float64.specs.Values.{finite, sameBits}
 use Rattle.float64.specs.Units.{unitsOf}
 use Rattle.float64.proofs.Units.{units-is}
 
@@ -73,3 +74,35 @@ field-units b h l =
 pub same-bits-same : (x y : Float) → T (fits binary64 x) → T (fits binary64 y) → sameBits x y ≡ true → x ≡ y
 same-bits-same x y h k e =
     sym (ofBits-toBits binary64 x h) ∙ ap (ofBits binary64) (eqb→eq (toBits binary64 x) (toBits binary64 y) (subst T (sym e) tt)) ∙ ofBits-toBits binary64 y k
+
+-- ---- which patterns are finite
+finite-odd : (d : ℕ) (s : Bool) (q k l : ℕ) → finite (odd d s q k l) ≡ true
+unfolding odd finite
+finite-odd d s zero k l = refl
+finite-odd d s (suc q) k l = refl
+
+finite-fields : (s : Bool) (x t : ℕ) → x < 2047 → finite (ofFields binary64 s x t) ≡ true
+unfolding ofFields
+finite-fields s zero t h = finite-odd 53 s t 0 1074
+finite-fields s (suc x) t h = rw (ne-eqb (suc x) 2047 (λ e. omega arith)) (finite-odd 53 s (2 ^ 52 + t) x 1074)
+
+no-finite-fields : (s : Bool) (t : ℕ) → finite (ofFields binary64 s 2047 t) ≡ false
+unfolding ofFields
+no-finite-fields s t = go (eqb t 0)
+  where
+    go : (b : Bool) → finite (cond b (inf s) nan) ≡ false
+    go true = unfold finite in refl
+    go false = unfold finite in refl
+
+pub finite-pattern : (b : ℕ) → ltb (b % 0x8000_0000_0000_0000) 0x7ff0_0000_0000_0000 ≡ finite (ofBits binary64 b)
+unfolding ofBits
+finite-pattern b = go (ltb (b % 0x8000_0000_0000_0000) 0x7ff0_0000_0000_0000) refl
+  where
+    go : (z : Bool) → ltb (b % 0x8000_0000_0000_0000) 0x7ff0_0000_0000_0000 ≡ z → z ≡ finite (ofFields binary64 (leb (2 ^ 63) b) (b % 2 ^ 63 / 2 ^ 52) (b % 2 ^ 52))
+    go true e =
+        let w : b % 0x8000_0000_0000_0000 < 0x7ff0_0000_0000_0000 = ltb-true _ _ e in
+        sym (finite-fields (leb (2 ^ 63) b) (b % 2 ^ 63 / 2 ^ 52) (b % 2 ^ 52) (omega arith))
+    go false e =
+        let w : 0x7ff0_0000_0000_0000 ≤ b % 0x8000_0000_0000_0000 = ltb-false _ _ e in
+        let x : b % 2 ^ 63 / 2 ^ 52 ≡ 2047 = omega arith in
+        rw x (sym (no-finite-fields (leb (2 ^ 63) b) (b % 2 ^ 52)))

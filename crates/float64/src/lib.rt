@@ -38,6 +38,13 @@ pub fn from_bits(b: u64) -> f64
     f64::from_bits(b)
 }
 
+// Whether the pattern b is that of a finite value.
+pub fn is_finite_pattern(b: u64) -> bool
+    ensures { λ r. ⌜ r ≡ finite (ofBits binary64 b) ⌝ }
+{
+    b % 0x8000_0000_0000_0000 < 0x7ff0_0000_0000_0000
+}
+
 // Whether x and y have the same pattern: +0 and -0 differ.
 pub fn same_bits(x: f64, y: f64) -> bool
     ensures { λ r. ⌜ r ≡ sameBits x y ⌝ }

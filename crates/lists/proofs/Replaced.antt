@@ -1,13 +1,13 @@
 -- A list whose elements a loop replaces from the first on. Assumes nothing.
-use Prim.Native.Nat.{ℕ, _+_, _<_, _≤_}
-use mathlib.Core.Path.{_≡_, refl, ap, _∙_}
+use Prim.Native.Nat.{ℕ, _+_, _-_, _<_, _≤_}
+use mathlib.Core.Path.{_≡_, refl, sym, ap, _∙_}
 use mathlib.Core.Bool.{Bool, true, false}
-use mathlib.Core.List.{List}
+use mathlib.Core.List.{List, _++_}
 use native.Mathlib.Omega.{arith}
 use borrow.Author.Tests.{eqb-true, eqb-false, ltb-true, ltb-false}
 use lib.Dec.{eqb, ltb}
-use lib.ListN.{length, getD, set, length-set}
-use lib.Seq.{getD-set-same, getD-set-other}
+use lib.ListN.{length, getD, set, take, drop, length-set, take-append-drop, length-drop}
+use lib.Seq.{getD-set-same, getD-set-other, length-take-le, getD-take, getD-drop, ext-getD}
 use Rattle.lists.specs.Tabulate.{tabulate}
 use Rattle.lists.proofs.Tabulated.{tabulated}
 
@@ -64,3 +64,16 @@ module _ {A : Type 0} {z : A} {f : ℕ → A} {old : List A} where
       go : (b : Bool) → ltb i k ≡ b → g (getD l i z) ≡ g (getD old i z)
       go true y = ap g (h .done i (ltb-true _ _ y)) ∙ e i
       go false y = ap g (h .kept i (ltb-false _ _ y))
+
+  -- the new elements, and the old ones after them
+  pub replaced-over : (m : ℕ) (l : List A) → Replaced z f old m l → m ≤ length old → l ≡ tabulate m f ++ drop m old
+  replaced-over m l h o = sym (take-append-drop m l) ∙ ap (λ (x : List A). x ++ drop m l) front ∙ ap (λ (x : List A). tabulate m f ++ x) back
+    where
+      front : take m l ≡ tabulate m f
+      front =
+          tabulated m f (take m l) z (length-take-le m l (let w = h .long in omega arith)) (λ i b. getD-take m l i z b ∙ h .done i b)
+
+      back : drop m l ≡ drop m old
+      back =
+          ext-getD z (drop m l) (drop m old) (length-drop m l ∙ ap (λ (n : ℕ). n - m) (h .long) ∙ sym (length-drop m old))
+          (λ i b. getD-drop m l i z ∙ h .kept (m + i) (omega arith) ∙ sym (getD-drop m old i z))

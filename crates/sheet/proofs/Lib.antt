@@ -1,0 +1,6 @@
+pub mod Words
+pub mod Triangle
+pub mod Used
+pub mod Stored
+pub mod Tables
+pub mod Written

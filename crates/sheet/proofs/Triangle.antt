@@ -1,0 +1,108 @@
+-- The order of the stored entries. Assumes nothing.
+use Prim.Native.Nat.{ℕ, zero, suc, _+_, _-_, _*_, _/_, _<_, _≤_}
+use mathlib.Core.Path.{_≡_, refl, ap, _∙_}
+use mathlib.Core.Bool.{Bool, true, false, cond}
+use native.Mathlib.Nat.{mul-add, mul-one, suc-mul, mul-assoc, mul-comm}
+use native.Mathlib.Omega.{arith}
+use borrow.Author.Tests.{lt-ltb, le-ltb, ltb-true, ltb-false}
+use lib.Dec.{ltb}
+use Rattle.sheet.specs.Format.{sheetLength, entriesFrom, nextPlace, placeOf, entriesTo, numberOf}
+
+-- ---- how many there are
+pub closed : (i : ℕ) → 2 * entriesTo i ≡ i * (i + 1)
+unfolding entriesTo
+closed zero = refl
+closed (suc i) =
+    let h : 2 * entriesTo i ≡ i * (i + 1) = closed i in
+    let a : suc i * (suc i + 1) ≡ i * (suc i + 1) + (suc i + 1) = suc-mul i (suc i + 1) in
+    let b : suc i + 1 ≡ i + 1 + 1 = omega arith in
+    let c : i * (i + 1 + 1) ≡ i * (i + 1) + i * 1 = mul-add i (i + 1) 1 in
+    let d : i * 1 ≡ i = mul-one i in
+    let e : i * (suc i + 1) ≡ i * (i + 1) + i = ap (λ (x : ℕ). i * x) b ∙ c ∙ ap (λ (x : ℕ). i * (i + 1) + x) d in
+    omega arith
+
+pub length-is : (n : ℕ) → sheetLength n ≡ entriesFrom n + 8 * entriesTo n
+length-is n =
+    let h = closed n in
+    let a : 4 * n * (n + 1) ≡ 4 * (n * (n + 1)) = mul-assoc 4 n (n + 1) in
+    omega arith
+
+row-length : (i : ℕ) → 1 ≤ i → entriesTo i ≡ entriesTo (i - 1) + i
+row-length zero h = absurd (omega arith)
+row-length (suc i) h = let e : suc i - 1 ≡ i = omega arith in rw e (unfold entriesTo in refl)
+
+-- the entries before row r
+pub half-of : (r : ℕ) → 1 ≤ r → r * (r - 1) / 2 ≡ entriesTo (r - 1)
+half-of r h =
+    let e = closed (r - 1) in
+    let a : r - 1 + 1 ≡ r = omega arith in
+    let b : (r - 1) * (r - 1 + 1) ≡ r * (r - 1) = ap (λ (x : ℕ). (r - 1) * x) a ∙ mul-comm (r - 1) r in
+    omega arith
+
+pub rows-below : (i n : ℕ) → i < n → entriesTo i + suc i ≤ entriesTo n
+unfolding entriesTo
+rows-below i zero h = absurd (omega arith)
+rows-below i (suc n) h = go (ltb i n) refl (λ b. rows-below i n b)
+  where
+    go : (b : Bool) → ltb i n ≡ b → (i < n → entriesTo i + suc i ≤ entriesTo n) → entriesTo i + suc i ≤ entriesTo n + suc n
+    go true e f = let w = f (ltb-true _ _ e) in omega arith
+    go false e f = let w : n ≤ i = ltb-false _ _ e in let z : i ≡ n = omega arith in rw z (omega arith)
+
+pub number-below : (n r c : ℕ) → 1 ≤ c → c ≤ r → r ≤ n → numberOf r c < entriesTo n
+unfolding numberOf
+number-below n r c h k o = let w = rows-below (r - 1) n (omega arith) in omega arith
+
+-- ---- places and numbers
+in-row : (i : ℕ) → placeOf (entriesTo i) ≡ (suc i, 1) → (j : ℕ) → j ≤ i → placeOf (entriesTo i + j) ≡ (suc i, suc j)
+unfolding placeOf
+in-row i s zero h = let e : entriesTo i + 0 ≡ entriesTo i = omega arith in rw e s
+in-row i s (suc j) h =
+    let e : entriesTo i + suc j ≡ suc (entriesTo i + j) = omega arith in
+    rw (e, in-row i s j (omega arith), lt-ltb (suc j) (suc i) (omega arith))
+
+row-start : (i : ℕ) → placeOf (entriesTo i) ≡ (suc i, 1)
+unfolding placeOf entriesTo
+row-start zero = refl
+row-start (suc i) =
+    let e : entriesTo i + suc i ≡ suc (entriesTo i + i) = omega arith in
+    rw (e, in-row i (row-start i) i (omega arith), le-ltb (suc i) (suc i) (omega arith))
+
+-- rows and columns from 0
+pub place-at : (i j : ℕ) → j ≤ i → placeOf (entriesTo i + j) ≡ (suc i, suc j)
+place-at i j h = in-row i (row-start i) j h
+
+-- each number is that of its place
+pub record Numbered (e : ℕ) (p : ℕ × ℕ) : Type 0 where
+  pub above : 1 ≤ p .1
+  pub within : p .1 ≤ p .0
+  pub number : numberOf (p .0) (p .1) ≡ e
+
+same-row : (i j e : ℕ) → 1 ≤ j → numberOf i j ≡ e → numberOf i (suc j) ≡ suc e
+unfolding numberOf
+same-row i j e h z = omega arith
+
+new-row : (i e : ℕ) → 1 ≤ i → numberOf i i ≡ e → numberOf (suc i) 1 ≡ suc e
+unfolding numberOf
+new-row i e h z =
+    let a : suc i - 1 ≡ i = omega arith in
+    let x : entriesTo i ≡ entriesTo (i - 1) + i = row-length i h in
+    rw a (omega arith)
+
+number-next : (e : ℕ) (p : ℕ × ℕ) → Numbered e p → Numbered (suc e) (nextPlace p)
+number-next e p h = go (ltb (p .1) (p .0)) refl
+  where
+    go : (b : Bool) → ltb (p .1) (p .0) ≡ b → Numbered (suc e) (cond b (p .0, suc (p .1)) (suc (p .0), 1))
+    go true z =
+        let w : p .1 < p .0 = ltb-true _ _ z in
+        record { above = omega arith; within = omega arith; number = same-row (p .0) (p .1) e (h .above) (h .number) }
+    go false z =
+        let w : p .0 ≤ p .1 = ltb-false _ _ z in
+        let u = h .above in
+        let o = h .within in
+        let d : p .1 ≡ p .0 = omega arith in
+        record { above = omega arith; within = omega arith; number = new-row (p .0) e (omega arith) (rw d at (h .number)) }
+
+pub numbered : (e : ℕ) → Numbered e (placeOf e)
+unfolding placeOf
+numbered zero = unfold numberOf entriesTo in (record { above = omega arith; within = omega arith; number = refl })
+numbered (suc e) = number-next e (placeOf e) (numbered e)

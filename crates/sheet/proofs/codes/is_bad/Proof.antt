@@ -1,0 +1,70 @@
+use Prim.Native.Nat.{_-_, _≤_}
+use mathlib.Core.Path.{_≡_}
+use mathlib.Core.Bool.{false}
+use native.Mathlib.Omega.{arith}
+use borrow.Author.Tests.{ne-eqb}
+use Rattle.systolic.proofs.Bounded.{any-none, any-more}
+use Rattle.sheet.proofs.Used.{usedBefore, code-zero, code-used, code-new}
+use Rattle.sheet.proofs.codes.is_bad.Statement.{statement}
+use Rattle.sheet.proofs.codes.is_bad.Tie as tie
+
+abbrev Inv-loop : tie.InvT-loop
+Inv-loop bytes first k code i₀ i = (i ≤ k) × (usedBefore bytes first k i ≡ false)
+
+abbrev μ-loop : tie.MeasureT-loop
+μ-loop bytes first k code i₀ i = k - i
+
+add-code : tie.Need-add-code Inv-loop μ-loop
+add-code c = omega arith
+
+shared-slice-read-code : tie.Need-shared-slice-read-code Inv-loop μ-loop
+shared-slice-read-code c = omega arith
+
+returns : tie.Need-returns Inv-loop μ-loop
+returns c = code-zero _ _ _ (c .if1 .taken)
+
+loop-holds : tie.Need-loop-holds Inv-loop μ-loop
+loop-holds c = (omega arith, any-none _)
+
+add-if2 : tie.Need-add-if2 Inv-loop μ-loop
+add-if2 c = omega arith
+
+shared-slice-read-if2 : tie.Need-shared-slice-read-if2 Inv-loop μ-loop
+shared-slice-read-if2 c = omega arith
+
+returns-2 : tie.Need-returns-2 Inv-loop μ-loop
+returns-2 c =
+    let k = c .before .before .before in
+    code-used _ _ _ (k .loop .i) (k .before .if1 .left) (omega arith) (c .if2 .taken)
+
+add-i : tie.Need-add-i Inv-loop μ-loop
+add-i c = omega arith
+
+loop-less : tie.Need-loop-less Inv-loop μ-loop
+loop-less c = omega arith
+
+loop-again : tie.Need-loop-again Inv-loop μ-loop
+loop-again c =
+    let k = c .before .before .before in
+    (omega arith, any-more _ _ (k .loop .inv .1) (ne-eqb _ _ (c .if2 .left)))
+
+returns-3 : tie.Need-returns-3 Inv-loop μ-loop
+returns-3 c = code-new _ _ _ _ (c .before .before .if1 .left) (c .before .loop .inv .1) (omega arith)
+
+pub is-bad-spec : {M : Type 1} → statement M
+is-bad-spec =
+    tie.close
+    (tie.spec
+    Inv-loop
+    μ-loop
+    add-code
+    shared-slice-read-code
+    returns
+    loop-holds
+    add-if2
+    shared-slice-read-if2
+    returns-2
+    add-i
+    loop-less
+    loop-again
+    returns-3)
