@@ -1,13 +1,13 @@
 -- What is known of a matrix whose entries are accepted. Assumes nothing.
-use Prim.Native.Nat.{ℕ, zero, suc, _*_, _≤_, _<_}
+use Prim.Native.Nat.{ℕ, zero, suc, _+_, _*_, _≤_, _<_}
 use mathlib.Core.Path.{_≡_, refl, sym, ap}
 use mathlib.Core.Bool.{Bool, true, false, cond, true≢false}
 use mathlib.Core.List.{List}
 use native.Mathlib.Omega.{arith}
-use borrow.Author.Tests.{eqb-true, ltb-true, ltb-false, lt-ltb}
+use borrow.Author.Tests.{eqb-true, eq-eqb, ltb-true, ltb-false, lt-ltb}
 use lib.Dec.{T, eqb, ltb}
 use lib.ListN.{length, getD}
-use lib.Ieee.{Float, nan, binary64, fits}
+use lib.Ieee.{Float, nan, binary64, fits, toBits}
 use Rattle.refusal.specs.Refusal.{Told, given, refused, told}
 use Rattle.refusal.specs.declared.Refusal.the-variants.{Length, NotFinite, NotMirrored}
 use Rattle.float64.specs.Values.{finite, sameBits}
@@ -15,6 +15,7 @@ use Rattle.float64.proofs.Patterns.{same-bits-same}
 use Rattle.matrix.specs.Matrix.{at}
 use Rattle.matrix.specs.Entries.{orElse, first, firstPlace, notFiniteAt, notMirroredAt, entriesOf}
 use Rattle.matrix.proofs.Same.{Line, Finite, Mirrored}
+use Rattle.matrix.proofs.First.{first-fine}
 
 abbrev isGiven : Told Unit → Bool
 isGiven (given x) = true
@@ -28,7 +29,8 @@ both-given : (x y : Told Unit) → orElse x y ≡ given tt → (x ≡ given tt) 
 both-given (given tt) y e = (refl, e)
 both-given (refused n values) y e = refused-given e
 
-each-given : (g : ℕ → Told Unit) (n : ℕ) → first n g ≡ given tt → (r : ℕ) → Line n r → g r ≡ given tt
+-- none of them is a refusal
+pub each-given : (g : ℕ → Told Unit) (n : ℕ) → first n g ≡ given tt → (r : ℕ) → Line n r → g r ≡ given tt
 unfolding first
 each-given g zero e r h = absurd (omega arith)
 each-given g (suc n) e r h = let w = both-given (first n g) (g (suc n)) e in go (ltb r (suc n)) refl w (λ k. each-given g n (w .0) r k)
@@ -37,7 +39,7 @@ each-given g (suc n) e r h = let w = both-given (first n g) (g (suc n)) e in go 
     go true z w below = let o : r < suc n = ltb-true _ _ z in below (h .0, omega arith)
     go false z w below = let o : suc n ≤ r = ltb-false _ _ z in let e : r ≡ suc n = omega (arith, h .1) in rw e (w .1)
 
-of-test : (b : Bool) (x : Told Unit) → (x ≡ given tt → b ≡ true) → cond b (given tt) x ≡ given tt → b ≡ true
+pub of-test : (b : Bool) (x : Told Unit) → (x ≡ given tt → b ≡ true) → cond b (given tt) x ≡ given tt → b ≡ true
 of-test true x f e = refl
 of-test false x f e = f e
 
@@ -75,3 +77,25 @@ module _ (n : ℕ) (l : List Float) (fitting : (k : ℕ) → T (fits binary64 (g
       go true b e f = above r c hr hc (ltb-true _ _ e)
       go false true e f = sym (above c r hc hr (ltb-true _ _ f))
       go false false e f = let w : c ≤ r = ltb-false _ _ e in let v : r ≤ c = ltb-false _ _ f in let z : r ≡ c = omega arith in rw z
+
+-- and the other way round
+pub accepted-if : (n : ℕ) (l : List Float) → length l ≡ n * n → Finite n (at n l) → Mirrored n (at n l) → entriesOf n l ≡ given tt
+unfolding entriesOf
+accepted-if n l long f m = rw (eq-eqb (length l) (n * n) long, all-finite, all-mirrored)
+  where
+    one-finite : (r c : ℕ) → Line n r → Line n c → notFiniteAt n l r c ≡ given tt
+    one-finite r c hr hc = unfold notFiniteAt in (rw (f r c hr hc))
+
+    all-finite : firstPlace n (notFiniteAt n l) ≡ given tt
+    all-finite = first-fine (λ r. first n (notFiniteAt n l r)) n (λ r h. first-fine (notFiniteAt n l (r + 1)) n (λ c k. one-finite (r + 1) (c + 1) (omega arith, omega arith) (omega arith, omega arith)))
+
+    mirrored : (r c : ℕ) → Line n r → Line n c → (b : Bool)
+        → _≡_ {A = Told Unit} (cond b (cond (sameBits (at n l r c) (at n l c r)) (given tt) (told (NotMirrored r c))) (given tt)) (given tt)
+    mirrored r c hr hc true = rw (m r c hr hc, eq-eqb (toBits binary64 (at n l c r)) (toBits binary64 (at n l c r)) refl)
+    mirrored r c hr hc false = refl
+
+    one-mirrored : (r c : ℕ) → Line n r → Line n c → notMirroredAt n l r c ≡ given tt
+    one-mirrored r c hr hc = unfold notMirroredAt in (mirrored r c hr hc (ltb r c))
+
+    all-mirrored : firstPlace n (notMirroredAt n l) ≡ given tt
+    all-mirrored = first-fine (λ r. first n (notMirroredAt n l r)) n (λ r h. first-fine (notMirroredAt n l (r + 1)) n (λ c k. one-mirrored (r + 1) (c + 1) (omega arith, omega arith) (omega arith, omega arith)))

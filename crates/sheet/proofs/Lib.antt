@@ -4,3 +4,4 @@ pub mod Used
 pub mod Stored
 pub mod Tables
 pub mod Written
+pub mod RoundTrip

@@ -11,6 +11,7 @@ use lib.Ieee.{Float, nan, binary64, ofBits}
 use Rattle.float64.specs.Values.{finite}
 use Rattle.refusal.specs.Refusal.{given, refused, told}
 use Rattle.refusal.specs.declared.Refusal.the-variants.{NotFinite}
+use Rattle.lists.proofs.Tabulated.{length-tabulate, getD-tabulate}
 use Rattle.lists.proofs.Filled.{Filled, filled-all}
 use Rattle.ordering.specs.Pairs.{limit}
 use Rattle.matrix.specs.Matrix.{flat}
@@ -58,6 +59,15 @@ module _ (b : List ℕ) where
   pub is-not-finite : (r c : ℕ) → finite (ofBits binary64 (patternIn b r c)) ≡ false → notFiniteIn b r c ≡ told (NotFinite r c)
   unfolding notFiniteIn
   is-not-finite r c e = rw e
+
+  -- ---- codes
+  pub codes-count : length (codesIn b) ≡ orderIn b
+  unfolding codesIn
+  codes-count = length-tabulate (orderIn b) _
+
+  pub code-at : (k : ℕ) → k < orderIn b → getD (codesIn b) k 0 ≡ getD b (2 + k) 0
+  unfolding codesIn
+  code-at k h = getD-tabulate (orderIn b) _ k 0 h
 
   -- ---- the whole of it
   pub codes-read : (k : ℕ) (l : List ℕ) → Filled 0 (λ k. getD b (2 + k) 0) (orderIn b) k l → orderIn b ≤ k → l ≡ codesIn b

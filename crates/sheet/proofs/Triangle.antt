@@ -48,6 +48,13 @@ rows-below i (suc n) h = go (ltb i n) refl (λ b. rows-below i n b)
     go true e f = let w = f (ltb-true _ _ e) in omega arith
     go false e f = let w : n ≤ i = ltb-false _ _ e in let z : i ≡ n = omega arith in rw z (omega arith)
 
+rows-grow : (a b : ℕ) → a ≤ b → entriesTo a ≤ entriesTo b
+rows-grow a b h = go (ltb a b) refl
+  where
+    go : (z : Bool) → ltb a b ≡ z → entriesTo a ≤ entriesTo b
+    go true e = let w = rows-below a b (ltb-true _ _ e) in omega arith
+    go false e = let w : b ≤ a = ltb-false _ _ e in let d : a ≡ b = omega arith in rw d (omega arith)
+
 pub number-below : (n r c : ℕ) → 1 ≤ c → c ≤ r → r ≤ n → numberOf r c < entriesTo n
 unfolding numberOf
 number-below n r c h k o = let w = rows-below (r - 1) n (omega arith) in omega arith
@@ -106,3 +113,25 @@ pub numbered : (e : ℕ) → Numbered e (placeOf e)
 unfolding placeOf
 numbered zero = unfold numberOf entriesTo in (record { above = omega arith; within = omega arith; number = refl })
 numbered (suc e) = number-next e (placeOf e) (numbered e)
+
+pub place-of-number : (i j : ℕ) → 1 ≤ j → j ≤ i → placeOf (numberOf i j) ≡ (i, j)
+unfolding numberOf
+place-of-number i j h k =
+    let a : suc (i - 1) ≡ i = omega arith in
+    let b : suc (j - 1) ≡ j = omega arith in
+    place-at (i - 1) (j - 1) (omega arith) ∙ rw (a, b)
+
+-- the first entries stand in the first rows
+pub place-within : (n e : ℕ) → e < entriesTo n → placeOf e .0 ≤ n
+place-within n e h = go (ltb n (placeOf e .0)) refl
+  where
+    p : Numbered e (placeOf e)
+    p = numbered e
+
+    go : (b : Bool) → ltb n (placeOf e .0) ≡ b → placeOf e .0 ≤ n
+    go true z =
+        let w : n < placeOf e .0 = ltb-true _ _ z in
+        let u : entriesTo n ≤ entriesTo (placeOf e .0 - 1) = rows-grow n (placeOf e .0 - 1) (omega arith) in
+        let v : entriesTo (placeOf e .0 - 1) + (placeOf e .1 - 1) ≡ e = unfold numberOf in (p .number) in
+        absurd (omega arith)
+    go false z = ltb-false _ _ z

@@ -1,13 +1,14 @@
 -- Codes that are zero or used before. Assumes nothing.
 use Prim.Native.Nat.{ℕ, _+_, _<_}
-use mathlib.Core.Path.{_≡_, sym}
-use mathlib.Core.Bool.{Bool, true, false}
+use mathlib.Core.Path.{_≡_, sym, ap}
+use mathlib.Core.Bool.{Bool, true, false, _||_}
 use mathlib.Core.List.{List}
+use native.Mathlib.Omega.{arith}
 use borrow.Author.Tests.{eq-eqb, ne-eqb}
 use lib.Dec.{eqb}
 use lib.ListN.{getD}
 use Rattle.systolic.specs.Slots.{any}
-use Rattle.systolic.proofs.Bounded.{any-hit}
+use Rattle.systolic.proofs.Bounded.{any-hit, any-within}
 use Rattle.sheet.specs.Calls.{badCode, badCodes}
 
 -- code k is one of the first i
@@ -35,3 +36,14 @@ module _ (b : List ℕ) (o n : ℕ) where
   pub none-bad : (k : ℕ) → any k (badCode b o) ≡ false → k ≡ n → false ≡ badCodes b o n
   unfolding badCodes
   none-bad k e z = sym (rw z at e)
+
+-- the same codes in two places
+pub codes-alike : (b b′ : List ℕ) (o o′ n : ℕ) → ((k : ℕ) → k < n → getD b (o + k) 0 ≡ getD b′ (o′ + k) 0) → badCodes b o n ≡ badCodes b′ o′ n
+unfolding badCodes
+codes-alike b b′ o o′ n e = any-within n n _ _ (omega arith) same (λ i a c. absurd (omega arith))
+  where
+    same : (k : ℕ) → k < n → badCode b o k ≡ badCode b′ o′ k
+    same k h = unfold badCode in
+        (rw (e k h)
+        (ap (λ (x : Bool). eqb (getD b′ (o′ + k) 0) 0 || x)
+        (any-within k k _ _ (omega arith) (λ i c. ap (λ (x : ℕ). eqb x (getD b′ (o′ + k) 0)) (e i (omega arith))) (λ i a c. absurd (omega arith)))))

@@ -66,21 +66,21 @@ bytes-long w o k l e = ap length e ∙ with-bytes-long w o k l
 
 -- ---- the bytes of a sheet, one after the other
 module _ (n sweeps : ℕ) (codes : List ℕ) (A : ℕ → ℕ → Float) where
-  byte-0 : n ≡ sheetByte n sweeps codes A 0
+  pub byte-0 : n ≡ sheetByte n sweeps codes A 0
   unfolding sheetByte
   byte-0 = refl
 
-  byte-1 : sweeps ≡ sheetByte n sweeps codes A 1
+  pub byte-1 : sweeps ≡ sheetByte n sweeps codes A 1
   unfolding sheetByte
   byte-1 = refl
 
-  byte-code : (k : ℕ) → k < n → getD codes k 0 ≡ sheetByte n sweeps codes A (2 + k)
+  pub byte-code : (k : ℕ) → k < n → getD codes k 0 ≡ sheetByte n sweeps codes A (2 + k)
   unfolding sheetByte
   byte-code k h =
       let e : 2 + k - 2 ≡ k = omega arith in
       rw (ne-eqb (2 + k) 0 (λ z. omega arith), ne-eqb (2 + k) 1 (λ z. omega arith), lt-ltb (2 + k) (2 + n) (omega arith), e)
 
-  byte-entry : (e k : ℕ) → k < 8 → byteOf (toBits binary64 (A (placeOf e .0) (placeOf e .1))) k ≡ sheetByte n sweeps codes A (entriesFrom n + 8 * e + k)
+  pub byte-entry : (e k : ℕ) → k < 8 → byteOf (toBits binary64 (A (placeOf e .0) (placeOf e .1))) k ≡ sheetByte n sweeps codes A (entriesFrom n + 8 * e + k)
   unfolding sheetByte
   byte-entry e k h =
       let x : (entriesFrom n + 8 * e + k - entriesFrom n) / 8 ≡ e = omega arith in

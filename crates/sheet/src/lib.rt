@@ -5,8 +5,8 @@ ghost use Rattle.sheet.specs.Calls.{readOutcome, toldReading, readOf, wr
 use refusal::Answer;
 use refusal::Refusal;
 
-mod bytes;
 mod codes;
+mod packing;
 mod reader;
 mod writer;
 

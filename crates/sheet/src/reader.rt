@@ -9,8 +9,8 @@ ghost use Rattle.ordering.specs.Pairs.{limit};
 ghost use Rattle.sheet.specs.Format.{sheetLength, orderIn, codesIn, patternIn, entryIn};
 ghost use Rattle.sheet.specs.Calls.{storedOf, readTold, readOutcome, toldReading, contentOf};
 use crate::Reading;
-use crate::bytes;
 use crate::codes;
+use crate::packing;
 use refusal::Answer;
 use refusal::Refusal;
 
@@ -65,7 +65,7 @@ fn pattern(n: usize, r: usize, c: usize, sheet: &[u8]) -> u64
     requires { ⌜ (n ≡ orderIn (now sheet)) × (n ≤ limit) × (length (now sheet) ≡ sheetLength n) × (1 ≤ c) × (c ≤ r) × (r ≤ n) ⌝ }
     ensures { λ x. ⌜ x ≡ patternIn (now (sheet .entry)) r c ⌝ }
 {
-    bytes::word_at(sheet, 2 + n + 8 * (r * (r - 1) / 2 + (c - 1)))
+    packing::word_at(sheet, 2 + n + 8 * (r * (r - 1) / 2 + (c - 1)))
 }
 
 // Reads a sheet that is not refused.

@@ -8,8 +8,8 @@ ghost use Rattle.ordering.specs.Pairs.{limit};
 ghost use Rattle.sheet.specs.Format.{sheetLength, entriesTo};
 ghost use Rattle.sheet.specs.Steps.{withCodes, withEntries};
 ghost use Rattle.sheet.specs.Calls.{writeTold, writeOutcome, writtenOver};
-use crate::bytes;
 use crate::codes;
+use crate::packing;
 use refusal::Answer;
 use refusal::Refusal;
 
@@ -79,7 +79,7 @@ fn write_entries(n: usize, matrix: &[f64], sheet: &mut [u8])
     for i in 0..n {
         for j in 0..i + 1 {
             let bits = float64::to_bits(matrix::entry(n, i + 1, j + 1, matrix));
-            bytes::put_word(bits, offset, sheet);
+            packing::put_word(bits, offset, sheet);
             offset += 8;
         }
     }

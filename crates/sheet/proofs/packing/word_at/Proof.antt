@@ -4,8 +4,8 @@ use native.Mathlib.Omega.{arith}
 use lib.Dec.{lit<}
 use Rattle.sheet.specs.Format.{wordFrom}
 use Rattle.sheet.proofs.Words.{word-none, word-next, word-grows, word-room}
-use Rattle.sheet.proofs.bytes.word_at.Statement.{statement}
-use Rattle.sheet.proofs.bytes.word_at.Tie as tie
+use Rattle.sheet.proofs.packing.word_at.Statement.{statement}
+use Rattle.sheet.proofs.packing.word_at.Tie as tie
 
 abbrev Inv-loop : tie.InvT-loop
 Inv-loop bytes at word₀ k₀ word k = (k ≤ 8) × (word < 256 ^ k) × (word ≡ wordFrom bytes at k)

@@ -2,8 +2,8 @@ use native.Mathlib.Omega.{arith}
 use lib.ListN.{length-set}
 use Rattle.sheet.proofs.Words.{word-put}
 use borrow.Author.Needs.{needs}
-use Rattle.sheet.proofs.bytes.put_word.Statement.{statement}
-use Rattle.sheet.proofs.bytes.put_word.Tie as tie
+use Rattle.sheet.proofs.packing.put_word.Statement.{statement}
+use Rattle.sheet.proofs.packing.put_word.Tie as tie
 
 cast-bytes : tie.Need-cast-bytes
 cast-bytes c = search needs

@@ -1,0 +1,238 @@
+#!/usr/bin/env python3
+"""The listing program of document 01, "The printed sheet", and samples of what it prints. Run it as
+
+    python3 tools/listing_vectors.py < SHEET
+    python3 tools/listing_vectors.py --samples FOLDER
+
+The first prints the sheet on standard input. The second writes sample sheets into the folder, as NAME.sheet,
+and what is printed of each beside it, as NAME.print. Names begin with a number, in whose order the samples
+are made.
+
+The sheet is all of standard input. It is read by sheet_vectors.py, and the run is the plain run of
+plain_vectors.py, which the array's run agrees with in every bit. The ticks are 3 K + N. Before samples are
+written, those of small orders are held against the array of array_vectors.py.
+"""
+import argparse
+import pathlib
+import random
+import sys
+
+sys.dont_write_bytecode = True  # the imports below leave no file
+import array_vectors as array
+import plain_vectors as plain
+import sheet_vectors as sheets
+
+# As document 01 prints its example.
+EXAMPLE_PRINT = """\
+2 1 4
+7 0000000000000000 3FE6A09E667F3BCC BFE6A09E667F3BCC
+9 4000000000000000 3FE6A09E667F3BCC 3FE6A09E667F3BCC
+"""
+
+
+# The listing.
+
+
+def run_of(sheet):
+    """The run that a sheet asks for, or the number of its refusal."""
+    reading = sheets.read(sheets.whole_reading(sheet))
+    if reading.number is not None:
+        return None, reading.number
+    return plain.case_of(reading.n, reading.sweeps, reading.matrix), None
+
+
+def fields(*words):
+    return " ".join(map(str, words)) + "\n"
+
+
+def bits(pattern):
+    return f"{pattern:016X}"
+
+
+def line_of(n, code, k, outcome):
+    """What is printed of the line k, from 0."""
+    column = outcome.vectors[k :: n]
+    return fields(code, bits(outcome.result[k * n + k]), *map(bits, column))
+
+
+def listing(sheet):
+    """What is printed of a sheet."""
+    run, number = run_of(sheet)
+    if number is not None:
+        return fields("refused", number)
+    outcome = plain.outcome_of(run)
+    if outcome.number is not None:
+        return fields("refused", outcome.number)
+    n, sweeps = run.n, run.sweeps
+    ticks = 3 * sweeps * (n - 1) + n // 2
+    codes = sheet[2 : 2 + n]
+    lines = [line_of(n, code, k, outcome) for k, code in enumerate(codes)]
+    return fields(n, sweeps, ticks) + "".join(lines)
+
+
+# The samples, each with the number of its refusal, or None, and a word for its kind.
+
+
+def sheet_of(rng, n, sweeps, kind):
+    """The sheet of a matrix of plain_vectors.py."""
+    matrix = kind(rng, n, sweeps)
+    return sheets.write(sheets.whole_writing(n, sweeps, sheets.some_codes(rng, n), matrix)).sheet
+
+
+def amount(n):
+    """How many sheets an order gets."""
+    return 6 if n <= 8 else 3 if n <= 16 else 2
+
+
+def whole_sheets(rng):
+    """Sheets of every order and number of sweeps whose runs stay finite."""
+    kinds = [kind for kind in dict.fromkeys(plain.KINDS) if kind not in plain.MAY_SPOIL]
+    k = 0
+    for n in range(2, 33, 2):
+        for _ in range(amount(n)):
+            kind, sweeps = kinds[k % len(kinds)], k * 3 % 17
+            yield None, kind.__name__, sheet_of(rng, n, sweeps, kind)
+            k += 1
+
+
+def spoiled_sheets(rng):
+    """Sheets whose runs are spoiled, in the first step or later."""
+    kinds = [plain.spoiled_by_sum, plain.spoiled_by_nan, plain.spoiled_by_turn, plain.spoiled_late]
+    sizes = [(2, 1, 2), (4, 1, 4), (6, 3, 4), (16, 2, 4), (32, 1, 4)]  # n, sweeps, how many of the kinds
+    for n, sweeps, count in sizes:
+        for kind in kinds[:count]:
+            yield 8, kind.__name__, sheet_of(rng, n, sweeps, kind)
+    largest = [plain.LARGEST] * 3
+    yield 8, "largest", sheets.put_together(2, 1, bytes([1, 2]), largest)
+
+
+def wrong_lengths(rng):
+    """Sheets cut and lengthened, also beyond the length of any sheet."""
+    small, large = sheet_of(rng, 2, 1, plain.ordinary), sheet_of(rng, 32, 1, plain.ordinary)
+    yield 3, "empty", b""
+    yield 3, "one_byte", small[:1]
+    yield 3, "head_only", small[:2]
+    yield 3, "cut", small[:-1]
+    yield 3, "newline_added", small + b"\n"
+    yield 3, "twice", small + small
+    yield 3, "cut", large[:-1]
+    yield 3, "half", large[: len(large) // 2]
+    yield 3, "byte_added", large + b"\0"
+    yield 3, "many_added", large + rng.randbytes(20000)
+    yield 3, "many_added", small + rng.randbytes(20000)
+
+
+def wrong_sizes(rng):
+    """Sheets with another first or second byte."""
+    sheet = sheet_of(rng, 4, 1, plain.ordinary)
+    for n in (0, 1, 3, 5, 31, 33, 34, 255):
+        yield 1, "order", bytes([n]) + sheet[1:]
+    for n in (2, 6, 32):
+        yield 3, "other_order", bytes([n]) + sheet[1:]
+    for sweeps in (17, 18, 255):
+        yield 2, "sweeps", bytes([4, sweeps]) + sheet[2:]
+    yield 1, "order_and_sweeps", bytes([3, 17])
+    yield 2, "sweeps_and_length", bytes([2, 17])
+    yield 1, "text", listing(sheets.EXAMPLE).encode("ascii")
+
+
+def wrong_codes(rng):
+    for codes in [bytes([0, 1]), bytes([1, 0]), bytes([255, 255]), bytes([3, 1, 2, 3])]:
+        n = len(codes)
+        sheet = sheet_of(rng, n, 1, plain.ordinary)
+        yield 4, "codes", sheet[:2] + codes + sheet[2 + n :]
+
+
+def wrong_entries(rng):
+    """Sheets with entries that are not finite, one of them with a repeated code too."""
+    sheet = sheet_of(rng, 4, 1, plain.ordinary)
+    places = sheets.stored_places(4)
+    for place, pattern in zip(places, sheets.NOT_FINITE):
+        yield 5, "entry", sheets.with_entries(4, sheet, {place: pattern})
+    both = sheets.with_entries(4, sheet, {(4, 4): plain.NAN})
+    yield 4, "code_and_entry", both[:2] + bytes([5, 5]) + both[4:]
+
+
+def samples(rng):
+    """The samples: a name, the sheet, and what is printed of it."""
+    made = [(None, "example", sheets.EXAMPLE)]
+    for group in (whole_sheets, spoiled_sheets, wrong_lengths, wrong_sizes, wrong_codes, wrong_entries):
+        made += group(rng)
+    found = []
+    for k, (number, word, sheet) in enumerate(made):
+        printed = listing(sheet)
+        assert number_in(printed) == number, word
+        found.append((f"{k:03d}_{word}", sheet, printed))
+    return found
+
+
+def number_in(printed):
+    """The number of the refusal in a print."""
+    return int(printed.split()[1]) if printed.startswith("refused") else None
+
+
+# What is checked before anything is written.
+
+
+def check_example():
+    assert listing(sheets.EXAMPLE) == EXAMPLE_PRINT
+
+
+def check_by_array(sheet, printed):
+    """Holds a sample against the array's run: its ticks and its answer."""
+    run, number = run_of(sheet)
+    if number is not None or run.n > 8:
+        return
+    outcome, ticks = array.agreed(run)
+    told = str(ticks) if outcome.number is None else str(outcome.number)
+    assert printed.split("\n")[0].split(" ")[-1] == told
+
+
+def check_form(sheet, printed):
+    """The lines and fields of a print, each parted by one space and each line ended by a newline."""
+    if number_in(printed) is not None:
+        assert printed == f"refused {number_in(printed)}\n"
+        return
+    *lines, rest = printed.split("\n")
+    assert rest == "" and all(len(line.split(" ")) == len(line.split()) for line in lines)
+    n = sheet[0]
+    assert len(lines) == 1 + n and all(len(line.split(" ")) == 2 + n for line in lines[1:])
+    assert [int(line.split(" ")[0]) for line in lines[1:]] == list(sheet[2 : 2 + n])
+
+
+def check_variety(made):
+    """Enough sheets, of every order and number of sweeps, and every refusal that a listing can print."""
+    accepted = [sheet[:2] for _, sheet, printed in made if number_in(printed) is None]
+    assert {n for n, _ in accepted} == set(range(2, 33, 2))
+    assert {sweeps for _, sweeps in accepted} == set(range(17))
+    numbers = [number_in(printed) for _, _, printed in made]
+    assert set(numbers) == {None, 1, 2, 3, 4, 5, 8}
+    assert len(made) >= 60
+    print(f"{len(made)} sheets by the number of the refusal: {sheets.told(numbers)}")
+
+
+def write_samples(folder):
+    made = samples(random.Random(1979))
+    for _, sheet, printed in made:
+        check_form(sheet, printed)
+        check_by_array(sheet, printed)
+    check_variety(made)
+    folder.mkdir(parents=True, exist_ok=True)
+    for name, sheet, printed in made:
+        (folder / f"{name}.sheet").write_bytes(sheet)
+        (folder / f"{name}.print").write_text(printed, encoding="ascii")
+
+
+def main():
+    options = argparse.ArgumentParser(description="Prints the sheet on standard input.")
+    options.add_argument("--samples", metavar="FOLDER", type=pathlib.Path, help="write samples instead")
+    folder = options.parse_args().samples
+    check_example()
+    if folder:
+        write_samples(folder)
+    else:
+        sys.stdout.write(listing(sys.stdin.buffer.read()))
+
+
+if __name__ == "__main__":
+    main()
