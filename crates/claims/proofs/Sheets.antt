@@ -4,4 +4,10 @@ use Rattle.sheet.proofs.RoundTrip as sheets
 use Rattle.claims.specs.Sheets.{SheetsKept}
 
 pub sheets-kept : SheetsKept
-sheets-kept = record { written-is-read-back = sheets.read-back; accepted-is-written-again = sheets.write-back; lengths-as-stated = (refl, refl) }
+sheets-kept =
+    record {
+      written-is-read-back = sheets.read-back;
+      accepted-is-written-again = sheets.write-back;
+      one-content-a-sheet = sheets.same-sheet;
+      lengths-as-stated = (refl, refl);
+    }

@@ -7,7 +7,7 @@ use lib.Ieee.{Float}
 use Rattle.refusal.specs.Refusal.{given}
 use Rattle.matrix.specs.Matrix.{at, flat}
 use Rattle.sheet.specs.Format.{sheetLength, sheetOf, orderIn, sweepsIn, codesIn, entryIn}
-use Rattle.sheet.specs.Calls.{readTold, readOutcome, readOf, writeTold, writeOutcome, writeOf}
+use Rattle.sheet.specs.Calls.{readTold, readOutcome, readOf, writeTold, writeOutcome, writeOf, SameContent}
 use Rattle.claims.specs.Histories.{Binary64}
 
 -- Every number is a byte's, as those of a lent slice are.
@@ -26,6 +26,12 @@ AcceptedIsWrittenAgain =
     (b : List ℕ) → Bytes b → (codes matrix : ℕ) → readTold b codes matrix ≡ given tt → (lent : List ℕ) → length b ≤ length lent
     → writeOf (orderIn b) (sweepsIn b) (codesIn b) (flat (orderIn b) (entryIn b)) lent ≡ writeOutcome (given tt) (b ++ drop (length b) lent)
 
+-- Two different accepted contents have different sheets.
+abbrev pub OneContentASheet : Type 0
+OneContentASheet =
+    (n n′ sweeps sweeps′ : ℕ) (codes codes′ : List ℕ) (l l′ : List Float) (lent lent′ : ℕ) → Binary64 l → Binary64 l′ → writeTold n sweeps codes l lent ≡ given tt
+    → writeTold n′ sweeps′ codes′ l′ lent′ ≡ given tt → sheetOf n sweeps codes (at n l) ≡ sheetOf n′ sweeps′ codes′ (at n′ l′) → SameContent n n′ sweeps sweeps′ codes codes′ l l′
+
 -- 28 bytes for n = 2, 4,258 for n = 32.
 abbrev pub LengthsAsStated : Type 0
 LengthsAsStated = (sheetLength 2 ≡ 28) × (sheetLength 32 ≡ 4258)
@@ -33,4 +39,5 @@ LengthsAsStated = (sheetLength 2 ≡ 28) × (sheetLength 32 ≡ 4258)
 pub record SheetsKept : Type 0 where
   pub written-is-read-back : WrittenIsReadBack
   pub accepted-is-written-again : AcceptedIsWrittenAgain
+  pub one-content-a-sheet : OneContentASheet
   pub lengths-as-stated : LengthsAsStated

@@ -22,7 +22,7 @@ use Rattle.matrix.proofs.First.{first-fine}
 use Rattle.matrix.proofs.Accepted.{refused-given, each-given, of-test, accepted-finite, accepted-mirrored, accepted-if}
 use Rattle.matrix.proofs.Flat.{flat-length}
 use Rattle.sheet.specs.Format.{sheetLength, entriesFrom, placeOf, entriesTo, numberOf, byteOf, wordFrom, sheetByte, sheetOf, orderIn, sweepsIn, codesIn, patternIn, entryIn}
-use Rattle.sheet.specs.Calls.{badCodes, notFiniteIn, storedOf, readTold, readOutcome, contentOf, readOf, writeTold, writeOutcome, writtenOver, writeOf}
+use Rattle.sheet.specs.Calls.{badCodes, notFiniteIn, storedOf, readTold, readOutcome, contentOf, readOf, writeTold, writeOutcome, writtenOver, writeOf, SameContent}
 use Rattle.sheet.proofs.Words.{word-whole, word-small, byte-back}
 use Rattle.sheet.proofs.Triangle.{length-is, number-below, numbered, place-within, place-of-number}
 use Rattle.sheet.proofs.Used.{codes-alike}
@@ -252,12 +252,6 @@ write-back b small lc lm e lent o =
         ∙ ap (λ (x : ℕ). b ++ drop x lent) (sym (r .sheet-long)))
 
 -- Two accepted contents with the same sheet are one.
-pub record SameContent (n n′ sweeps sweeps′ : ℕ) (codes codes′ : List ℕ) (l l′ : List Float) : Type 0 where
-  pub orders : n ≡ n′
-  pub sweep-counts : sweeps ≡ sweeps′
-  pub code-lists : codes ≡ codes′
-  pub matrices : l ≡ l′
-
 module _ (n n′ sweeps sweeps′ : ℕ) (codes codes′ : List ℕ) (l l′ : List Float) (lb lb′ : ℕ) (fitting : (k : ℕ) → T (fits binary64 (getD l k nan))) (fitting′ : (k : ℕ) → T (fits binary64 (getD l′ k nan)))
     (accepted : writeTold n sweeps codes l lb ≡ given tt) (accepted′ : writeTold n′ sweeps′ codes′ l′ lb′ ≡ given tt) where
   pub same-sheet : sheetOf n sweeps codes (at n l) ≡ sheetOf n′ sweeps′ codes′ (at n′ l′) → SameContent n n′ sweeps sweeps′ codes codes′ l l′

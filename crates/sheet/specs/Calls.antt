@@ -1,5 +1,6 @@
 -- Document 01, "Refused, by place": what the reader and the writer answer and leave. Definitions only.
 use Prim.Native.Nat.{ℕ, _+_, _*_}
+use mathlib.Core.Path.{_≡_}
 use mathlib.Core.Bool.{Bool, cond, _||_, _&&_}
 use mathlib.Core.List.{List, _++_}
 use lib.Dec.{eqb, ltb}
@@ -96,3 +97,10 @@ keptOr (refused k values) new old = old
 unfoldable pub writeOf : ℕ → ℕ → List ℕ → List Float → List ℕ → WriteOutcome
 writeOf n sweeps codes l b =
     let a = writeTold n sweeps codes l (length b) in writeOutcome a (keptOr a (writtenOver n sweeps codes l b) b)
+
+-- Two contents of a sheet are one.
+pub record SameContent (n n′ sweeps sweeps′ : ℕ) (codes codes′ : List ℕ) (l l′ : List Float) : Type 0 where
+  pub orders : n ≡ n′
+  pub sweep-counts : sweeps ≡ sweeps′
+  pub code-lists : codes ≡ codes′
+  pub matrices : l ≡ l′
