@@ -2,11 +2,11 @@
 """The listing program of document 01, "The printed sheet", and samples of what it prints. Run it as
 
     python3 tools/listing_vectors.py < SHEET
-    python3 tools/listing_vectors.py --samples FOLDER
+    python3 tools/listing_vectors.py --samples FOLDER [--seed NUMBER]
 
 The first prints the sheet on standard input. The second writes sample sheets into the folder, as NAME.sheet,
 and what is printed of each beside it, as NAME.print. Names begin with a number, in whose order the samples
-are made.
+are made. Those in samples/ have the seed that is taken where none is given.
 
 The sheet is all of standard input. It is read by sheet_vectors.py, and the run is the plain run of
 plain_vectors.py, which the array's run agrees with in every bit. The ticks are 3 K + N. Before samples are
@@ -211,8 +211,8 @@ def check_variety(made):
     print(f"{len(made)} sheets by the number of the refusal: {sheets.told(numbers)}")
 
 
-def write_samples(folder):
-    made = samples(random.Random(1979))
+def write_samples(folder, seed):
+    made = samples(random.Random(seed))
     for _, sheet, printed in made:
         check_form(sheet, printed)
         check_by_array(sheet, printed)
@@ -226,10 +226,11 @@ def write_samples(folder):
 def main():
     options = argparse.ArgumentParser(description="Prints the sheet on standard input.")
     options.add_argument("--samples", metavar="FOLDER", type=pathlib.Path, help="write samples instead")
-    folder = options.parse_args().samples
+    options.add_argument("--seed", metavar="NUMBER", type=int, default=1979, help="the seed of the samples")
+    given = options.parse_args()
     check_example()
-    if folder:
-        write_samples(folder)
+    if given.samples:
+        write_samples(given.samples, given.seed)
     else:
         sys.stdout.write(listing(sys.stdin.buffer.read()))
 
