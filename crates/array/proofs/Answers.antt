@@ -21,16 +21,16 @@ module _ (n sweeps t : ℕ) where
   module _ (order : noOrder n ≡ false) where
     pub refused-2 : mostSweeps < sweeps → told Sweeps ≡ progressOf n sweeps t
     unfolding progressOf
-    refused-2 h = rw (order, lt-ltb 16 sweeps h)
+    refused-2 h = rw (order, lt-ltb mostSweeps sweeps h)
 
     module _ (few : sweeps ≤ mostSweeps) where
       pub is-made : t < ticksOf n sweeps → given made ≡ progressOf n sweeps t
       unfolding progressOf
-      is-made h = rw (order, le-ltb 16 sweeps few, lt-ltb t (ticksOf n sweeps) h)
+      is-made h = rw (order, le-ltb mostSweeps sweeps few, lt-ltb t (ticksOf n sweeps) h)
 
       pub is-stopped : ticksOf n sweeps ≤ t → given stopped ≡ progressOf n sweeps t
       unfolding progressOf
-      is-stopped h = rw (order, le-ltb 16 sweeps few, le-ltb t (ticksOf n sweeps) h)
+      is-stopped h = rw (order, le-ltb mostSweeps sweeps few, le-ltb t (ticksOf n sweeps) h)
 
       -- the number of steps is small
       pub few-steps : sweeps * (n - 1) ≤ mostSweeps * limit
@@ -67,5 +67,5 @@ made-means n sweeps t e = go (noOrder n) (ltb mostSweeps sweeps) (ltb t (ticksOf
         → cond a (told Order) (cond b (told Sweeps) (cond c (given made) (given stopped))) ≡ given made → Means n sweeps t
     go true b c x y z e = differ _ refl e
     go false true c x y z e = differ _ refl e
-    go false false true x y z e = record { order = x; few = ltb-false 16 sweeps y; before-end = ltb-true _ _ z }
+    go false false true x y z e = record { order = x; few = ltb-false mostSweeps sweeps y; before-end = ltb-true _ _ z }
     go false false false x y z e = differ _ refl e

@@ -46,7 +46,7 @@ begins n sweeps l lr lv e = go (noOrder n) (ltb mostSweeps sweeps) (eqb lr (n * 
     go false false false d x y z w e = refused-given e
     go false false true false x y z w e = refused-given e
     go false false true true x y z w e =
-        record { order = x; few = ltb-false 16 sweeps y; result-long = eqb-true _ _ z; vectors-long = eqb-true _ _ w; entries = e }
+        record { order = x; few = ltb-false mostSweeps sweeps y; result-long = eqb-true _ _ z; vectors-long = eqb-true _ _ w; entries = e }
 
 pub order-above : (n : ℕ) → noOrder n ≡ false → 2 ≤ n
 order-above n e = order-is n e .1

@@ -20,17 +20,17 @@ module _ (n sweeps : ℕ) (l : List Float) (lr lv : ℕ) where
   module _ (order : noOrder n ≡ false) where
     pub refused-2 : mostSweeps < sweeps → told Sweeps ≡ beforeRun n sweeps l lr lv
     unfolding beforeRun
-    refused-2 h = rw (order, lt-ltb 16 sweeps h)
+    refused-2 h = rw (order, lt-ltb mostSweeps sweeps h)
 
     module _ (few : sweeps ≤ mostSweeps) where
       pub refused-3 : eqb lr (n * n) ≡ false → told Length ≡ beforeRun n sweeps l lr lv
       unfolding beforeRun
-      refused-3 e = rw (order, le-ltb 16 sweeps few, e)
+      refused-3 e = rw (order, le-ltb mostSweeps sweeps few, e)
 
       pub refused-3-too : eqb lr (n * n) ≡ true → eqb lv (n * n) ≡ false → told Length ≡ beforeRun n sweeps l lr lv
       unfolding beforeRun
-      refused-3-too e f = rw (order, le-ltb 16 sweeps few, e, f)
+      refused-3-too e f = rw (order, le-ltb mostSweeps sweeps few, e, f)
 
       pub by-entries : {a : Told Unit} → eqb lr (n * n) ≡ true → eqb lv (n * n) ≡ true → a ≡ entriesOf n l → a ≡ beforeRun n sweeps l lr lv
       unfolding beforeRun
-      by-entries e f z = rw (order, le-ltb 16 sweeps few, e, f) z
+      by-entries e f z = rw (order, le-ltb mostSweeps sweeps few, e, f) z

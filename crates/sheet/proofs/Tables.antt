@@ -30,34 +30,34 @@ module _ (b : List ℕ) (lc lm : ℕ) where
     module _ (order : noOrder (orderIn b) ≡ false) where
       pub read-2 : mostSweeps < sweepsIn b → told Sweeps ≡ readTold b lc lm
       unfolding readTold
-      read-2 h = rw (le-ltb (length b) 2 head, order, lt-ltb 16 (sweepsIn b) h)
+      read-2 h = rw (le-ltb (length b) 2 head, order, lt-ltb mostSweeps (sweepsIn b) h)
 
       module _ (few : sweepsIn b ≤ mostSweeps) where
         pub codes-length : ¬ (lc ≡ orderIn b) → told Length ≡ readTold b lc lm
         unfolding readTold
-        codes-length e = rw (le-ltb (length b) 2 head, order, le-ltb 16 (sweepsIn b) few, ne-eqb lc (orderIn b) e)
+        codes-length e = rw (le-ltb (length b) 2 head, order, le-ltb mostSweeps (sweepsIn b) few, ne-eqb lc (orderIn b) e)
 
         module _ (codes-long : lc ≡ orderIn b) where
           pub matrix-length : ¬ (lm ≡ orderIn b * orderIn b) → told Length ≡ readTold b lc lm
           unfolding readTold
-          matrix-length e = rw (le-ltb (length b) 2 head, order, le-ltb 16 (sweepsIn b) few, eq-eqb lc (orderIn b) codes-long, ne-eqb lm (orderIn b * orderIn b) e)
+          matrix-length e = rw (le-ltb (length b) 2 head, order, le-ltb mostSweeps (sweepsIn b) few, eq-eqb lc (orderIn b) codes-long, ne-eqb lm (orderIn b * orderIn b) e)
 
           module _ (matrix-long : lm ≡ orderIn b * orderIn b) where
             pub sheet-length : ¬ (length b ≡ sheetLength (orderIn b)) → told Length ≡ readTold b lc lm
             unfolding readTold
             sheet-length e =
-                rw (le-ltb (length b) 2 head, order, le-ltb 16 (sweepsIn b) few, eq-eqb lc (orderIn b) codes-long, eq-eqb lm (orderIn b * orderIn b) matrix-long, ne-eqb (length b) (sheetLength (orderIn b)) e)
+                rw (le-ltb (length b) 2 head, order, le-ltb mostSweeps (sweepsIn b) few, eq-eqb lc (orderIn b) codes-long, eq-eqb lm (orderIn b * orderIn b) matrix-long, ne-eqb (length b) (sheetLength (orderIn b)) e)
 
             module _ (sheet-long : length b ≡ sheetLength (orderIn b)) where
               pub read-4 : badCodes b 2 (orderIn b) ≡ true → told Code ≡ readTold b lc lm
               unfolding readTold
               read-4 e =
-                  rw (le-ltb (length b) 2 head, order, le-ltb 16 (sweepsIn b) few, eq-eqb lc (orderIn b) codes-long, eq-eqb lm (orderIn b * orderIn b) matrix-long, eq-eqb (length b) (sheetLength (orderIn b)) sheet-long, e)
+                  rw (le-ltb (length b) 2 head, order, le-ltb mostSweeps (sweepsIn b) few, eq-eqb lc (orderIn b) codes-long, eq-eqb lm (orderIn b * orderIn b) matrix-long, eq-eqb (length b) (sheetLength (orderIn b)) sheet-long, e)
 
               pub read-5 : {a : Told Unit} → badCodes b 2 (orderIn b) ≡ false → a ≡ storedOf b → a ≡ readTold b lc lm
               unfolding readTold
               read-5 e f =
-                  rw (le-ltb (length b) 2 head, order, le-ltb 16 (sweepsIn b) few, eq-eqb lc (orderIn b) codes-long, eq-eqb lm (orderIn b * orderIn b) matrix-long, eq-eqb (length b) (sheetLength (orderIn b)) sheet-long, e)
+                  rw (le-ltb (length b) 2 head, order, le-ltb mostSweeps (sweepsIn b) few, eq-eqb lc (orderIn b) codes-long, eq-eqb lm (orderIn b * orderIn b) matrix-long, eq-eqb (length b) (sheetLength (orderIn b)) sheet-long, e)
                   f
 
 -- what is known of a sheet that is accepted
@@ -91,7 +91,7 @@ readable b lc lm e =
         record {
           head = ltb-false _ _ a;
           order = b′;
-          few = ltb-false 16 (sweepsIn b) c;
+          few = ltb-false mostSweeps (sweepsIn b) c;
           codes-long = eqb-true _ _ d;
           matrix-long = eqb-true _ _ f;
           sheet-long = eqb-true _ _ g;
@@ -108,35 +108,35 @@ module _ (n sweeps : ℕ) (codes : List ℕ) (l : List Float) (lb : ℕ) where
   module _ (order : noOrder n ≡ false) where
     pub write-2 : mostSweeps < sweeps → told Sweeps ≡ writeTold n sweeps codes l lb
     unfolding writeTold
-    write-2 h = rw (order, lt-ltb 16 sweeps h)
+    write-2 h = rw (order, lt-ltb mostSweeps sweeps h)
 
     module _ (few : sweeps ≤ mostSweeps) where
       pub write-3 : ¬ (length codes ≡ n) → told Length ≡ writeTold n sweeps codes l lb
       unfolding writeTold
-      write-3 e = rw (order, le-ltb 16 sweeps few, ne-eqb (length codes) n e)
+      write-3 e = rw (order, le-ltb mostSweeps sweeps few, ne-eqb (length codes) n e)
 
       module _ (codes-long : length codes ≡ n) where
         pub write-3-too : ¬ (length l ≡ n * n) → told Length ≡ writeTold n sweeps codes l lb
         unfolding writeTold
-        write-3-too e = rw (order, le-ltb 16 sweeps few, eq-eqb (length codes) n codes-long, ne-eqb (length l) (n * n) e)
+        write-3-too e = rw (order, le-ltb mostSweeps sweeps few, eq-eqb (length codes) n codes-long, ne-eqb (length l) (n * n) e)
 
         module _ (matrix-long : length l ≡ n * n) where
           pub write-4 : badCodes codes 0 n ≡ true → told Code ≡ writeTold n sweeps codes l lb
           unfolding writeTold
-          write-4 e = rw (order, le-ltb 16 sweeps few, eq-eqb (length codes) n codes-long, eq-eqb (length l) (n * n) matrix-long, e)
+          write-4 e = rw (order, le-ltb mostSweeps sweeps few, eq-eqb (length codes) n codes-long, eq-eqb (length l) (n * n) matrix-long, e)
 
           module _ (good : badCodes codes 0 n ≡ false) where
             pub write-5-6 : {k : ℕ} {values : List ℕ} → refused k values ≡ entriesOf n l → refused k values ≡ writeTold n sweeps codes l lb
             unfolding writeTold
-            write-5-6 e = rw (order, le-ltb 16 sweeps few, eq-eqb (length codes) n codes-long, eq-eqb (length l) (n * n) matrix-long, good, ← e)
+            write-5-6 e = rw (order, le-ltb mostSweeps sweeps few, eq-eqb (length codes) n codes-long, eq-eqb (length l) (n * n) matrix-long, good, ← e)
 
             pub write-7 : given tt ≡ entriesOf n l → lb < sheetLength n → told TooShort ≡ writeTold n sweeps codes l lb
             unfolding writeTold
-            write-7 e h = rw (order, le-ltb 16 sweeps few, eq-eqb (length codes) n codes-long, eq-eqb (length l) (n * n) matrix-long, good, ← e, lt-ltb lb (sheetLength n) h)
+            write-7 e h = rw (order, le-ltb mostSweeps sweeps few, eq-eqb (length codes) n codes-long, eq-eqb (length l) (n * n) matrix-long, good, ← e, lt-ltb lb (sheetLength n) h)
 
             pub write-all : given tt ≡ entriesOf n l → sheetLength n ≤ lb → given tt ≡ writeTold n sweeps codes l lb
             unfolding writeTold
-            write-all e h = rw (order, le-ltb 16 sweeps few, eq-eqb (length codes) n codes-long, eq-eqb (length l) (n * n) matrix-long, good, ← e, le-ltb lb (sheetLength n) h)
+            write-all e h = rw (order, le-ltb mostSweeps sweeps few, eq-eqb (length codes) n codes-long, eq-eqb (length l) (n * n) matrix-long, good, ← e, le-ltb lb (sheetLength n) h)
 
 pub record Writable (n sweeps : ℕ) (codes : List ℕ) (l : List Float) (lb : ℕ) : Type 0 where
   pub order : noOrder n ≡ false
@@ -165,7 +165,7 @@ writable n sweeps codes l lb e =
     go false false true true false (given x) false a b c d f g h e =
         record {
           order = a;
-          few = ltb-false 16 sweeps b;
+          few = ltb-false mostSweeps sweeps b;
           codes-long = eqb-true _ _ c;
           matrix-long = eqb-true _ _ d;
           codes-good = f;
