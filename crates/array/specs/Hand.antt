@@ -53,7 +53,7 @@ firstMade last t = cond (ltb t last) (given made) (given stopped)
 abbrev pub LineOf : ℕ → ℕ → Type 0
 LineOf n r = (1 ≤ r) × (r ≤ n)
 
--- The plain run stays finite, and its two final matrices are in the cells.
+-- The two final matrices of the plain run are in the cells, each entry at its row and column, and no tile is marked.
 pub record Agrees (n sweeps : ℕ) (l : List Float) (x : Array) : Type 0 where
   pub matrix-agrees : (r c : ℕ) → LineOf n r → LineOf n c → matrixIn (x .tiles) r c ≡ after n (stepsOf n sweeps) (startOf n l) .matrix r c
   pub vectors-agree : (r c : ℕ) → LineOf n r → LineOf n c → vectorsIn (x .tiles) r c ≡ after n (stepsOf n sweeps) (startOf n l) .vectors r c
