@@ -1,3 +1,4 @@
 pub mod Tabulated
 pub mod Filled
 pub mod Replaced
+pub mod Over

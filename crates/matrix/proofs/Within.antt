@@ -12,7 +12,7 @@ use lib.Dec.{eqb, leb}
 use lib.ListN.{length, getD}
 use lib.Ieee.{Float, nan}
 use Rattle.matrix.specs.Matrix.{at, flat, isLine, isPlace, entryOf}
-use Rattle.matrix.specs.Turns.{twoLines, onLines}
+use Rattle.matrix.specs.Turns.{parametersOf, twoLines, onLines}
 
 -- ---- the length of a matrix
 pub too-large : (n d : ℕ) → 0xffff_ffff < n → d < 2 ^ 64 → false ≡ eqb d (n * n)
@@ -164,6 +164,9 @@ pair-entries n p q l e =
     there : (r c : ℕ) → 1 ≤ r → r ≤ n → 1 ≤ c → c ≤ n → length l ≡ n * n → entryOf n l r c ≡ at n l r c
     there r c r1 rn c1 cn long =
         entry-at n r c l (place-is n r c (length l) (record { row-above = r1; row-within = rn; column-above = c1; column-within = cn; square = long }))
+
+pub pair-parameters : (n p q : ℕ) (l : List Float) → twoLines n p q (length l) ≡ true → parametersOf p q (entryOf n l) ≡ parametersOf p q (at n l)
+pair-parameters n p q l e = let t = pair-entries n p q l e in rw (t .0, t .1, t .2)
 
 pub two-as : (n p q : ℕ) {d d′ : ℕ} → twoLines n p q d ≡ true → d′ ≡ d → twoLines n p q d′ ≡ true
 two-as n p q h e = rw e h

@@ -1,4 +1,4 @@
--- Document 01, "One rotation": the row turn and the column turn of the lines p and q of a matrix. Definitions only.
+-- Document 01, "One rotation": the parameters, the row turn and the column turn of the lines p and q of a matrix. Definitions only.
 use Prim.Native.Nat.{ℕ, zero, suc}
 use mathlib.Core.Bool.{Bool, not, cond, _||_, _&&_}
 use mathlib.Core.List.{List}
@@ -6,8 +6,12 @@ use lib.Dec.{eqb}
 use lib.ListN.{length, getD, set}
 use lib.Ieee.{Float, nan}
 use Rattle.rotation.specs.declared.Parameters.{Parameters}
-use Rattle.rotation.specs.Rotation.{turnOf}
+use Rattle.rotation.specs.Rotation.{ofPair, turnOf}
 use Rattle.matrix.specs.Matrix.{at, flat, isPlace}
+
+-- The parameters of the pair of the lines p and q.
+abbrev pub parametersOf : ℕ → ℕ → (ℕ → ℕ → Float) → Parameters
+parametersOf p q A = ofPair (A p p) (A q q) (A p q)
 
 -- Place i of a line of which the places p and q are turned: x stood at p, y at q and z at i.
 unfoldable pub turnedAt : Parameters → ℕ → ℕ → ℕ → Float → Float → Float → Float

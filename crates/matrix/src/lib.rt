@@ -7,7 +7,7 @@ ghost use Rattle.float64.specs.Values.{plusZero};
 ghost use Rattle.lists.specs.Tabulate.{tabulate};
 ghost use Rattle.refusal.specs.Refusal.{toldAnswer};
 ghost use Rattle.matrix.specs.Matrix.{isLine, isPlace, entryOf};
-ghost use Rattle.matrix.specs.Turns.{twoLines, onLines, rowTurnAll, columnTurnAll, placesTurned, turnLines};
+ghost use Rattle.matrix.specs.Turns.{parametersOf, twoLines, onLines, rowTurnAll, columnTurnAll, placesTurned, turnLines};
 ghost use Rattle.matrix.specs.Entries.{firstPlace, notFiniteAt, notMirroredAt, entriesOf};
 use refusal::Answer;
 use refusal::Refusal;
@@ -89,6 +89,13 @@ fn first_not_mirrored(n: usize, a: &[f64]) -> Answer
         }
     }
     found
+}
+
+// The parameters of the pair of the lines p and q, of NaNs where there is no such line.
+pub fn parameters(n: usize, p: usize, q: usize, a: &[f64]) -> Parameters
+    ensures { λ r. ⌜ r ≡ parametersOf p q (entryOf n (now (a .entry))) ⌝ }
+{
+    rotation::of_pair(entry(n, p, p, a), entry(n, q, q, a), entry(n, p, q, a))
 }
 
 // The row turn of the lines p and q in all columns. Where there are no such lines it does nothing, and so does the column turn.

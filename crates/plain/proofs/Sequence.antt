@@ -12,14 +12,14 @@ use Rattle.systolic.specs.Blocks.{cell}
 use Rattle.systolic.specs.Sequential.{pairBlock, sequential, failsIn}
 use Rattle.systolic.specs.Sequential as theory
 use Rattle.systolic.proofs.Steps.{end, pair-none, pair-row, pair-column, pair-cells}
-use Rattle.matrix.specs.Turns.{columnTurnAll}
+use Rattle.matrix.specs.Turns.{parametersOf, columnTurnAll}
 use Rattle.rotation.specs.declared.Parameters.{Parameters}
 use Rattle.rotation.specs.Rotation.{sent, turnOf}
 use Rattle.rotation.proofs.Cases.{received-pair}
 use Rattle.ordering.specs.Pairs.{noOrder}
 use Rattle.ordering.proofs.Orders.{order-half}
 use Rattle.ordering.proofs.Standing.{left-stands, right-stands, lines-differ}
-use Rattle.plain.specs.State.{State, parametersOf, pairTurned, pairStep, pairsStep, after, notFinite, spoiled}
+use Rattle.plain.specs.State.{State, pairTurned, pairStep, pairsStep, after, notFinite, spoiled}
 use Rattle.plain.specs.Cells.{cellOf, sideOf, sides, blockTurned, rules}
 use Rattle.plain.proofs.Spots.{Spot, first, second, neither, spot, all-first, all-second, all-other, at-first-first, at-second-second, at-first-second, at-second-first, at-first-other, at-second-other, at-other-first, at-other-second, at-others}
 

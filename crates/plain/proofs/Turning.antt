@@ -11,14 +11,14 @@ use Rattle.float64.specs.Values.{plusZero}
 use Rattle.rotation.specs.declared.Parameters.{Parameters}
 use Rattle.rotation.specs.declared.Parameters.the-variants.{Still}
 use Rattle.rotation.specs.declared.Sides.{Sides}
-use Rattle.rotation.specs.Rotation.{ofPair, diagonalOf}
+use Rattle.rotation.specs.Rotation.{diagonalOf}
 use Rattle.matrix.specs.Matrix.{at, flat}
-use Rattle.matrix.specs.Turns.{twoLines, onLines, rowTurn, columnTurn, rowTurnAll, columnTurnAll}
+use Rattle.matrix.specs.Turns.{parametersOf, twoLines, onLines, rowTurn, columnTurn, rowTurnAll, columnTurnAll}
 use Rattle.matrix.proofs.Flat.{flat-length}
 use Rattle.matrix.proofs.Within.{are-two, two-as}
 use Rattle.matrix.proofs.Same.{Same, first-line, second-line, flat-same, flat-again, one-more, all-columns-same, turned-flat, still-rows, still-columns, still-all-columns}
 use Rattle.plain.proofs.Spots.{turned-whole}
-use Rattle.plain.specs.State.{withEntry, parametersOf, pairTurned, pairStep, stateOf, Held}
+use Rattle.plain.specs.State.{withEntry, pairTurned, pairStep, stateOf, Held}
 
 -- ---- one entry
 module _ (p q : ℕ) (x : Float) where
@@ -42,9 +42,6 @@ module _ (p q : ℕ) (x : Float) where
 
 -- ---- what is found from the entries of a pair
 module _ (n p q : ℕ) (l : List Float) {x y z : Float} (e : x ≡ at n l p p) (f : y ≡ at n l q q) (g : z ≡ at n l p q) where
-  pub parameters-at : {P : Parameters} → P ≡ ofPair x y z → P ≡ parametersOf p q (at n l)
-  parameters-at h = rw (← e, ← f, ← g) h
-
   pub diagonal-at : {s : Sides} (P : Parameters) → s ≡ diagonalOf P x y z → s ≡ diagonalOf P (at n l p p) (at n l q q) (at n l p q)
   diagonal-at P h = rw (← e, ← f, ← g) h
 

@@ -9,10 +9,10 @@ use lib.Ieee.{Float}
 use Rattle.float64.specs.Values.{plusZero, one, finite}
 use Rattle.systolic.specs.Slots.{any}
 use Rattle.rotation.specs.declared.Parameters.{Parameters}
-use Rattle.rotation.specs.Rotation.{ofPair, diagonalOf}
+use Rattle.rotation.specs.Rotation.{diagonalOf}
 use Rattle.ordering.specs.Pairs.{registersAt}
 use Rattle.matrix.specs.Matrix.{at, flat}
-use Rattle.matrix.specs.Turns.{rowTurn, columnTurn, columnTurnAll}
+use Rattle.matrix.specs.Turns.{parametersOf, rowTurn, columnTurn, columnTurnAll}
 
 -- The two matrices of a run, by row and column from 1.
 pub record State : Type 0 where
@@ -28,10 +28,6 @@ identity r c = cond (eqb r c) one plusZero
 -- A matrix with x in row p and column q.
 unfoldable pub withEntry : ℕ → ℕ → Float → (ℕ → ℕ → Float) → ℕ → ℕ → Float
 withEntry p q x A r c = cond (eqb r p && eqb c q) x (A r c)
-
--- The parameters of the pair of the lines p and q.
-abbrev pub parametersOf : ℕ → ℕ → (ℕ → ℕ → Float) → Parameters
-parametersOf p q A = ofPair (A p p) (A q q) (A p q)
 
 -- The row turn, then the column turn, then the new a_pp and a_qq, and +0 for a_pq and a_qp. A is the matrix before.
 unfoldable pub pairTurned : Parameters → ℕ → ℕ → (ℕ → ℕ → Float) → ℕ → ℕ → Float

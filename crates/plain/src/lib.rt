@@ -10,7 +10,7 @@ ghost use Rattle.rotation.specs.declared.Parameters.the-variants.{Turn};
 ghost use Rattle.ordering.specs.Pairs.{noOrder, limit};
 ghost use Rattle.matrix.specs.Matrix.{at, flat};
 ghost use Rattle.matrix.specs.Turns.{twoLines};
-ghost use Rattle.plain.specs.State.{identity, withEntry, parametersOf, pairTurned, pairStep, pairsStep, after, stateOf, Held};
+ghost use Rattle.plain.specs.State.{identity, withEntry, pairTurned, pairStep, pairsStep, after, stateOf, Held};
 ghost use Rattle.plain.specs.Run.{beforeRun, outcome, zeros, someNotFinite, finishOf, ranOf, runOf};
 use ordering::Registers;
 use refusal::Answer;
@@ -130,25 +130,13 @@ fn make_pair(n: usize, p: usize, q: usize, a: &mut [f64], vectors: &mut [f64])
     requires { ⌜ (twoLines n p q (length (now a)) ≡ true) × (length (now vectors) ≡ n * n) ⌝ }
     ensures { λ _. ⌜ Held n (now (a .exit)) (now (vectors .exit)) (pairStep p q (stateOf n (now (a .entry)) (now (vectors .entry)))) ⌝ }
 {
-    match parameters(n, p, q, a) {
+    match matrix::parameters(n, p, q, a) {
         Parameters::Still => clear_pair(n, p, q, a),
         Parameters::Turn(t, c, s) => {
             turn_matrix(t, c, s, n, p, q, a);
             matrix::turn_columns(Parameters::Turn(t, c, s), n, p, q, vectors);
         }
     }
-}
-
-// The parameters of the pair of the lines p and q.
-fn parameters(n: usize, p: usize, q: usize, a: &[f64]) -> Parameters
-    requires { ⌜ twoLines n p q (length (now a)) ≡ true ⌝ }
-    ensures { λ r. ⌜ r ≡ parametersOf p q (at n (now (a .entry))) ⌝ }
-{
-    rotation::of_pair(
-        matrix::entry(n, p, p, a),
-        matrix::entry(n, q, q, a),
-        matrix::entry(n, p, q, a),
-    )
 }
 
 // The matrix with the lines p and q turned.

@@ -1,4 +1,5 @@
 use mathlib.Core.Path.{sym, _∙_}
+use Rattle.matrix.proofs.Within.{pair-parameters}
 use Rattle.plain.proofs.Turning.{still-held, turn-held}
 use borrow.Author.Needs.{needs}
 use Rattle.plain.proofs.make_pair.Statement.{statement}
@@ -30,7 +31,7 @@ returns c =
     let s = c .before .before in
     let k = s .before .before in
     let start = k .before .before .before .before .before .before in
-    still-held _ _ _ (start .args .a .now) _ _ (start .pre .1) (sym (k .enum-told .given .1) ∙ k .before .before .parameters .ensures) (s .clear-pair .ensures)
+    still-held _ _ _ (start .args .a .now) _ _ (start .pre .1) (sym (k .enum-told .given .1) ∙ k .before .before .parameters .ensures ∙ pair-parameters _ _ _ _ (start .pre .0)) (s .clear-pair .ensures)
 
 same-length-2 : tie.Need-same-length-2
 same-length-2 c = search needs
@@ -44,7 +45,7 @@ returns-2 c =
     let m = s .before .before .before .before in
     let k = m .before .before .before in
     let start = k .before .before .before .before .before .before in
-    turn-held _ _ _ _ (start .args .a .now) _ (start .args .vectors .now) _ (start .pre .0) (start .pre .1) (sym (k .t .given .1) ∙ k .before .before .parameters .ensures) (m .turn-matrix .ensures) (s .turn-columns .ensures)
+    turn-held _ _ _ _ (start .args .a .now) _ (start .args .vectors .now) _ (start .pre .0) (start .pre .1) (sym (k .t .given .1) ∙ k .before .before .parameters .ensures ∙ pair-parameters _ _ _ _ (start .pre .0)) (m .turn-matrix .ensures) (s .turn-columns .ensures)
 
 pub make-pair-spec : {M : Type 1} → statement M
 make-pair-spec =

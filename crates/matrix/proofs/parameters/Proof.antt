@@ -1,9 +1,6 @@
-use mathlib.Core.Path.{_∙_}
 use borrow.Author.Needs.{needs}
-use Rattle.matrix.proofs.Within.{pair-entries}
-use Rattle.plain.proofs.Turning.{parameters-at}
-use Rattle.plain.proofs.parameters.Statement.{statement}
-use Rattle.plain.proofs.parameters.Tie as tie
+use Rattle.matrix.proofs.parameters.Statement.{statement}
+use Rattle.matrix.proofs.parameters.Tie as tie
 
 entry-requires : tie.Need-entry-requires
 entry-requires c κs = search needs
@@ -18,10 +15,7 @@ of-pair-requires : tie.Need-of-pair-requires
 of-pair-requires c κs = search needs
 
 returns : tie.Need-returns
-returns c =
-    let s = c .before in
-    let e = pair-entries _ _ _ _ (s .before .before .before .before .pre) in
-    parameters-at _ _ _ _ (s .before .before .entry .ensures ∙ e .0) (s .before .entry2 .ensures ∙ e .1) (s .entry3 .ensures ∙ e .2) (c .of-pair .ensures)
+returns c = let s = c .before in rw (← s .before .before .entry .ensures, ← s .before .entry2 .ensures, ← s .entry3 .ensures) (c .of-pair .ensures)
 
 pub parameters-spec : {M : Type 1} → statement M
 parameters-spec =
