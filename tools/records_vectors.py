@@ -1,0 +1,107 @@
+#!/usr/bin/env python3
+"""Writes crates/records_vectors/stdin and crates/records_vectors/stdout: orders, matrices and steps, and the records of
+the step by document 01, "One rotation", last paragraph, and "Refused, by place".
+
+Matrices of all kinds and the parameters of a pair come from plain_vectors.py. The pair of a processor is found
+here by its own rule: the lines stand on a ring of n - 1 registers, beside line 1, and move by one place a step.
+"""
+import math
+import pathlib
+import random
+
+import plain_vectors as plain
+
+ROW = 16  # records that the program lends
+FILL = 0x4022 << 48
+STEPS = [0, 1, 2, 3, 5, 1 << 20, (1 << 63) + 11, (1 << 64) - 1]
+
+
+def pairs_at(n, step):
+    """The left and the right line of each processor. After left 1 the ring goes along the left registers and
+    back along the right ones, which ends beside left 1."""
+    half = n // 2
+    ring = [2 * k - 1 for k in range(2, half + 1)] + [2 * k for k in range(half, 0, -1)]
+    shift = step % (n - 1)
+    turned = ring[-shift:] + ring[:-shift] if shift else ring
+    left = [1, *turned[: half - 1]]
+    right = turned[half - 1 :][::-1]
+    return list(zip(left, right))
+
+
+def pattern_of(value):
+    return plain.NAN if math.isnan(value) else plain.pattern_of(value)
+
+
+def record_of(found):
+    return (0.0, 1.0, 0.0) if found is plain.STILL else found
+
+
+def refusal_of(n, matrix, room):
+    """The number, and the place if there is one."""
+    found = plain.outcome_of(plain.Case(n, 0, matrix, n * n, n * n))
+    if found.number:
+        return found.number, found.place
+    if room < n // 2:
+        return 7, None
+    return None, None
+
+
+def records_of(n, matrix, step):
+    a = plain.rows_of(n, matrix)
+    for p, q in pairs_at(n, step):
+        found = plain.parameters(a[p - 1][p - 1], a[q - 1][q - 1], a[p - 1][q - 1])
+        yield [pattern_of(value) for value in record_of(found)]
+
+
+def words_of(n, matrix, step):
+    """The row after a call."""
+    written = [] if refusal_of(n, matrix, ROW)[0] else list(records_of(n, matrix, step))
+    return sum(written, []) + [FILL] * 3 * (ROW - len(written))
+
+
+def told(number, place):
+    if number is None:
+        return []
+    names = zip(("row", "column"), place or ())
+    return [f"refused {number}", *(f"{name} {value}" for name, value in names)]
+
+
+def cases(rng):
+    """An order, a matrix, a step and the length of a row: every kind of matrix, every order with every step of a
+    sweep or some of them, and each refusal, alone and before another."""
+    k = 0
+    for n in range(2, 33, 2):
+        steps = range(n - 1) if n <= 8 else rng.sample(range(n - 1), 5)
+        for step in [*steps, *(rng.sample(STEPS, 3))]:
+            kind = plain.kind_for(n, k)
+            yield n, kind(rng, n, 1), step, rng.choice((n // 2, n // 2, n // 2 - 1, ROW, 0, 1 << 63))
+            k += 1
+    for number, case in plain.refusals(rng):
+        if case.sweeps <= 16 and case.n < 1 << 32:
+            yield case.n, case.matrix, rng.randrange(40), rng.choice((0, 1, ROW))
+    good = plain.ordinary(rng, 4, 0)
+    for room in (0, 1, 2, 3):
+        yield 4, good, 1, room
+        yield 4, [plain.NAN, *good[1:]], 1, room
+        yield 4, [good[0], good[1] ^ 1, *good[2:]], 1, room
+        yield 4, good[:15], 1, room
+        yield 6, good, 1, room
+        yield 5, good, 1, room
+
+
+def main():
+    folder = pathlib.Path(__file__).resolve().parent.parent / "crates" / "records_vectors"
+    rng = random.Random(8)
+    given, answers, count = [], [], 0
+    for n, matrix, step, room in cases(rng):
+        given += [n, len(matrix), step, room, FILL, *matrix]
+        answers += told(*refusal_of(n, matrix, room)) + told(*refusal_of(n, matrix, ROW))
+        answers += [f"{word:016X}" for word in words_of(n, matrix, step)]
+        count += 1
+    (folder / "stdin").write_text("".join(f"{word:016X}\n" for word in given))
+    (folder / "stdout").write_text("".join(f"{line}\n" for line in answers))
+    print(f"{count} calls")
+
+
+if __name__ == "__main__":
+    main()
