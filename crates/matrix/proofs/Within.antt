@@ -11,6 +11,7 @@ use lib.Arith.{digits-lt}
 use lib.Dec.{eqb, leb}
 use lib.ListN.{length, getD}
 use lib.Ieee.{Float, nan}
+use Rattle.rotation.specs.Rotation.{ofPair}
 use Rattle.matrix.specs.Matrix.{at, flat, isLine, isPlace, entryOf}
 use Rattle.matrix.specs.Turns.{parametersOf, twoLines, onLines}
 
@@ -165,8 +166,11 @@ pair-entries n p q l e =
     there r c r1 rn c1 cn long =
         entry-at n r c l (place-is n r c (length l) (record { row-above = r1; row-within = rn; column-above = c1; column-within = cn; square = long }))
 
+pub same-pair : {a a′ d d′ b b′ : Float} → a ≡ a′ → d ≡ d′ → b ≡ b′ → ofPair a d b ≡ ofPair a′ d′ b′
+same-pair e f g = rw (e, f, g)
+
 pub pair-parameters : (n p q : ℕ) (l : List Float) → twoLines n p q (length l) ≡ true → parametersOf p q (entryOf n l) ≡ parametersOf p q (at n l)
-pair-parameters n p q l e = let t = pair-entries n p q l e in rw (t .0, t .1, t .2)
+pair-parameters n p q l e = let t = pair-entries n p q l e in same-pair (t .0) (t .1) (t .2)
 
 pub two-as : (n p q : ℕ) {d d′ : ℕ} → twoLines n p q d ≡ true → d′ ≡ d → twoLines n p q d′ ≡ true
 two-as n p q h e = rw e h

@@ -1,4 +1,6 @@
+use mathlib.Core.Path.{_∙_}
 use borrow.Author.Needs.{needs}
+use Rattle.matrix.proofs.Within.{same-pair}
 use Rattle.matrix.proofs.parameters.Statement.{statement}
 use Rattle.matrix.proofs.parameters.Tie as tie
 
@@ -15,7 +17,7 @@ of-pair-requires : tie.Need-of-pair-requires
 of-pair-requires c κs = search needs
 
 returns : tie.Need-returns
-returns c = let s = c .before in rw (← s .before .before .entry .ensures, ← s .before .entry2 .ensures, ← s .entry3 .ensures) (c .of-pair .ensures)
+returns c = let s = c .before in c .of-pair .ensures ∙ same-pair (s .before .before .entry .ensures) (s .before .entry2 .ensures) (s .entry3 .ensures)
 
 pub parameters-spec : {M : Type 1} → statement M
 parameters-spec =
