@@ -8,7 +8,9 @@ here by its own rule: the lines stand on a ring of n - 1 registers, beside line 
 import math
 import pathlib
 import random
+import sys
 
+sys.dont_write_bytecode = True  # the import below leaves no file
 import plain_vectors as plain
 
 ROW = 16  # records that the program lends

@@ -6,24 +6,15 @@ use mathlib.Core.Bool.{Bool, true, false, cond}
 use native.Mathlib.Omega.{arith}
 use borrow.Author.Tests.{ltb-true, ltb-false}
 use lib.Dec.{ltb}
-use Rattle.systolic.specs.Slots.{Side, slot, moved}
-use Rattle.systolic.specs.Blocks.{Block, pick}
-use Rattle.systolic.specs.Synchronous.{Operations, moveAll, blocksAt, rotatedAt}
+use Rattle.systolic.specs.Blocks.{Block}
+use Rattle.systolic.specs.Synchronous.{Operations, blocksAt, rotatedAt}
 use Rattle.systolic.specs.Tiles.{distance, Action, idle, first, rotate, second, third, final, actionAt, newTile, tickTile}
 use Rattle.systolic.specs.Arrays.{tick, arrayAfter}
 use Rattle.systolic.proofs.Bounded.{up-to, or-false, false-or}
-use Rattle.systolic.proofs.Movement.{cameFrom-moved}
-use Rattle.systolic.proofs.Cells.{cell-tab}
 use Rattle.systolic.proofs.Clock.{View, waiting, starting, rotating, setting-second, setting-third, finishing, finished, stepless, view}
 use Rattle.systolic.proofs.Skew.{all-known}
 
 module _ {X H W : Type 0} (S : Operations X H W) (m K : ℕ) where
-  -- the rotated cell at a row slot and a column slot stands at the next slots in the next step
-  pub blocks-moves : (k : ℕ) (h g : Side) (i j : ℕ) → i ≤ m → j ≤ m
-      → pick (blocksAt S m (suc k)) (moved m h i) (moved m g j) ≡ pick (rotatedAt S m k) (slot i h) (slot j g)
-  unfolding pick blocksAt moveAll rotatedAt
-  blocks-moves k h g i j p q = cell-tab _ _ _ ∙ rw (cameFrom-moved m h i p, cameFrom-moved m g j q)
-
   -- ---- the cells: the start, those rotated in step k, or the final ones
   pub cells-before : (T i j : ℕ) → i ≤ m → j ≤ m → T < distance i j → arrayAfter S m K (suc T) i j .cells ≡ S .initial i j
   cells-before T i j p q l = all-known S m K (suc T) i j p q .before l
