@@ -1,3 +1,13 @@
 pub mod Computed
-pub mod Histories
+pub mod Tables
+pub mod Leaving
+pub mod Places
+pub mod Rounded
+pub mod Rotated
+pub mod Moves
+pub mod Refusals
+pub mod Report
 pub mod Sheets
+pub mod Histories
+pub mod Demands
+pub mod Paired

@@ -1,3 +1,6 @@
-pub mod Examples
-pub mod Histories
+pub mod Demands
+pub mod Refusals
+pub mod Report
 pub mod Sheets
+pub mod Histories
+pub mod Examples

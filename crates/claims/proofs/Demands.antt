@@ -1,0 +1,17 @@
+-- The demands are met. Assumes nothing.
+use Rattle.claims.specs.Demands.{Demands}
+use Rattle.claims.proofs.Refusals.{refused-as-tabled}
+use Rattle.claims.proofs.Report.{as-the-report}
+use Rattle.claims.proofs.Sheets.{sheets-kept}
+use Rattle.claims.proofs.Histories.{one-history}
+use Rattle.claims.proofs.Computed.{examples-hold}
+
+pub demands-met : Demands
+demands-met =
+    record {
+      demand-1 = refused-as-tabled;
+      demand-2-numbers = as-the-report;
+      demand-2-sheets = sheets-kept;
+      demand-3 = one-history;
+      examples-hold = examples-hold;
+    }

@@ -1,0 +1,26 @@
+-- Demand 1, each part by the law that proves it. Assumes nothing.
+use mathlib.Core.Path.{_∙_}
+use Rattle.claims.specs.Refusals.{RefusedAsTabled}
+use Rattle.claims.proofs.Places.{entries-tested}
+use Rattle.claims.proofs.Rounded as root
+use Rattle.claims.proofs.Tables as tables
+use Rattle.claims.proofs.Leaving as leaving
+
+pub refused-as-tabled : RefusedAsTabled
+refused-as-tabled =
+    record {
+      entries-are-tested = entries-tested;
+      root-answers = (root.root-of-nan, root.root-below, root.root-other);
+      pairs-answer = λ n step r h. (h .answers ∙ tables.pairs-table n, λ e. h .lists ∙ rw e);
+      plain-run-answers = tables.run-table;
+      whole-run-answers = tables.whole-table;
+      runs-leave = leaving.runs-leave;
+      start-answers = λ n sweeps l s h. (h .answers ∙ tables.start-table n sweeps l, leaving.start-none n sweeps l s h);
+      tick-answers = λ x r h. (h .answers ∙ tables.tick-table (x .n) (x .sweeps) (x .tick), leaving.tick-back x r h);
+      records-answer = tables.records-table;
+      records-leave = leaving.records-leave;
+      reader-answers = tables.reader-table;
+      reader-leaves = leaving.reader-leaves;
+      writer-answers = tables.writer-table;
+      writer-leaves = leaving.writer-leaves;
+    }

@@ -1,0 +1,15 @@
+-- The three demands of document 00 and the examples of document 01. Definitions only.
+-- That no call reads or writes outside a buffer, loses bits of an integer or fails to end is what the prover shows of every function; that
+-- no function of these has a precondition is seen in its contract. What is left of the demands is stated here.
+use Rattle.claims.specs.Refusals.{RefusedAsTabled}
+use Rattle.claims.specs.Report.{AsTheReport}
+use Rattle.claims.specs.Sheets.{SheetsKept}
+use Rattle.claims.specs.Histories.{OneHistory}
+use Rattle.claims.specs.Examples.{All, examples}
+
+pub record Demands : Type 0 where
+  pub demand-1 : RefusedAsTabled
+  pub demand-2-numbers : AsTheReport
+  pub demand-2-sheets : SheetsKept
+  pub demand-3 : OneHistory
+  pub examples-hold : All examples

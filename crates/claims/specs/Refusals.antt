@@ -1,0 +1,193 @@
+-- Demand 1 (document 00; document 01, "Refused, by place"): what each call answers, and what it leaves where it refuses. The order of the
+-- tests is that of document 01's table, which applies from top to bottom. Definitions only.
+use Prim.Native.Nat.{ℕ, _*_, _/_, _≤_, _<_}
+use mathlib.Core.Path.{_≡_}
+use mathlib.Core.Bool.{Bool, true, false, not, cond, _&&_}
+use mathlib.Core.List.{List, [], _∷_}
+use mathlib.Core.Logic.{_⊎_}
+use lib.Dec.{eqb, ltb}
+use lib.ListN.{length, drop}
+use lib.Ieee.{Float, nan, binary64, eq, lt, ofBits}
+use Rattle.float64.specs.Values.{plusZero, finite, sameBits}
+use Rattle.refusal.specs.declared.Refusal.{Refusal}
+use Rattle.refusal.specs.declared.Refusal.the-variants.{Order, Sweeps, Length, Code, NotFinite, NotMirrored, TooShort, Spoiled, NoRoot}
+use Rattle.refusal.specs.Refusal.{Told, given, refused, told, toldAnswer}
+use Rattle.root.specs.Sqrt.{sqrtOf}
+use Rattle.ordering.specs.declared.Listed.{Listed}
+use Rattle.ordering.specs.Pairs.{noOrder, noRegisters, Lists}
+use Rattle.matrix.specs.Matrix.{at}
+use Rattle.matrix.specs.Entries.{orElse, firstPlace, notFiniteAt, notMirroredAt}
+use Rattle.plain.specs.State.{spoiled}
+use Rattle.plain.specs.Run.{mostSweeps, stepsOf, startOf, zeros, Outcome, runOf}
+use Rattle.records.specs.declared.Record.{Record}
+use Rattle.records.specs.Records.{recordsOf}
+use Rattle.array.specs.declared.Array.{Array}
+use Rattle.array.specs.declared.Started.{Started}
+use Rattle.array.specs.declared.Ticked.{Ticked}
+use Rattle.array.specs.Arrays.{made, stopped, toldProgress, ticksOf, Ticks}
+use Rattle.array.specs.Runs.{noArray, Starts, tellingIn, wholeOf}
+use Rattle.sheet.specs.Format.{sheetLength, orderIn, sweepsIn, patternIn}
+use Rattle.sheet.specs.Calls.{badCodes, storedOf, readOf, writeOf}
+use Rattle.claims.specs.Histories.{Binary64}
+
+-- ---- tables
+-- The first row that refuses.
+abbrev pub table : List (Told Unit) → Told Unit
+table [] = given tt
+table (row ∷ rows) = orElse row (table rows)
+
+-- A row: a refusal under a condition.
+abbrev pub row : Bool → Refusal → Told Unit
+row b r = cond b (told r) (given tt)
+
+-- The rows for the order, the sweeps and the entries of a matrix.
+abbrev pub order : ℕ → Told Unit
+order n = row (noOrder n) Order
+
+abbrev pub sweep : ℕ → Told Unit
+sweep sweeps = row (ltb mostSweeps sweeps) Sweeps
+
+abbrev pub square : ℕ → ℕ → Bool
+square n length = eqb length (n * n)
+
+abbrev pub finiteEntries : ℕ → List Float → Told Unit
+finiteEntries n l = firstPlace n (notFiniteAt n l)
+
+abbrev pub mirrorEntries : ℕ → List Float → Told Unit
+mirrorEntries n l = firstPlace n (notMirroredAt n l)
+
+-- ---- the first entry in row order
+-- The place in row i and column j stands before that in row r and column c.
+abbrev pub Before : ℕ → ℕ → ℕ → ℕ → Type 0
+Before i j r c = (i < r) ⊎ ((i ≡ r) × (j < c))
+
+-- An entry that fails a test, after only such as pass it.
+pub record FirstBad (There : ℕ → ℕ → Type 0) (good : ℕ → ℕ → Bool) (r c : ℕ) : Type 0 where
+  pub there : There r c
+  pub bad : good r c ≡ false
+  pub good-before : (i j : ℕ) → There i j → Before i j r c → good i j ≡ true
+
+-- All entries pass, or the refusal carries the row and the column of the first that does not.
+pub data Tested (There : ℕ → ℕ → Type 0) (good : ℕ → ℕ → Bool) (by : ℕ → ℕ → Refusal) : Told Unit → Type 0 where
+  all-good : ((i j : ℕ) → There i j → good i j ≡ true) → Tested There good by (given tt)
+  first-bad : (r c : ℕ) → FirstBad There good r c → Tested There good by (told (by r c))
+
+-- The places of a matrix, those above its diagonal, and those of a sheet's entries.
+abbrev pub InSquare : ℕ → ℕ → ℕ → Type 0
+InSquare n r c = (1 ≤ r) × (r ≤ n) × (1 ≤ c) × (c ≤ n)
+
+abbrev pub AboveDiagonal : ℕ → ℕ → ℕ → Type 0
+AboveDiagonal n r c = (1 ≤ r) × (r < c) × (c ≤ n)
+
+abbrev pub InTriangle : ℕ → ℕ → ℕ → Type 0
+InTriangle n r c = (1 ≤ r) × (r ≤ n) × (1 ≤ c) × (c ≤ r)
+
+-- 5 is for an entry that is not finite, in a sheet for one that it stores, and 6 for one that differs from its mirror in bits.
+pub record EntriesAreTested : Type 0 where
+  pub not-finite : (n : ℕ) (l : List Float) → Tested (InSquare n) (λ r c. finite (at n l r c)) NotFinite (finiteEntries n l)
+  pub not-mirrored : (n : ℕ) (l : List Float) → Tested (AboveDiagonal n) (λ r c. sameBits (at n l r c) (at n l c r)) NotMirrored (mirrorEntries n l)
+  pub stored-not-finite : (b : List ℕ) → Tested (InTriangle (orderIn b)) (λ r c. finite (ofBits binary64 (patternIn b r c))) NotFinite (storedOf b)
+
+-- ---- square root
+-- Refused by 9: not a number, or below zero. Every other value has a root.
+abbrev pub RootAnswers : Type 0
+RootAnswers =
+    (sqrtOf nan ≡ told NoRoot) × ((x : Float) → lt x plusZero ≡ true → sqrtOf x ≡ told NoRoot)
+    × ((x : Float) → eq x x ≡ true → lt x plusZero ≡ false → (r : Float) × (sqrtOf x ≡ given r))
+
+-- ---- list of pairs
+abbrev pub PairsAnswer : Type 0
+PairsAnswer = (n step : ℕ) (r : Listed) → Lists n step r → (toldAnswer (r .answer) ≡ table (order n ∷ [])) × (noOrder n ≡ true → r .registers ≡ noRegisters)
+
+-- ---- runs
+-- lr and lv are the lengths of the two results.
+abbrev pub runTable : ℕ → ℕ → List Float → ℕ → ℕ → Told Unit
+runTable n sweeps l lr lv =
+    table (order n ∷ sweep sweeps ∷ row (not (square n lr && (square n lv && square n (length l)))) Length ∷ finiteEntries n l ∷ mirrorEntries n l
+    ∷ row (spoiled n (stepsOf n sweeps) (startOf n l)) Spoiled ∷ [])
+
+abbrev pub PlainRunAnswers : Type 0
+PlainRunAnswers = (n sweeps : ℕ) (l r v : List Float) → runOf n sweeps l r v .says ≡ runTable n sweeps l (length r) (length v)
+
+-- The array's run is refused as the plain run is, by 8 too.
+abbrev pub WholeRunAnswers : Type 0
+WholeRunAnswers =
+    (n sweeps : ℕ) (l r v : List Float) → Binary64 l → wholeOf n sweeps l r v .says ≡ tellingIn (ticksOf n sweeps) (runTable n sweeps l (length r) (length v))
+
+-- A refused run leaves both results as they were, but 8 fills them with +0.
+pub record LeavesResults {A : Type 0} (n : ℕ) (o : Outcome A) (r v : List Float) : Type 0 where
+  pub kept : (k : ℕ) (values : List ℕ) → o .says ≡ refused k values → ¬ (k ≡ 8) → (o .result ≡ r) × (o .vectors ≡ v)
+  pub zeroed : (values : List ℕ) → o .says ≡ refused 8 values → (o .result ≡ zeros n) × (o .vectors ≡ zeros n)
+
+abbrev pub RunsLeave : Type 0
+RunsLeave = (n sweeps : ℕ) (l r v : List Float) → Binary64 l → LeavesResults n (runOf n sweeps l r v) r v × LeavesResults n (wholeOf n sweeps l r v) r v
+
+-- ---- array by hand
+-- A refused start gives zeros.
+abbrev pub StartAnswers : Type 0
+StartAnswers =
+    (n sweeps : ℕ) (l : List Float) (s : Started) → Starts n sweeps l s
+    → (toldAnswer (s .answer) ≡ table (order n ∷ sweep sweeps ∷ row (not (square n (length l))) Length ∷ finiteEntries n l ∷ mirrorEntries n l ∷ []))
+    × ((k : ℕ) (values : List ℕ) → toldAnswer (s .answer) ≡ refused k values → s .array ≡ noArray)
+
+-- A tick tests 1 and 2 only; where it is not made it gives its array back.
+abbrev pub TickAnswers : Type 0
+TickAnswers =
+    (x : Array) (r : Ticked) → Ticks x r
+    → (toldProgress (r .answer) ≡ tellingIn (cond (ltb (x .tick) (ticksOf (x .n) (x .sweeps))) made stopped) (table (order (x .n) ∷ sweep (x .sweeps) ∷ [])))
+    × (¬ (toldProgress (r .answer) ≡ given made) → r .array ≡ x)
+
+-- ---- records of a step
+abbrev pub RecordsAnswer : Type 0
+RecordsAnswer =
+    (n : ℕ) (l : List Float) (step : ℕ) (ys : List Record) → recordsOf n l step ys .says
+    ≡ table (order n ∷ row (not (square n (length l))) Length ∷ finiteEntries n l ∷ mirrorEntries n l ∷ row (ltb (length ys) (n / 2)) TooShort ∷ [])
+
+-- A refusal changes nothing, and a longer row keeps its tail.
+abbrev pub RecordsLeave : Type 0
+RecordsLeave =
+    (n : ℕ) (l : List Float) (step : ℕ) (ys : List Record)
+    → ((k : ℕ) (values : List ℕ) → recordsOf n l step ys .says ≡ refused k values → recordsOf n l step ys .row ≡ ys)
+    × (drop (n / 2) (recordsOf n l step ys .row) ≡ drop (n / 2) ys)
+
+-- ---- sheets
+abbrev pub readTable : List ℕ → ℕ → ℕ → Told Unit
+readTable b codes matrix =
+    table (row (ltb (length b) 2) Length ∷ order (orderIn b) ∷ sweep (sweepsIn b)
+    ∷ row (not (eqb codes (orderIn b) && (square (orderIn b) matrix && eqb (length b) (sheetLength (orderIn b))))) Length ∷ row (badCodes b 2 (orderIn b)) Code
+    ∷ storedOf b ∷ [])
+
+abbrev pub ReaderAnswers : Type 0
+ReaderAnswers = (b c : List ℕ) (m : List Float) → readOf b c m .says ≡ tellingIn (orderIn b, sweepsIn b) (readTable b (length c) (length m))
+
+abbrev pub ReaderLeaves : Type 0
+ReaderLeaves =
+    (b c : List ℕ) (m : List Float) (k : ℕ) (values : List ℕ) → readOf b c m .says ≡ refused k values → (readOf b c m .codes ≡ c) × (readOf b c m .matrix ≡ m)
+
+abbrev pub WriterAnswers : Type 0
+WriterAnswers =
+    (n sweeps : ℕ) (codes : List ℕ) (l : List Float) (b : List ℕ) → writeOf n sweeps codes l b .says
+    ≡ table (order n ∷ sweep sweeps ∷ row (not (eqb (length codes) n && square n (length l))) Length ∷ row (badCodes codes 0 n) Code ∷ finiteEntries n l ∷ mirrorEntries n l
+    ∷ row (ltb (length b) (sheetLength n)) TooShort ∷ [])
+
+abbrev pub WriterLeaves : Type 0
+WriterLeaves =
+    (n sweeps : ℕ) (codes : List ℕ) (l : List Float) (b : List ℕ)
+    → ((k : ℕ) (values : List ℕ) → writeOf n sweeps codes l b .says ≡ refused k values → writeOf n sweeps codes l b .bytes ≡ b)
+    × (drop (sheetLength n) (writeOf n sweeps codes l b .bytes) ≡ drop (sheetLength n) b)
+
+pub record RefusedAsTabled : Type 0 where
+  pub entries-are-tested : EntriesAreTested
+  pub root-answers : RootAnswers
+  pub pairs-answer : PairsAnswer
+  pub plain-run-answers : PlainRunAnswers
+  pub whole-run-answers : WholeRunAnswers
+  pub runs-leave : RunsLeave
+  pub start-answers : StartAnswers
+  pub tick-answers : TickAnswers
+  pub records-answer : RecordsAnswer
+  pub records-leave : RecordsLeave
+  pub reader-answers : ReaderAnswers
+  pub reader-leaves : ReaderLeaves
+  pub writer-answers : WriterAnswers
+  pub writer-leaves : WriterLeaves
