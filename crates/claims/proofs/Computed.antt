@@ -10,7 +10,7 @@ use Rattle.ordering.specs.Pairs.{noOrder, registersAt}
 use Rattle.rotation.specs.Rotation.{tangent, ofTangent, ofPair}
 use Rattle.matrix.specs.Matrix.{at, flat}
 use Rattle.matrix.specs.Entries.{first, notFiniteAt, notMirroredAt, entriesOf}
-use Rattle.matrix.specs.Turns.{turnedAt, rowTurn, columnTurn, columnTurnAll}
+use Rattle.turns.specs.Turns.{turnedAt, rowTurn, columnTurn, columnTurnAll}
 use Rattle.plain.specs.State.{identity, withEntry, pairTurned, pairStep, pairsStep, after, notFinite, spoiled}
 use Rattle.plain.specs.Run.{beforeRun, startOf, ranOf, runOf}
 use Rattle.claims.specs.Examples.{All, examples}

@@ -1,3 +1,2 @@
 pub mod Matrix
 pub mod Entries
-pub mod Turns

@@ -10,8 +10,8 @@ use lib.Ieee.{Float}
 use Rattle.rotation.specs.declared.Parameters.{Parameters}
 use Rattle.rotation.specs.Rotation.{turnOf}
 use Rattle.ordering.specs.Pairs.{noOrder}
-use Rattle.matrix.proofs.Within.{are-two}
-use Rattle.matrix.proofs.Same.{Line, Mirrored, first-line, second-line}
+use Rattle.matrix.proofs.Same.{Line, Mirrored}
+use Rattle.turns.proofs.Two.{are-two, first-line, second-line}
 use Rattle.plain.specs.State.{State, pairTurned, pairStep, pairsStep, after}
 use Rattle.plain.proofs.Spots.{Spot, first, second, neither, spot, at-first-second, at-second-first, at-first-other, at-second-other, at-other-first, at-other-second, at-others}
 use Rattle.plain.proofs.Steps.{Paired, registers-paired}

@@ -15,9 +15,9 @@ use Rattle.systolic.proofs.Bounded.{or-false, false-or, same-bool, any-to, any-
 use Rattle.rotation.specs.declared.Parameters.{Parameters}
 use Rattle.rotation.proofs.Kept.{turn-kept, pair-kept}
 use Rattle.ordering.specs.Pairs.{noOrder}
-use Rattle.matrix.specs.Turns.{parametersOf, columnTurnAll}
-use Rattle.matrix.proofs.Within.{are-two}
-use Rattle.matrix.proofs.Same.{Line, Finite, Mirrored, first-line, second-line}
+use Rattle.matrix.proofs.Same.{Line, Finite, Mirrored}
+use Rattle.turns.specs.Turns.{parametersOf, columnTurnAll}
+use Rattle.turns.proofs.Two.{are-two, first-line, second-line}
 use Rattle.plain.specs.State.{State, pairTurned, pairStep, pairsStep, after, notFinite, spoiled}
 use Rattle.plain.proofs.Spots.{Spot, first, second, neither, spot, all-first, all-second, all-other, at-first-first, at-second-second, at-first-other, at-second-other, at-other-first, at-other-second, at-others}
 use Rattle.plain.proofs.Steps.{Paired, registers-paired}

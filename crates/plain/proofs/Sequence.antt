@@ -12,7 +12,7 @@ use Rattle.systolic.specs.Blocks.{cell}
 use Rattle.systolic.specs.Sequential.{pairBlock, sequential, failsIn}
 use Rattle.systolic.specs.Sequential as theory
 use Rattle.systolic.proofs.Steps.{end, pair-none, pair-row, pair-column, pair-cells}
-use Rattle.matrix.specs.Turns.{parametersOf, columnTurnAll}
+use Rattle.turns.specs.Turns.{parametersOf, columnTurnAll}
 use Rattle.rotation.specs.declared.Parameters.{Parameters}
 use Rattle.rotation.specs.Rotation.{sent, turnOf}
 use Rattle.rotation.proofs.Cases.{received-pair}

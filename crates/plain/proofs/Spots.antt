@@ -10,8 +10,8 @@ use Rattle.float64.specs.Values.{plusZero}
 use Rattle.systolic.proofs.Bounded.{or-false}
 use Rattle.rotation.specs.declared.Parameters.{Parameters}
 use Rattle.rotation.specs.Rotation.{diagonalOf, turnOf}
-use Rattle.matrix.specs.Turns.{turnedAt, isOne, rowTurn, columnTurn, rowTurnAll, columnTurnAll}
-use Rattle.matrix.proofs.Same.{same-either}
+use Rattle.turns.specs.Turns.{turnedAt, isOne, rowTurn, columnTurn, rowTurnAll, columnTurnAll}
+use Rattle.turns.proofs.Still.{same-either}
 use Rattle.plain.specs.State.{withEntry, pairTurned}
 
 -- a line is the first of a pair, or the second, or neither

@@ -12,10 +12,11 @@ use Rattle.ordering.specs.declared.Registers.{Registers}
 use Rattle.ordering.specs.Pairs.{noOrder, registersAt}
 use Rattle.ordering.proofs.Standing.{left-stands, right-stands, line-within, lines-differ}
 use Rattle.matrix.specs.Matrix.{at}
-use Rattle.matrix.specs.Turns.{parametersOf, twoLines}
 use Rattle.matrix.proofs.Flat.{flat-length}
-use Rattle.matrix.proofs.Within.{are-two, two-are}
-use Rattle.matrix.proofs.Same.{Line, Same, first-line, second-line, flat-same, flat-again, read-again, rows-same, columns-same, all-columns-same}
+use Rattle.matrix.proofs.Same.{Line, Same, flat-same, flat-again, read-again}
+use Rattle.turns.specs.Turns.{parametersOf, twoLines}
+use Rattle.turns.proofs.Two.{are-two, two-are, first-line, second-line}
+use Rattle.turns.proofs.Same.{rows-same, columns-same, all-columns-same}
 use Rattle.plain.specs.State.{State, pairTurned, pairStep, pairsStep, after, stateOf, Held}
 use Rattle.plain.proofs.Turning.{entry-same, cleared-same}
 

@@ -13,10 +13,12 @@ use Rattle.rotation.specs.declared.Parameters.the-variants.{Still}
 use Rattle.rotation.specs.declared.Sides.{Sides}
 use Rattle.rotation.specs.Rotation.{diagonalOf}
 use Rattle.matrix.specs.Matrix.{at, flat}
-use Rattle.matrix.specs.Turns.{parametersOf, twoLines, onLines, rowTurn, columnTurn, rowTurnAll, columnTurnAll}
 use Rattle.matrix.proofs.Flat.{flat-length}
-use Rattle.matrix.proofs.Within.{are-two, two-as}
-use Rattle.matrix.proofs.Same.{Same, first-line, second-line, flat-same, flat-again, one-more, all-columns-same, turned-flat, still-rows, still-columns, still-all-columns}
+use Rattle.matrix.proofs.Same.{Same, flat-same, flat-again, one-more}
+use Rattle.turns.specs.Turns.{parametersOf, twoLines, onLines, rowTurn, columnTurn, rowTurnAll, columnTurnAll}
+use Rattle.turns.proofs.Two.{are-two, two-as, first-line, second-line, turned-flat}
+use Rattle.turns.proofs.Same.{all-columns-same}
+use Rattle.turns.proofs.Still.{still-rows, still-columns, still-all-columns}
 use Rattle.plain.proofs.Spots.{turned-whole}
 use Rattle.plain.specs.State.{withEntry, pairTurned, pairStep, stateOf, Held}
 

@@ -12,7 +12,7 @@ use Rattle.rotation.specs.declared.Parameters.{Parameters}
 use Rattle.rotation.specs.Rotation.{diagonalOf}
 use Rattle.ordering.specs.Pairs.{registersAt}
 use Rattle.matrix.specs.Matrix.{at, flat}
-use Rattle.matrix.specs.Turns.{parametersOf, rowTurn, columnTurn, columnTurnAll}
+use Rattle.turns.specs.Turns.{parametersOf, rowTurn, columnTurn, columnTurnAll}
 
 -- The two matrices of a run, by row and column from 1.
 pub record State : Type 0 where

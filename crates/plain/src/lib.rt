@@ -9,7 +9,7 @@ ghost use Rattle.refusal.specs.declared.Refusal.the-variants.{Spoiled};
 ghost use Rattle.rotation.specs.declared.Parameters.the-variants.{Turn};
 ghost use Rattle.ordering.specs.Pairs.{noOrder, limit};
 ghost use Rattle.matrix.specs.Matrix.{at, flat};
-ghost use Rattle.matrix.specs.Turns.{twoLines};
+ghost use Rattle.turns.specs.Turns.{twoLines};
 ghost use Rattle.plain.specs.State.{identity, withEntry, pairTurned, pairStep, pairsStep, after, stateOf, Held};
 ghost use Rattle.plain.specs.Run.{beforeRun, outcome, zeros, someNotFinite, finishOf, ranOf, runOf};
 use ordering::Registers;
@@ -130,11 +130,11 @@ fn make_pair(n: usize, p: usize, q: usize, a: &mut [f64], vectors: &mut [f64])
     requires { ⌜ (twoLines n p q (length (now a)) ≡ true) × (length (now vectors) ≡ n * n) ⌝ }
     ensures { λ _. ⌜ Held n (now (a .exit)) (now (vectors .exit)) (pairStep p q (stateOf n (now (a .entry)) (now (vectors .entry)))) ⌝ }
 {
-    match matrix::parameters(n, p, q, a) {
+    match turns::parameters(n, p, q, a) {
         Parameters::Still => clear_pair(n, p, q, a),
         Parameters::Turn(t, c, s) => {
             turn_matrix(t, c, s, n, p, q, a);
-            matrix::turn_columns(Parameters::Turn(t, c, s), n, p, q, vectors);
+            turns::turn_columns(Parameters::Turn(t, c, s), n, p, q, vectors);
         }
     }
 }
@@ -150,8 +150,8 @@ fn turn_matrix(t: f64, c: f64, s: f64, n: usize, p: usize, q: usize, a: &mut [f6
         matrix::entry(n, q, q, a),
         matrix::entry(n, p, q, a),
     );
-    matrix::turn_rows(Parameters::Turn(t, c, s), n, p, q, a);
-    matrix::turn_columns(Parameters::Turn(t, c, s), n, p, q, a);
+    turns::turn_rows(Parameters::Turn(t, c, s), n, p, q, a);
+    turns::turn_columns(Parameters::Turn(t, c, s), n, p, q, a);
     set_entry(n, p, p, sides.left, a);
     set_entry(n, q, q, sides.right, a);
     clear_pair(n, p, q, a);

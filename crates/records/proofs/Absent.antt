@@ -8,7 +8,7 @@ use lib.Ieee.{Float}
 use Rattle.ordering.specs.declared.Registers.{Registers}
 use Rattle.ordering.specs.Registers.{most}
 use Rattle.matrix.specs.Matrix.{entryOf}
-use Rattle.matrix.specs.Turns.{parametersOf}
+use Rattle.turns.specs.Turns.{parametersOf}
 use Rattle.records.specs.Records.{recordOf, recordAt}
 
 pub no-processor : (n : ℕ) (l : List Float) (r : Registers) (k : ℕ) → length (r .left) ≡ most → length (r .right) ≡ most → most ≤ k → recordOf (parametersOf 0 0 (entryOf n l)) ≡ recordAt n l r k

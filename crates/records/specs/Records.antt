@@ -15,7 +15,7 @@ use Rattle.ordering.specs.declared.Registers.{Registers}
 use Rattle.ordering.specs.Pairs.{noOrder, registersAt}
 use Rattle.matrix.specs.Matrix.{entryOf}
 use Rattle.matrix.specs.Entries.{entriesOf, orElse}
-use Rattle.matrix.specs.Turns.{parametersOf}
+use Rattle.turns.specs.Turns.{parametersOf}
 use Rattle.records.specs.declared.Record.{Record}
 
 -- Still is recorded as +0, 1, +0.

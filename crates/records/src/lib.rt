@@ -100,9 +100,9 @@ pub fn of_processor(n: usize, matrix: &[f64], registers: Registers, k: usize) ->
     let lefts = registers.left;
     let rights = registers.right;
     if k < 16 {
-        return of_parameters(matrix::parameters(n, lefts[k], rights[k], matrix));
+        return of_parameters(turns::parameters(n, lefts[k], rights[k], matrix));
     }
-    of_parameters(matrix::parameters(n, 0, 0, matrix))
+    of_parameters(turns::parameters(n, 0, 0, matrix))
 }
 
 // The record of a pair.

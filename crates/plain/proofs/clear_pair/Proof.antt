@@ -3,7 +3,7 @@ use native.Mathlib.Omega.{arith}
 use borrow.Author.Needs.{needs}
 use lib.ListN.{length}
 use Rattle.matrix.proofs.Flat.{flat-length}
-use Rattle.matrix.proofs.Within.{are-two}
+use Rattle.turns.proofs.Two.{are-two}
 use Rattle.plain.proofs.Turning.{cleared}
 use Rattle.plain.proofs.clear_pair.Statement.{statement}
 use Rattle.plain.proofs.clear_pair.Tie as tie

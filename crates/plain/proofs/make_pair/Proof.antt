@@ -1,5 +1,5 @@
 use mathlib.Core.Path.{sym, _∙_}
-use Rattle.matrix.proofs.Within.{pair-parameters}
+use Rattle.turns.proofs.Two.{pair-parameters}
 use Rattle.plain.proofs.Turning.{still-held, turn-held}
 use borrow.Author.Needs.{needs}
 use Rattle.plain.proofs.make_pair.Statement.{statement}

@@ -4,7 +4,7 @@ use native.Mathlib.Nat.{le-antisymm}
 use native.Mathlib.Omega.{arith}
 use lib.ListN.{length}
 use Rattle.ordering.specs.Pairs.{limit}
-use Rattle.matrix.proofs.Within.{two-as}
+use Rattle.turns.proofs.Two.{two-as}
 use Rattle.plain.specs.State.{pairsStep, stateOf, Held}
 use Rattle.plain.proofs.Steps.{Paired, held-itself, held-long, no-pairs, pair-next}
 use Rattle.plain.proofs.make_pairs.Statement.{statement}

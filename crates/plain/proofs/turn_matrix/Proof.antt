@@ -2,7 +2,7 @@ use mathlib.Core.Path.{_∙_}
 use native.Mathlib.Omega.{arith}
 use borrow.Author.Needs.{needs}
 use Rattle.rotation.specs.declared.Parameters.the-variants.{Turn}
-use Rattle.matrix.proofs.Within.{are-two, two-as, pair-entries}
+use Rattle.turns.proofs.Two.{are-two, two-as, pair-entries}
 use Rattle.plain.proofs.Turning.{diagonal-at, turn-made}
 use Rattle.plain.proofs.turn_matrix.Statement.{statement}
 use Rattle.plain.proofs.turn_matrix.Tie as tie

@@ -2,10 +2,10 @@ use mathlib.Core.Path.{sym, _∙_}
 use native.Mathlib.Omega.{arith}
 use borrow.Author.Needs.{needs}
 use borrow.Author.Tests.{not-true, not-false}
-use Rattle.matrix.proofs.Within.{are-two, left-alone}
-use Rattle.matrix.proofs.Turned.{in-rows, columns-turned}
-use Rattle.matrix.proofs.turn_columns.Statement.{statement}
-use Rattle.matrix.proofs.turn_columns.Tie as tie
+use Rattle.turns.proofs.Two.{are-two, left-alone}
+use Rattle.turns.proofs.Turned.{in-rows, columns-turned}
+use Rattle.turns.proofs.turn_columns.Statement.{statement}
+use Rattle.turns.proofs.turn_columns.Tie as tie
 
 are-lines-requires : tie.Need-are-lines-requires
 are-lines-requires c κs = search needs

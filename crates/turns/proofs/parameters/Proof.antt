@@ -1,8 +1,8 @@
 use mathlib.Core.Path.{_∙_}
 use borrow.Author.Needs.{needs}
-use Rattle.matrix.proofs.Within.{same-pair}
-use Rattle.matrix.proofs.parameters.Statement.{statement}
-use Rattle.matrix.proofs.parameters.Tie as tie
+use Rattle.turns.proofs.Two.{same-pair}
+use Rattle.turns.proofs.parameters.Statement.{statement}
+use Rattle.turns.proofs.parameters.Tie as tie
 
 entry-requires : tie.Need-entry-requires
 entry-requires c κs = search needs

@@ -1,9 +1,9 @@
 use mathlib.Core.Path.{_∙_}
 use native.Mathlib.Omega.{arith}
-use Rattle.matrix.proofs.Within.{one-line, by-place}
+use Rattle.turns.proofs.Two.{one-line, by-place}
 use borrow.Author.Needs.{needs}
-use Rattle.matrix.proofs.are_lines.Statement.{statement}
-use Rattle.matrix.proofs.are_lines.Tie as tie
+use Rattle.turns.proofs.are_lines.Statement.{statement}
+use Rattle.turns.proofs.are_lines.Tie as tie
 
 returns : tie.Need-returns
 returns c = one-line _ _ _ _ (omega arith)

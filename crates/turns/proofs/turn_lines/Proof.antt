@@ -3,10 +3,10 @@ use mathlib.Core.Path.{_≡_, ap, _∙_}
 use native.Mathlib.Omega.{arith}
 use native.Mathlib.Nat.{le-antisymm}
 use lib.ListN.{length}
-use Rattle.matrix.specs.Turns.{turnLines}
-use Rattle.matrix.proofs.Lines.{no-lines, next-line, turned-length}
-use Rattle.matrix.proofs.turn_lines.Statement.{statement}
-use Rattle.matrix.proofs.turn_lines.Tie as tie
+use Rattle.turns.specs.Turns.{turnLines}
+use Rattle.turns.proofs.Lines.{no-lines, next-line, turned-length}
+use Rattle.turns.proofs.turn_lines.Statement.{statement}
+use Rattle.turns.proofs.turn_lines.Tie as tie
 
 abbrev Inv-loop : tie.InvT-loop
 Inv-loop parameters n step i j a₀ r₀ a r = (r ≤ n) × (a ≡ turnLines (λ r. i + r * step) (λ r. j + r * step) parameters r a₀)

@@ -1,7 +1,7 @@
-use Rattle.matrix.proofs.Lines.{places-are}
+use Rattle.turns.proofs.Lines.{places-are}
 use borrow.Author.Needs.{needs}
-use Rattle.matrix.proofs.turn_places.Statement.{statement}
-use Rattle.matrix.proofs.turn_places.Tie as tie
+use Rattle.turns.proofs.turn_places.Statement.{statement}
+use Rattle.turns.proofs.turn_places.Tie as tie
 
 mul-turn : tie.Need-mul-turn
 mul-turn c = search needs

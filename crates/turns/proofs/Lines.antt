@@ -15,7 +15,7 @@ use lib.Ieee.{Float, nan}
 use Rattle.rotation.specs.declared.Parameters.{Parameters}
 use Rattle.rotation.specs.declared.Sides.{Sides}
 use Rattle.rotation.specs.Rotation.{turnOf}
-use Rattle.matrix.specs.Turns.{turnedAt, placesTurned, turnLines}
+use Rattle.turns.specs.Turns.{turnedAt, placesTurned, turnLines}
 
 -- ---- one line
 module _ (P : Parameters) (i j : ℕ) (l : List Float) where

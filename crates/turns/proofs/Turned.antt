@@ -12,11 +12,11 @@ use lib.Dec.{eqb}
 use lib.ListN.{length, getD}
 use lib.Ieee.{Float, nan}
 use Rattle.rotation.specs.declared.Parameters.{Parameters}
 use Rattle.matrix.specs.Matrix.{at, flat}
-use Rattle.matrix.specs.Turns.{turnedAt, onLines, rowTurnAll, columnTurnAll, turnLines}
+use Rattle.turns.specs.Turns.{turnedAt, onLines, rowTurnAll, columnTurnAll, turnLines}
 use Rattle.matrix.proofs.Flat.{index-one, at-offset, flat-is}
-use Rattle.matrix.proofs.Within.{Two, two-are, on-lines}
-use Rattle.matrix.proofs.Lines.{Grid, turned-length, lines-done}
+use Rattle.turns.proofs.Two.{Two, two-are, on-lines}
+use Rattle.turns.proofs.Lines.{Grid, turned-length, lines-done}
 
 -- ---- where the places of a line are
 abbrev inColumn : ℕ → ℕ → ℕ → ℕ

@@ -1,0 +1,5 @@
+pub mod Two
+pub mod Lines
+pub mod Turned
+pub mod Same
+pub mod Still
