@@ -30,7 +30,8 @@ use Rattle.matrix.specs.Matrix.{at, flat, entryOf}
 use Rattle.matrix.proofs.Same.{Line, flat-same}
 use Rattle.matrix.proofs.Within.{entry-at, place-is}
 use Rattle.matrix.proofs.Accepted.{accepted-long}
-use Rattle.plain.specs.State.{State, identity, after, notFinite, spoiled}
+use Rattle.pair.specs.Pair.{State}
+use Rattle.plain.specs.State.{identity, after, notFinite, spoiled}
 use Rattle.plain.specs.Run.{mostSweeps, stepsOf, beforeRun, outcome, startOf, zeros, ranOf, unlessRefused, runOf}
 use Rattle.plain.specs.Cells.{Cell, cell as cellWith, cellOf, rules}
 use Rattle.plain.proofs.Persists.{state-finite}

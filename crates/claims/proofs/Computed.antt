@@ -11,7 +11,8 @@ use Rattle.rotation.specs.Rotation.{tangent, ofTangent, ofPair}
 use Rattle.matrix.specs.Matrix.{at, flat}
 use Rattle.matrix.specs.Entries.{first, notFiniteAt, notMirroredAt, entriesOf}
 use Rattle.turns.specs.Turns.{turnedAt, rowTurn, columnTurn, columnTurnAll}
-use Rattle.plain.specs.State.{identity, withEntry, pairTurned, pairStep, pairsStep, after, notFinite, spoiled}
+use Rattle.pair.specs.Pair.{withEntry, pairTurned, pairStep}
+use Rattle.plain.specs.State.{identity, pairsStep, after, notFinite, spoiled}
 use Rattle.plain.specs.Run.{beforeRun, startOf, ranOf, runOf}
 use Rattle.claims.specs.Examples.{All, examples}
 

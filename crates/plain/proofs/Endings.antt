@@ -1,7 +1,7 @@
 -- The end of a run: whether a value of a list isn't finite, and what is answered then. Assumes nothing.
 use Prim.Native.Nat.{ℕ, _<_}
 use mathlib.Core.Path.{_≡_, refl, sym, ap, _∙_}
-use mathlib.Core.Bool.{Bool, true, false, not}
+use mathlib.Core.Bool.{Bool, true, false, not, _||_}
 use mathlib.Core.List.{List}
 use lib.ListN.{length, getD}
 use lib.Ieee.{Float, nan}
@@ -30,18 +30,22 @@ pub of-not : (b : Bool) {c : Bool} → c ≡ not b → (c ≡ false → b ≡ tr
 of-not true e = (λ _. refl, λ z. sym z ∙ e)
 of-not false e = (λ z. sym z ∙ e, λ _. refl)
 
+-- ---- both lists
+module _ (l e : List Float) where
+  pub first-not : someNotFinite l ≡ true → false ≡ not (someNotFinite l || someNotFinite e)
+  first-not f = rw f
+
+  pub by-second : {b : Bool} → someNotFinite l ≡ false → b ≡ not (someNotFinite e) → b ≡ not (someNotFinite l || someNotFinite e)
+  by-second f z = rw f z
+
 module _ (n : ℕ) (l e : List Float) where
-  pub spoils-first : {o : Outcome Unit} → someNotFinite l ≡ true → o ≡ outcome (told Spoiled) (zeros n) (zeros n) → o ≡ finishOf n l e
+  pub spoils : {o : Outcome Unit} → (someNotFinite l || someNotFinite e) ≡ true → o ≡ outcome (told Spoiled) (zeros n) (zeros n) → o ≡ finishOf n l e
   unfolding finishOf
-  spoils-first f z = rw f z
+  spoils f z = rw f z
 
-  pub spoils-second : {o : Outcome Unit} → someNotFinite l ≡ false → someNotFinite e ≡ true → o ≡ outcome (told Spoiled) (zeros n) (zeros n) → o ≡ finishOf n l e
+  pub stays : (someNotFinite l || someNotFinite e) ≡ false → outcome (given tt) l e ≡ finishOf n l e
   unfolding finishOf
-  spoils-second f g z = rw (f, g) z
-
-  pub stays : someNotFinite l ≡ false → someNotFinite e ≡ false → outcome (given tt) l e ≡ finishOf n l e
-  unfolding finishOf
-  stays f g = rw (f, g)
+  stays f = rw f
 
 pub spoiled-outcome : {A : Type 0} (n : ℕ) {l e : List Float} → l ≡ zeros n → e ≡ zeros n → outcome {A = A} (told Spoiled) l e ≡ outcome (told Spoiled) (zeros n) (zeros n)
 spoiled-outcome n f g = rw (f, g)

@@ -1,10 +1,7 @@
 pub mod Starts
-pub mod Places
-pub mod Turning
 pub mod Steps
 pub mod Endings
 pub mod Verdicts
-pub mod Spots
 pub mod Mirrors
 pub mod Persists
 pub mod Outcomes

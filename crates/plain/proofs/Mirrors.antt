@@ -12,8 +12,9 @@ use Rattle.rotation.specs.Rotation.{turnOf}
 use Rattle.ordering.specs.Pairs.{noOrder}
 use Rattle.matrix.proofs.Same.{Line, Mirrored}
 use Rattle.turns.proofs.Two.{are-two, first-line, second-line}
-use Rattle.plain.specs.State.{State, pairTurned, pairStep, pairsStep, after}
-use Rattle.plain.proofs.Spots.{Spot, first, second, neither, spot, at-first-second, at-second-first, at-first-other, at-second-other, at-other-first, at-other-second, at-others}
+use Rattle.pair.specs.Pair.{State, pairTurned, pairStep}
+use Rattle.plain.specs.State.{pairsStep, after}
+use Rattle.pair.proofs.Spots.{Spot, first, second, neither, spot, at-first-second, at-second-first, at-first-other, at-second-other, at-other-first, at-other-second, at-others}
 use Rattle.plain.proofs.Steps.{Paired, registers-paired}
 
 module _ (n p q : ℕ) (hp : Line n p) (hq : Line n q) (pq : p ≢ q) where

@@ -22,9 +22,11 @@ use Rattle.matrix.specs.Entries.{entriesOf}
 use Rattle.matrix.proofs.Flat.{row-lt, column-lt, at-offset, at-flat}
 use Rattle.matrix.proofs.Same.{Finite, Mirrored, read-again, flat-again}
 use Rattle.matrix.proofs.Accepted.{refused-given, accepted-finite, accepted-mirrored}
-use Rattle.plain.specs.State.{State, identity, after, notFinite, spoiled, stateOf, Held}
+use Rattle.pair.specs.Pair.{State, stateOf, Held}
+use Rattle.pair.proofs.Alike.{Alike, held-long, held-alike}
+use Rattle.plain.specs.State.{identity, after, notFinite, spoiled}
 use Rattle.plain.specs.Run.{mostSweeps, stepsOf, beforeRun, Outcome, outcome, startOf, someNotFinite, finishOf, ranOf, runOf}
-use Rattle.plain.proofs.Steps.{Alike, held-long, held-alike, after-alike}
+use Rattle.plain.proofs.Steps.{after-alike}
 use Rattle.plain.proofs.Persists.{FiniteState, finite-state, state-finite, spoiled-at-end}
 
 -- ---- the refusals before a run

@@ -18,8 +18,9 @@ use Rattle.ordering.specs.Pairs.{noOrder}
 use Rattle.matrix.proofs.Same.{Line, Finite, Mirrored}
 use Rattle.turns.specs.Turns.{parametersOf, columnTurnAll}
 use Rattle.turns.proofs.Two.{are-two, first-line, second-line}
-use Rattle.plain.specs.State.{State, pairTurned, pairStep, pairsStep, after, notFinite, spoiled}
-use Rattle.plain.proofs.Spots.{Spot, first, second, neither, spot, all-first, all-second, all-other, at-first-first, at-second-second, at-first-other, at-second-other, at-other-first, at-other-second, at-others}
+use Rattle.pair.specs.Pair.{State, pairTurned, pairStep}
+use Rattle.plain.specs.State.{pairsStep, after, notFinite, spoiled}
+use Rattle.pair.proofs.Spots.{Spot, first, second, neither, spot, all-first, all-second, all-other, at-first-first, at-second-second, at-first-other, at-second-other, at-other-first, at-other-second, at-others}
 use Rattle.plain.proofs.Steps.{Paired, registers-paired}
 use Rattle.plain.proofs.Mirrors.{pairs-mirrored, run-mirrored}
 

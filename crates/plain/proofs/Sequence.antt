@@ -19,9 +19,10 @@ use Rattle.rotation.proofs.Cases.{received-pair}
 use Rattle.ordering.specs.Pairs.{noOrder}
 use Rattle.ordering.proofs.Orders.{order-half}
 use Rattle.ordering.proofs.Standing.{left-stands, right-stands, lines-differ}
-use Rattle.plain.specs.State.{State, pairTurned, pairStep, pairsStep, after, notFinite, spoiled}
+use Rattle.pair.specs.Pair.{State, pairTurned, pairStep}
+use Rattle.plain.specs.State.{pairsStep, after, notFinite, spoiled}
 use Rattle.plain.specs.Cells.{cellOf, sideOf, sides, blockTurned, rules}
-use Rattle.plain.proofs.Spots.{Spot, first, second, neither, spot, all-first, all-second, all-other, at-first-first, at-second-second, at-first-second, at-second-first, at-first-other, at-second-other, at-other-first, at-other-second, at-others}
+use Rattle.pair.proofs.Spots.{Spot, first, second, neither, spot, all-first, all-second, all-other, at-first-first, at-second-second, at-first-second, at-second-first, at-first-other, at-second-other, at-other-first, at-other-second, at-others}
 
 -- ---- one pair
 module _ (k i p q : ℕ) (pq : p ≢ q) (X : State) where

@@ -10,7 +10,7 @@ use Rattle.systolic.specs.Sequential.{Rules}
 use Rattle.rotation.specs.declared.Parameters.{Parameters}
 use Rattle.rotation.specs.declared.Sides.{Sides}
 use Rattle.rotation.specs.Rotation.{ofPair, ofTangent, sent, diagonalOf, turnOf}
-use Rattle.plain.specs.State.{State}
+use Rattle.pair.specs.Pair.{State}
 
 pub record Cell : Type 0 where
   pub entry : Float

@@ -12,7 +12,8 @@ use Rattle.systolic.specs.Slots.{any}
 use Rattle.ordering.specs.Pairs.{noOrder}
 use Rattle.matrix.specs.Matrix.{at, flat}
 use Rattle.matrix.specs.Entries.{entriesOf}
-use Rattle.plain.specs.State.{State, state, identity, after, spoiled}
+use Rattle.pair.specs.Pair.{State, state}
+use Rattle.plain.specs.State.{identity, after, spoiled}
 
 -- The most sweeps.
 abbrev pub mostSweeps : ℕ

@@ -1,21 +1,19 @@
 // The plain run (document 01, "Pairs and their movement").
 ghost use mathlib.Core.Path.{_≡_};
-ghost use mathlib.Core.Bool.{true, false, not};
+ghost use mathlib.Core.Bool.{true, false, not, _||_};
 ghost use Prim.Native.Nat.{ℕ, _+_, _*_, _/_, _<_, _≤_};
 ghost use lib.ListN.{length, getD};
-ghost use Rattle.float64.specs.Values.{plusZero};
 ghost use Rattle.refusal.specs.Refusal.{given, told, toldAnswer};
 ghost use Rattle.refusal.specs.declared.Refusal.the-variants.{Spoiled};
-ghost use Rattle.rotation.specs.declared.Parameters.the-variants.{Turn};
 ghost use Rattle.ordering.specs.Pairs.{noOrder, limit};
-ghost use Rattle.matrix.specs.Matrix.{at, flat};
+ghost use Rattle.matrix.specs.Matrix.{flat};
 ghost use Rattle.turns.specs.Turns.{twoLines};
-ghost use Rattle.plain.specs.State.{identity, withEntry, pairTurned, pairStep, pairsStep, after, stateOf, Held};
+ghost use Rattle.pair.specs.Pair.{stateOf, Held};
+ghost use Rattle.plain.specs.State.{identity, pairsStep, after};
 ghost use Rattle.plain.specs.Run.{beforeRun, outcome, zeros, someNotFinite, finishOf, ranOf, runOf};
 use ordering::Registers;
 use refusal::Answer;
 use refusal::Refusal;
-use rotation::Parameters;
 
 // Runs a number of sweeps on a matrix of order n and leaves the last matrix and the eigenvectors in the two results.
 pub fn run(
@@ -121,57 +119,8 @@ fn make_pairs(n: usize, registers: Registers, a: &mut [f64], vectors: &mut [f64]
     let lefts = registers.left;
     let rights = registers.right;
     for k in 0..n / 2 {
-        make_pair(n, lefts[k], rights[k], a, vectors);
+        pair::turn(n, lefts[k], rights[k], a, vectors);
     }
-}
-
-// Turns the lines p and q.
-fn make_pair(n: usize, p: usize, q: usize, a: &mut [f64], vectors: &mut [f64])
-    requires { ⌜ (twoLines n p q (length (now a)) ≡ true) × (length (now vectors) ≡ n * n) ⌝ }
-    ensures { λ _. ⌜ Held n (now (a .exit)) (now (vectors .exit)) (pairStep p q (stateOf n (now (a .entry)) (now (vectors .entry)))) ⌝ }
-{
-    match turns::parameters(n, p, q, a) {
-        Parameters::Still => clear_pair(n, p, q, a),
-        Parameters::Turn(t, c, s) => {
-            turn_matrix(t, c, s, n, p, q, a);
-            turns::turn_columns(Parameters::Turn(t, c, s), n, p, q, vectors);
-        }
-    }
-}
-
-// The matrix with the lines p and q turned.
-fn turn_matrix(t: f64, c: f64, s: f64, n: usize, p: usize, q: usize, a: &mut [f64])
-    requires { ⌜ twoLines n p q (length (now a)) ≡ true ⌝ }
-    ensures { λ _. ⌜ now (a .exit) ≡ flat n (pairTurned (Turn t c s) p q (at n (now (a .entry)))) ⌝ }
-{
-    let sides = rotation::diagonal(
-        Parameters::Turn(t, c, s),
-        matrix::entry(n, p, p, a),
-        matrix::entry(n, q, q, a),
-        matrix::entry(n, p, q, a),
-    );
-    turns::turn_rows(Parameters::Turn(t, c, s), n, p, q, a);
-    turns::turn_columns(Parameters::Turn(t, c, s), n, p, q, a);
-    set_entry(n, p, p, sides.left, a);
-    set_entry(n, q, q, sides.right, a);
-    clear_pair(n, p, q, a);
-}
-
-// Sets a_pq and a_qp to +0.
-fn clear_pair(n: usize, p: usize, q: usize, a: &mut [f64])
-    requires { ⌜ twoLines n p q (length (now a)) ≡ true ⌝ }
-    ensures { λ _. ⌜ now (a .exit) ≡ flat n (withEntry q p plusZero (withEntry p q plusZero (at n (now (a .entry))))) ⌝ }
-{
-    set_entry(n, p, q, 0.0, a);
-    set_entry(n, q, p, 0.0, a);
-}
-
-// Sets the entry in row p and column q.
-fn set_entry(n: usize, p: usize, q: usize, x: f64, a: &mut [f64])
-    requires { ⌜ (length (now a) ≡ n * n) × (1 ≤ p) × (p ≤ n) × (1 ≤ q) × (q ≤ n) ⌝ }
-    ensures { λ _. ⌜ now (a .exit) ≡ flat n (withEntry p q x (at n (now (a .entry)))) ⌝ }
-{
-    a[(p - 1) * n + (q - 1)] = x;
 }
 
 // Refusal 8 if an entry is not finite, and then +0 everywhere.
@@ -179,13 +128,19 @@ fn finish(n: usize, a: &mut [f64], vectors: &mut [f64]) -> Answer
     requires { ⌜ (length (now a) ≡ n * n) × (length (now vectors) ≡ n * n) ⌝ }
     ensures { λ r. ⌜ outcome (toldAnswer r) (now (a .exit)) (now (vectors .exit)) ≡ finishOf n (now (a .entry)) (now (vectors .entry)) ⌝ }
 {
-    if !all_finite(a) {
-        return spoil(n, a, vectors);
-    }
-    if !all_finite(vectors) {
+    if !both_finite(a, vectors) {
         return spoil(n, a, vectors);
     }
     Answer::Accepted
+}
+
+fn both_finite(a: &[f64], vectors: &[f64]) -> bool
+    ensures { λ r. ⌜ r ≡ not (someNotFinite (now (a .entry)) || someNotFinite (now (vectors .entry))) ⌝ }
+{
+    if !all_finite(a) {
+        return false;
+    }
+    all_finite(vectors)
 }
 
 fn all_finite(a: &[f64]) -> bool

@@ -2,11 +2,15 @@ use Prim.Native.Nat.{_-_, _*_, _/_, _≤_}
 use mathlib.Core.Path.{_≡_, refl}
 use native.Mathlib.Nat.{le-antisymm}
 use native.Mathlib.Omega.{arith}
+use borrow.Author.Needs.{needs}
 use lib.ListN.{length}
 use Rattle.ordering.specs.Pairs.{limit}
 use Rattle.turns.proofs.Two.{two-as}
-use Rattle.plain.specs.State.{pairsStep, stateOf, Held}
-use Rattle.plain.proofs.Steps.{Paired, held-itself, held-long, no-pairs, pair-next}
+use Rattle.pair.specs.Pair.{stateOf, Held}
+use Rattle.pair.proofs.Alike.{held-itself, held-long}
+use Rattle.pair.proofs.There.{pair-held}
+use Rattle.plain.specs.State.{pairsStep}
+use Rattle.plain.proofs.Steps.{Paired, no-pairs, pair-next}
 use Rattle.plain.proofs.make_pairs.Statement.{statement}
 use Rattle.plain.proofs.make_pairs.Tie as tie
 
@@ -21,23 +25,20 @@ loop-holds c =
     let s = c .before .before .before .before in
     (omega arith, omega arith, omega arith, omega arith, s .pre .1, no-pairs _ _ _ _ (held-itself _ _ _ (omega arith) (omega arith)) _ _)
 
-mul-make-pair : tie.Need-mul-make-pair Inv-loop μ-loop
-mul-make-pair c = omega arith
+mul-turn : tie.Need-mul-turn Inv-loop μ-loop
+mul-turn c = omega arith
 
-array-read-make-pair : tie.Need-array-read-make-pair Inv-loop μ-loop
-array-read-make-pair c = omega arith
+array-read-turn : tie.Need-array-read-turn Inv-loop μ-loop
+array-read-turn c = omega arith
 
-mul-make-pair-2 : tie.Need-mul-make-pair-2 Inv-loop μ-loop
-mul-make-pair-2 c = omega arith
+mul-turn-2 : tie.Need-mul-turn-2 Inv-loop μ-loop
+mul-turn-2 c = omega arith
 
-array-read-make-pair-2 : tie.Need-array-read-make-pair-2 Inv-loop μ-loop
-array-read-make-pair-2 c = omega arith
+array-read-turn-2 : tie.Need-array-read-turn-2 Inv-loop μ-loop
+array-read-turn-2 c = omega arith
 
-make-pair-requires : tie.Need-make-pair-requires Inv-loop μ-loop
-make-pair-requires c κs =
-    let k = c .before .before .before .loop in
-    let h = held-long _ _ _ _ (k .inv .5) in
-    (two-as _ _ _ (k .inv .4 (k .k) (omega arith)) (h .0), h .1)
+turn-requires : tie.Need-turn-requires Inv-loop μ-loop
+turn-requires c κs = search needs
 
 add-k : tie.Need-add-k Inv-loop μ-loop
 add-k c = omega arith
@@ -48,8 +49,10 @@ loop-less c = omega arith
 loop-again : tie.Need-loop-again Inv-loop μ-loop
 loop-again c =
     let s = c .before .before .before .before in
-    let i = s .before .before .before .before .loop .inv in
-    (omega arith, i .1, i .2, i .3, i .4, pair-next _ _ _ _ _ _ (i .5) _ _ _ _ _ (i .4) (omega arith) refl (s .make-pair .ensures))
+    let k = s .before .before .before .before .loop in
+    let i = k .inv in
+    let h = held-long _ _ _ _ (i .5) in
+    (omega arith, i .1, i .2, i .3, i .4, pair-next _ _ _ _ _ _ (i .5) _ _ _ _ _ (i .4) (omega arith) refl (pair-held _ _ _ _ _ (two-as _ _ _ (i .4 (k .k) (omega arith)) (h .0)) (h .1) (s .turn .ensures)))
 
 same-length : tie.Need-same-length Inv-loop μ-loop
 same-length c = omega (arith, held-long _ _ _ _ (c .before .loop .inv .5) .0)
@@ -69,11 +72,11 @@ make-pairs-spec =
     Inv-loop
     μ-loop
     loop-holds
-    mul-make-pair
-    array-read-make-pair
-    mul-make-pair-2
-    array-read-make-pair-2
-    make-pair-requires
+    mul-turn
+    array-read-turn
+    mul-turn-2
+    array-read-turn-2
+    turn-requires
     add-k
     loop-less
     loop-again

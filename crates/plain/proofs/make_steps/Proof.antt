@@ -7,8 +7,10 @@ use borrow.Author.Needs.{needs}
 use lib.ListN.{length}
 use Rattle.ordering.specs.Pairs.{noOrder, registersAt, afterStep}
 use Rattle.ordering.proofs.Orders.{order-is, of-order, next-at}
-use Rattle.plain.specs.State.{after, stateOf, Held}
-use Rattle.plain.proofs.Steps.{held-itself, held-long, no-steps, step-next, registers-paired}
+use Rattle.pair.specs.Pair.{stateOf, Held}
+use Rattle.pair.proofs.Alike.{held-itself, held-long}
+use Rattle.plain.specs.State.{after}
+use Rattle.plain.proofs.Steps.{no-steps, step-next, registers-paired}
 use Rattle.plain.proofs.make_steps.Statement.{statement}
 use Rattle.plain.proofs.make_steps.Tie as tie
 

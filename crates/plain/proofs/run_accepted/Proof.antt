@@ -3,7 +3,7 @@ use mathlib.Core.Path.{sym, _∙_}
 use native.Mathlib.Omega.{arith}
 use Rattle.ordering.proofs.Orders.{order-is}
 use Rattle.matrix.proofs.Accepted.{accepted-long}
-use Rattle.plain.proofs.Steps.{held-long}
+use Rattle.pair.proofs.Alike.{held-long}
 use Rattle.plain.proofs.Outcomes.{begins, order-above, product-fits, run-made}
 use Rattle.plain.proofs.run_accepted.Statement.{statement}
 use Rattle.plain.proofs.run_accepted.Tie as tie

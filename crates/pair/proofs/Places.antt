@@ -12,7 +12,7 @@ use lib.Seq.{getD-set-same, getD-set-other}
 use lib.Ieee.{Float, nan}
 use Rattle.matrix.specs.Matrix.{at, flat}
 use Rattle.matrix.proofs.Flat.{index-one, at-offset, flat-is}
-use Rattle.plain.specs.State.{withEntry}
+use Rattle.pair.specs.Pair.{withEntry}
 
 module _ (n p q : ℕ) (l : List Float) (long : length l ≡ n * n) (p1 : 1 ≤ p) (pn : p ≤ n) (q1 : 1 ≤ q) (qn : q ≤ n) where
   pub place-within : (p - 1) * n + (q - 1) < length l

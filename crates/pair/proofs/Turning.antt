@@ -12,15 +12,15 @@ use Rattle.rotation.specs.declared.Parameters.{Parameters}
 use Rattle.rotation.specs.declared.Parameters.the-variants.{Still}
 use Rattle.rotation.specs.declared.Sides.{Sides}
 use Rattle.rotation.specs.Rotation.{diagonalOf}
-use Rattle.matrix.specs.Matrix.{at, flat}
+use Rattle.matrix.specs.Matrix.{at, flat, entryOf}
 use Rattle.matrix.proofs.Flat.{flat-length}
 use Rattle.matrix.proofs.Same.{Same, flat-same, flat-again, one-more}
 use Rattle.turns.specs.Turns.{parametersOf, twoLines, onLines, rowTurn, columnTurn, rowTurnAll, columnTurnAll}
-use Rattle.turns.proofs.Two.{are-two, two-as, first-line, second-line, turned-flat}
+use Rattle.turns.proofs.Two.{are-two, two-as, first-line, second-line, pair-entries, turned-flat}
 use Rattle.turns.proofs.Same.{all-columns-same}
 use Rattle.turns.proofs.Still.{still-rows, still-columns, still-all-columns}
-use Rattle.plain.proofs.Spots.{turned-whole}
-use Rattle.plain.specs.State.{withEntry, pairTurned, pairStep, stateOf, Held}
+use Rattle.pair.proofs.Spots.{turned-whole}
+use Rattle.pair.specs.Pair.{withEntry, pairTurned, pairStep, stateOf, Held}
 
 -- ---- one entry
 module _ (p q : ℕ) (x : Float) where
@@ -42,12 +42,11 @@ module _ (p q : ℕ) (x : Float) where
       go true false f g = refl
       go false b f g = refl
 
--- ---- what is found from the entries of a pair
-module _ (n p q : ℕ) (l : List Float) {x y z : Float} (e : x ≡ at n l p p) (f : y ≡ at n l q q) (g : z ≡ at n l p q) where
-  pub diagonal-at : {s : Sides} (P : Parameters) → s ≡ diagonalOf P x y z → s ≡ diagonalOf P (at n l p p) (at n l q q) (at n l p q)
-  diagonal-at P h = rw (← e, ← f, ← g) h
+-- ---- the entries of a pair
+pub same-diagonal : (P : Parameters) {a a′ d d′ b b′ : Float} → a ≡ a′ → d ≡ d′ → b ≡ b′ → diagonalOf P a d b ≡ diagonalOf P a′ d′ b′
+same-diagonal P e f g = rw (e, f, g)
 
--- the two entries that become +0
+-- the two that become +0
 pub cleared : (n p q : ℕ) (l l′ l″ : List Float) → l′ ≡ flat n (withEntry p q plusZero (at n l)) → l″ ≡ flat n (withEntry q p plusZero (at n l′))
     → l″ ≡ flat n (withEntry q p plusZero (withEntry p q plusZero (at n l)))
 cleared n p q l l′ l″ e f = one-more n _ (withEntry q p plusZero) (entry-same q p plusZero n) e f
@@ -57,21 +56,30 @@ module _ (n p q : ℕ) where
       → Same n (withEntry q p plusZero (withEntry p q plusZero A)) (withEntry q p plusZero (withEntry p q plusZero B))
   cleared-same A B h = entry-same q p plusZero n _ _ (entry-same p q plusZero n _ _ h)
 
-  -- ---- a turn: the rows, the columns, the diagonal, the rest
-  pub turn-made : (P : Parameters) (l l₁ l₂ l₃ l₄ l₅ : List Float) (s : Sides) → twoLines n p q (length l) ≡ true
+  -- the four entries of a pair
+  abbrev pub pairSet : Float → Float → (ℕ → ℕ → Float) → ℕ → ℕ → Float
+  pairSet x y A = withEntry q p plusZero (withEntry p q plusZero (withEntry q q y (withEntry p p x A)))
+
+  set-same : (x y : Float) (A B : ℕ → ℕ → Float) → Same n A B → Same n (pairSet x y A) (pairSet x y B)
+  set-same x y A B h = cleared-same _ _ (entry-same q q y n _ _ (entry-same p p x n _ _ h))
+
+  pub pair-set : (x y : Float) (l l₁ l₂ l₃ : List Float) → l₁ ≡ flat n (withEntry p p x (at n l)) → l₂ ≡ flat n (withEntry q q y (at n l₁))
+      → l₃ ≡ flat n (withEntry q p plusZero (withEntry p q plusZero (at n l₂))) → l₃ ≡ flat n (pairSet x y (at n l))
+  pair-set x y l l₁ l₂ l₃ e f g =
+      one-more n _ (λ A. withEntry q p plusZero (withEntry p q plusZero A)) cleared-same (one-more n _ (withEntry q q y) (entry-same q q y n) e f) g
+
+  -- ---- a turn: the rows, the columns, the entries of the pair
+  pub turn-made : (P : Parameters) (l l₁ l₂ l₃ : List Float) (s : Sides) → twoLines n p q (length l) ≡ true
+      → s ≡ diagonalOf P (entryOf n l p p) (entryOf n l q q) (entryOf n l p q)
       → l₁ ≡ onLines n p q (rowTurnAll P p q) l → l₂ ≡ onLines n p q (columnTurnAll P p q) l₁
-      → s ≡ diagonalOf P (at n l p p) (at n l q q) (at n l p q)
-      → l₃ ≡ flat n (withEntry p p (s .left) (at n l₂)) → l₄ ≡ flat n (withEntry q q (s .right) (at n l₃))
-      → l₅ ≡ flat n (withEntry q p plusZero (withEntry p q plusZero (at n l₄)))
-      → l₅ ≡ flat n (pairTurned P p q (at n l))
-  turn-made P l l₁ l₂ l₃ l₄ l₅ s two e₁ e₂ d e₃ e₄ e₅ =
+      → l₃ ≡ flat n (pairSet (s .left) (s .right) (at n l₂)) → l₃ ≡ flat n (pairTurned P p q (at n l))
+  turn-made P l l₁ l₂ l₃ s two d e₁ e₂ e₃ =
       let t = are-two n p q (length l) two in
+      let z = pair-entries n p q l two in
       let f₁ : l₁ ≡ flat n (rowTurnAll P p q (at n l)) = e₁ ∙ turned-flat n p q (rowTurnAll P p q) l two in
       let two₁ : twoLines n p q (length l₁) ≡ true = two-as n p q two (ap length f₁ ∙ flat-length n _ ∙ sym (t .long)) in
       let f₂ = one-more n _ (columnTurnAll P p q) (all-columns-same n P p q (first-line t) (second-line t)) f₁ (e₂ ∙ turned-flat n p q (columnTurnAll P p q) l₁ two₁) in
-      let f₃ = one-more n _ (withEntry p p (s .left)) (entry-same p p (s .left) n) f₂ e₃ in
-      let f₄ = one-more n _ (withEntry q q (s .right)) (entry-same q q (s .right) n) f₃ e₄ in
-      rw d at (one-more n _ (λ A. withEntry q p plusZero (withEntry p q plusZero A)) cleared-same f₄ e₅)
+      rw (d, z .0, z .1, z .2) at (one-more n _ (pairSet (s .left) (s .right)) (set-same (s .left) (s .right)) f₂ e₃)
       ∙ flat-same n _ _ (λ r c hr hc. turned-whole P p q (at n l) r c)
 
   -- ---- the step of a pair, still or turned

@@ -1,8 +1,8 @@
 use native.Mathlib.Omega.{arith}
 use borrow.Author.Needs.{needs}
-use Rattle.plain.proofs.Places.{place-within, place-set}
-use Rattle.plain.proofs.set_entry.Statement.{statement}
-use Rattle.plain.proofs.set_entry.Tie as tie
+use Rattle.pair.proofs.Places.{place-within, place-set}
+use Rattle.pair.proofs.set_entry.Statement.{statement}
+use Rattle.pair.proofs.set_entry.Tie as tie
 
 sub-a : tie.Need-sub-a
 sub-a c = search needs

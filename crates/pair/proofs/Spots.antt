@@ -12,7 +12,7 @@ use Rattle.rotation.specs.declared.Parameters.{Parameters}
 use Rattle.rotation.specs.Rotation.{diagonalOf, turnOf}
 use Rattle.turns.specs.Turns.{turnedAt, isOne, rowTurn, columnTurn, rowTurnAll, columnTurnAll}
 use Rattle.turns.proofs.Still.{same-either}
-use Rattle.plain.specs.State.{withEntry, pairTurned}
+use Rattle.pair.specs.Pair.{withEntry, pairTurned}
 
 -- a line is the first of a pair, or the second, or neither
 pub data Spot (p q r : ℕ) : Type 0 where

@@ -4,9 +4,9 @@ use borrow.Author.Needs.{needs}
 use lib.ListN.{length}
 use Rattle.matrix.proofs.Flat.{flat-length}
 use Rattle.turns.proofs.Two.{are-two}
-use Rattle.plain.proofs.Turning.{cleared}
-use Rattle.plain.proofs.clear_pair.Statement.{statement}
-use Rattle.plain.proofs.clear_pair.Tie as tie
+use Rattle.pair.proofs.Turning.{cleared}
+use Rattle.pair.proofs.clear_pair.Statement.{statement}
+use Rattle.pair.proofs.clear_pair.Tie as tie
 
 set-entry-requires : tie.Need-set-entry-requires
 set-entry-requires c κs =

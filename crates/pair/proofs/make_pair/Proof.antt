@@ -1,9 +1,9 @@
 use mathlib.Core.Path.{sym, _∙_}
 use Rattle.turns.proofs.Two.{pair-parameters}
-use Rattle.plain.proofs.Turning.{still-held, turn-held}
+use Rattle.pair.proofs.Turning.{still-held, turn-held}
 use borrow.Author.Needs.{needs}
-use Rattle.plain.proofs.make_pair.Statement.{statement}
-use Rattle.plain.proofs.make_pair.Tie as tie
+use Rattle.pair.proofs.make_pair.Statement.{statement}
+use Rattle.pair.proofs.make_pair.Tie as tie
 
 parameters-requires : tie.Need-parameters-requires
 parameters-requires c κs = search needs
