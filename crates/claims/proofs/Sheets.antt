@@ -1,6 +1,6 @@
 -- Demand 2 on sheets, each part by the law that proves it. Assumes nothing.
 use mathlib.Core.Path.{refl}
-use Rattle.sheet.proofs.RoundTrip as sheets
+use Rattle.claims.proofs.RoundTrip as sheets
 use Rattle.claims.specs.Sheets.{SheetsKept}
 
 pub sheets-kept : SheetsKept

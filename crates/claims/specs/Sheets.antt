@@ -7,7 +7,8 @@ use lib.Ieee.{Float}
 use Rattle.refusal.specs.Refusal.{given}
 use Rattle.matrix.specs.Matrix.{at, flat}
 use Rattle.sheet.specs.Format.{sheetLength, sheetOf, orderIn, sweepsIn, codesIn, entryIn}
-use Rattle.sheet.specs.Calls.{readTold, readOutcome, readOf, writeTold, writeOutcome, writeOf, SameContent}
+use Rattle.reader.specs.Reader.{readTold, readOutcome, readOf}
+use Rattle.writer.specs.Writer.{writeTold, writeOutcome, writeOf}
 use Rattle.claims.specs.Histories.{Binary64}
 
 -- Every number is a byte's, as those of a lent slice are.
@@ -25,6 +26,13 @@ abbrev pub AcceptedIsWrittenAgain : Type 0
 AcceptedIsWrittenAgain =
     (b : List ℕ) → Bytes b → (codes matrix : ℕ) → readTold b codes matrix ≡ given tt → (lent : List ℕ) → length b ≤ length lent
     → writeOf (orderIn b) (sweepsIn b) (codesIn b) (flat (orderIn b) (entryIn b)) lent ≡ writeOutcome (given tt) (b ++ drop (length b) lent)
+
+-- Two contents of a sheet are one.
+pub record SameContent (n n′ sweeps sweeps′ : ℕ) (codes codes′ : List ℕ) (l l′ : List Float) : Type 0 where
+  pub orders : n ≡ n′
+  pub sweep-counts : sweeps ≡ sweeps′
+  pub code-lists : codes ≡ codes′
+  pub matrices : l ≡ l′
 
 -- Two different accepted contents have different sheets.
 abbrev pub OneContentASheet : Type 0

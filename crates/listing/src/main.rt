@@ -3,8 +3,8 @@ ghost use Prim.Native.Nat.{_≤_};
 use array::Completion;
 use libc::STDIN_FILENO;
 use libc::STDOUT_FILENO;
+use reader::Reading;
 use refusal::Refusal;
-use sheet::Reading;
 
 // The longest sheet has 4,258 bytes, so one more shows that the input is longer.
 const LONGEST: usize = 4259;
@@ -60,7 +60,7 @@ fn answer(
     result: &mut [f64],
     vectors: &mut [f64],
 ) -> bool {
-    match sheet::read(sheet, codes, matrix) {
+    match reader::read(sheet, codes, matrix) {
         Reading::Read(n, sweeps) => run(n, sweeps, codes, matrix, result, vectors),
         Reading::Refused(refused) => refuse(refused),
     }

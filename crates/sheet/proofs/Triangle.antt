@@ -2,10 +2,11 @@
 use Prim.Native.Nat.{ℕ, zero, suc, _+_, _-_, _*_, _/_, _<_, _≤_}
 use mathlib.Core.Path.{_≡_, refl, ap, _∙_}
 use mathlib.Core.Bool.{Bool, true, false, cond}
-use native.Mathlib.Nat.{mul-add, mul-one, suc-mul, mul-assoc, mul-comm}
+use native.Mathlib.Nat.{mul-add, mul-one, suc-mul, mul-assoc, mul-comm, mul-le-mul}
 use native.Mathlib.Omega.{arith}
 use borrow.Author.Tests.{lt-ltb, le-ltb, ltb-true, ltb-false}
 use lib.Dec.{ltb}
+use Rattle.ordering.specs.Pairs.{limit}
 use Rattle.sheet.specs.Format.{sheetLength, entriesFrom, nextPlace, placeOf, entriesTo, numberOf}
 
 -- ---- how many there are
@@ -26,6 +27,12 @@ length-is n =
     let h = closed n in
     let a : 4 * n * (n + 1) ≡ 4 * (n * (n + 1)) = mul-assoc 4 n (n + 1) in
     omega arith
+
+pub few-entries : (n : ℕ) → n ≤ limit → (n ≤ limit) × (n * n ≤ limit * limit) × (4 * n * (n + 1) ≤ 4 * limit * (limit + 1))
+few-entries n h =
+    let a : 4 * n ≤ 4 * limit = omega arith in
+    let b : n + 1 ≤ limit + 1 = omega arith in
+    (h, mul-le-mul h h, mul-le-mul a b)
 
 row-length : (i : ℕ) → 1 ≤ i → entriesTo i ≡ entriesTo (i - 1) + i
 row-length zero h = absurd (omega arith)

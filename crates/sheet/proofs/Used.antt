@@ -1,15 +1,19 @@
--- Codes that are zero or used before. Assumes nothing.
-use Prim.Native.Nat.{ℕ, _+_, _<_}
+-- Codes that are not there, are zero, or are used before. Assumes nothing.
+use Prim.Native.Nat.{ℕ, _+_, _<_, _≤_}
 use mathlib.Core.Path.{_≡_, sym, ap}
 use mathlib.Core.Bool.{Bool, true, false, _||_}
 use mathlib.Core.List.{List}
 use native.Mathlib.Omega.{arith}
 use borrow.Author.Tests.{eq-eqb, ne-eqb}
 use lib.Dec.{eqb}
-use lib.ListN.{getD}
+use lib.ListN.{length, getD, List·getD-eq-default}
 use Rattle.systolic.specs.Slots.{any}
 use Rattle.systolic.proofs.Bounded.{any-hit, any-within}
-use Rattle.sheet.specs.Calls.{badCode, badCodes}
+use Rattle.sheet.specs.Codes.{badCode, badCodes}
+
+-- beyond the end there is none
+pub no-code : (b : List ℕ) (i : ℕ) → length b ≤ i → 0 ≡ getD b i 0
+no-code b i h = sym (List·getD-eq-default b 0 h)
 
 -- code k is one of the first i
 abbrev pub usedBefore : List ℕ → ℕ → ℕ → ℕ → Bool

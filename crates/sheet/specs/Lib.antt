@@ -1,3 +1,2 @@
 pub mod Format
-pub mod Calls
-pub mod Steps
+pub mod Codes

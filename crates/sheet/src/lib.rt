@@ -1,37 +1,46 @@
-// Sheets: reader and writer (document 01, "A sheet").
+// The line codes of a sheet (document 01, "A sheet").
 ghost use mathlib.Core.Path.{_≡_};
-ghost use Rattle.refusal.specs.Refusal.{toldAnswer};
-ghost use Rattle.sheet.specs.Calls.{readOutcome, toldReading, readOf, writeOutcome, writeOf};
-use refusal::Answer;
-use refusal::Refusal;
+ghost use Prim.Native.Nat.{_+_};
+ghost use lib.ListN.{getD};
+ghost use Rattle.sheet.specs.Codes.{badCode, badCodes};
 
-mod codes;
-mod packing;
-mod reader;
-mod writer;
-
-// What a reader answers: the order and the sweeps, or a refusal.
-pub enum Reading {
-    Read(usize, usize),
-    Refused(Refusal),
+// Whether one of the n codes from `first` on is zero, or used before. A code that is not there counts as zero.
+pub fn has_bad_code(bytes: &[u8], first: usize, n: usize) -> bool
+    ensures { λ r. ⌜ r ≡ badCodes (now (bytes .entry)) first n ⌝ }
+{
+    for k in 0..n {
+        if is_bad(bytes, first, k) {
+            return true;
+        }
+    }
+    false
 }
 
-// Reads a sheet into lent codes and a lent matrix.
-pub fn read(sheet: &[u8], codes: &mut [u8], matrix: &mut [f64]) -> Reading
-    ensures { λ r. ⌜ readOutcome (toldReading r) (now (codes .exit)) (now (matrix .exit)) ≡ readOf (now (sheet .entry)) (now (codes .entry)) (now (matrix .entry)) ⌝ }
+// Whether code k is zero, or one of those before it.
+fn is_bad(bytes: &[u8], first: usize, k: usize) -> bool
+    ensures { λ r. ⌜ r ≡ badCode (now (bytes .entry)) first k ⌝ }
 {
-    match reader::verdict(sheet, codes.len(), matrix.len()) {
-        Answer::Accepted => reader::read_accepted(sheet, codes, matrix),
-        Answer::Refused(refused) => Reading::Refused(refused),
+    let code = code_at(bytes, first, k);
+    if code == 0 {
+        return true;
     }
+    for i in 0..k {
+        if code_at(bytes, first, i) == code {
+            return true;
+        }
+    }
+    false
 }
 
-// Writes a sheet into lent bytes. A longer buffer keeps its tail.
-pub fn write(n: usize, sweeps: usize, codes: &[u8], matrix: &[f64], sheet: &mut [u8]) -> Answer
-    ensures { λ r. ⌜ writeOutcome (toldAnswer r) (now (sheet .exit)) ≡ writeOf n sweeps (now (codes .entry)) (now (matrix .entry)) (now (sheet .entry)) ⌝ }
+// Code k, and 0 where there is none.
+fn code_at(bytes: &[u8], first: usize, k: usize) -> u8
+    ensures { λ r. ⌜ r ≡ getD (now (bytes .entry)) (first + k) 0 ⌝ }
 {
-    match writer::verdict(n, sweeps, codes, matrix, sheet.len()) {
-        Answer::Accepted => writer::write_accepted(n, sweeps, codes, matrix, sheet),
-        Answer::Refused(refused) => Answer::Refused(refused),
+    if bytes.len() <= first {
+        return 0;
     }
+    if bytes.len() - first <= k {
+        return 0;
+    }
+    bytes[first + k]
 }

@@ -2,7 +2,7 @@
 use crate::packed;
 use hexio::refusals;
 use hexio::values;
-use sheet::Reading;
+use reader::Reading;
 
 // Of a writing the order and the sweeps.
 pub enum Call {
@@ -23,7 +23,7 @@ fn answer_read(sheet: &mut [u8], codes: &mut [u8], matrix: &mut [f64]) -> bool {
     if !packed::read_bytes(sheet) {
         return false;
     }
-    let reading = sheet::read(sheet, codes, matrix);
+    let reading = reader::read(sheet, codes, matrix);
     print_reading(reading) && packed::print_bytes(codes) && values::print_values(matrix)
 }
 
@@ -50,6 +50,6 @@ fn answer_write(
     if !values::read_values(matrix) {
         return false;
     }
-    let answer = sheet::write(n, sweeps, codes, matrix, sheet);
+    let answer = writer::write(n, sweeps, codes, matrix, sheet);
     refusals::print_answer(answer) && packed::print_bytes(sheet)
 }
