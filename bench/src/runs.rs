@@ -1,4 +1,4 @@
-//! The plain run of the crate `plain` and the array's whole run of the crate `array` against those of `plain.rs` and
+//! The plain run of the crate `plain` and the array's whole run of the crate `whole` against those of `plain.rs` and
 //! `arrays.rs`.
 use crate::arrays;
 use crate::lent::Lent;

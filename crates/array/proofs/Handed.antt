@@ -1,19 +1,14 @@
 -- The array that a tick hands back. Assumes nothing.
-use Prim.Native.Nat.{ℕ, _≤_}
 use mathlib.Core.Path.{_≡_, refl, _∙_}
-use mathlib.Core.Bool.{false}
-use mathlib.Core.List.{List}
 use native.Mathlib.Omega.{arith}
-use lib.Ieee.{Float}
 use Rattle.refusal.specs.Refusal.{given, told}
 use Rattle.refusal.specs.declared.Refusal.{Refusal}
-use Rattle.ordering.specs.Pairs.{noOrder}
-use Rattle.plain.specs.Run.{mostSweeps}
+use Rattle.schedule.specs.declared.Progress.the-variants.{Made, Stopped, Refused}
+use Rattle.schedule.specs.Answers.{made, stopped, progressOf}
+use Rattle.schedule.proofs.Answers.{made-means}
 use Rattle.array.specs.declared.Array.{Array}
-use Rattle.array.specs.declared.Progress.the-variants.{Made, Stopped, Refused}
-use Rattle.array.specs.Arrays.{made, stopped, ticksOf, progressOf, Ticks}
-use Rattle.array.specs.Runs.{startArray, nextArray, ticked, GoesOn}
-use Rattle.array.proofs.Answers.{made-means}
+use Rattle.array.specs.Arrays.{Ticks}
+use Rattle.array.specs.Runs.{nextArray, ticked, GoesOn}
 
 module _ (x : Array) where
   pub stopped-stays : given stopped ≡ progressOf (x .n) (x .sweeps) (x .tick) → Ticks x (record { answer = Stopped; array = x })
@@ -27,7 +22,3 @@ module _ (x : Array) where
 
   pub one-more : given made ≡ progressOf (x .n) (x .sweeps) (x .tick) → GoesOn x 1
   one-more e = let w = made-means (x .n) (x .sweeps) (x .tick) e in record { order = w .order; few = w .few; room = omega (arith, w .before-end) }
-
--- every tick of a run is made
-pub all-made : (n sweeps : ℕ) (l : List Float) {x : Array} → noOrder n ≡ false → sweeps ≤ mostSweeps → x ≡ startArray n sweeps l → GoesOn x (ticksOf n sweeps)
-all-made n sweeps l o few e = rw e (unfold startArray in (record { order = o; few = few; room = omega arith }))

@@ -1,10 +1,6 @@
 pub mod Starting
-pub mod Results
 pub mod Running
 pub mod Nearby
 pub mod Made
-pub mod Answers
 pub mod Handed
-pub mod Neighbours
-pub mod Agreement
-pub mod Hand
+pub mod Staying

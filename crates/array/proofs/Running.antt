@@ -3,17 +3,17 @@ use Prim.Native.Nat.{ℕ, zero, suc, _+_, _-_, _/_, _≤_}
 use mathlib.Core.Path.{_≡_, refl, sym, ap, _∙_}
 use mathlib.Core.List.{List}
 use native.Mathlib.Omega.{arith}
-use lib.ListN.{length}
 use lib.Ieee.{Float}
 use Rattle.refusal.specs.Refusal.{Told, given, refused, told}
 use Rattle.refusal.specs.declared.Refusal.{Refusal}
 use Rattle.refusal.specs.declared.Answer.the-variants as answer
-use Rattle.plain.specs.Run.{stepsOf, beforeRun, Outcome, outcome}
+use Rattle.plain.specs.Run.{stepsOf}
+use Rattle.schedule.proofs.Answers.{is-made}
+use Rattle.schedule.specs.Answers.{Tick, made, stopped, progressOf}
 use Rattle.tile.specs.declared.Tile.{Tile}
-use Rattle.array.proofs.Answers.{is-made}
 use Rattle.array.specs.declared.Array.{Array}
-use Rattle.array.specs.Arrays.{tilesAfter, Tick, made, stopped, ticksOf, progressOf, arrayOf}
-use Rattle.array.specs.Runs.{startArray, noArray, startTold, Starts, nextArray, ticked, GoesOn, handedOver, wholeOf}
+use Rattle.array.specs.Arrays.{tilesAfter, arrayOf}
+use Rattle.array.specs.Runs.{startArray, noArray, startTold, Starts, nextArray, ticked, GoesOn}
 
 -- ---- the start
 module _ (n sweeps : ℕ) (l : List Float) {x : Array} where
@@ -71,20 +71,3 @@ module _ (x : Array) where
   pub after-is : (k t : ℕ) {n sweeps : ℕ} {l : List Tile} → GoesOn x k → n ≡ x .n → sweeps ≡ x .sweeps → l ≡ tilesFrom N K (x .tick) (t - x .tick) (x .tiles) → t ≡ x .tick + k
       → _≡_ {A = Array} (record { n = n; sweeps = sweeps; tick = x .tick + k; tiles = l }) (ticked k x)
   after-is k t g e f h z = let a : x .tick + k - x .tick ≡ k = omega arith in rw (e, f, h, z, a) (sym (ticked-made k g))
-
--- ---- a refused run, and one that is not
-module _ (n sweeps : ℕ) (l r v : List Float) where
-  pub whole-refused : {k : ℕ} {values : List ℕ} → refused k values ≡ beforeRun n sweeps l (length r) (length v) → outcome (refused k values) r v ≡ wholeOf n sweeps l r v
-  unfolding wholeOf
-  whole-refused e = rw (← e)
-
-  pub whole-accepted : {o : Outcome ℕ} → given tt ≡ beforeRun n sweeps l (length r) (length v) → o ≡ handedOver (ticked (ticksOf n sweeps) (startArray n sweeps l))
-      → o ≡ wholeOf n sweeps l r v
-  unfolding wholeOf
-  whole-accepted e f = rw (← e) f
-
-pub run-ends : (k : ℕ) {x y z : Array} → x ≡ y → z ≡ ticked k x → z ≡ ticked k y
-run-ends k e f = f ∙ ap (ticked k) e
-
-pub start-order : (n sweeps : ℕ) (l : List Float) (k : ℕ) → ticked k (startArray n sweeps l) .n ≡ n
-start-order n sweeps l k = ticked-order k (startArray n sweeps l) ∙ unfold startArray in refl

@@ -6,23 +6,20 @@ use mathlib.Core.List.{List}
 use lib.Dec.{eqb, ltb}
 use lib.ListN.{getD}
 use lib.Ieee.{Float, nan}
+use Rattle.refusal.specs.Refusal.{Told, given, refused}
 use Rattle.lists.specs.Tabulate.{tabulate}
-use Rattle.refusal.specs.Refusal.{Told, given, refused, told}
-use Rattle.refusal.specs.declared.Refusal.the-variants.{Order, Sweeps}
 use Rattle.systolic.specs.Blocks.{Block}
 use Rattle.systolic.specs.Tiles as theory
 use Rattle.systolic.specs.Arrays.{tick}
+use Rattle.lines.specs.declared.Quad.{Quad}
+use Rattle.lines.specs.declared.Part.{Part}
 use Rattle.ordering.specs.Registers.{most}
-use Rattle.ordering.specs.Pairs.{noOrder}
 use Rattle.plain.specs.Cells.{Cell}
-use Rattle.plain.specs.Run.{mostSweeps, stepsOf}
-use Rattle.tile.specs.declared.Quad.{Quad}
-use Rattle.tile.specs.declared.Part.{Part}
+use Rattle.plain.specs.Run.{stepsOf}
+use Rattle.schedule.specs.Answers.{Tick, made, stopped, toldProgress, progressOf}
 use Rattle.tile.specs.declared.Tile.{Tile}
 use Rattle.tile.specs.Tiles.{theTile, operations}
 use Rattle.array.specs.declared.Array.{Array}
-use Rattle.array.specs.declared.Progress.{Progress}
-use Rattle.array.specs.declared.Progress.the-variants.{Made, Stopped, Refused}
 use Rattle.array.specs.declared.Ticked.{Ticked}
 use Rattle.array.specs.declared.wiring.Near.{Near}
 
@@ -58,23 +55,6 @@ theArray l i j = theTile (tileAt l i j)
 unfoldable pub tilesAfter : ℕ → ℕ → ℕ → List Tile → List Tile
 tilesAfter N K t l =
     tabulate (most * most) (λ k. cond (ltb (k / most) N && ltb (k % most) N) (tileOf (tick operations (N - 1) K t (theArray l) (k / most) (k % most))) (getD l k noTile))
-
--- What a tick tells: made, or stopped after the last, or a refusal.
-pub data Tick : Type 0 where
-  made stopped : Tick
-
-abbrev pub toldProgress : Progress → Told Tick
-toldProgress Made = given made
-toldProgress Stopped = given stopped
-toldProgress (Refused r) = told r
-
--- The number of ticks of a run, 3 K + N.
-abbrev pub ticksOf : ℕ → ℕ → ℕ
-ticksOf n sweeps = 3 * stepsOf n sweeps + n / 2
-
-unfoldable pub progressOf : ℕ → ℕ → ℕ → Told Tick
-progressOf n sweeps t =
-    cond (noOrder n) (told Order) (cond (ltb mostSweeps sweeps) (told Sweeps) (cond (ltb t (ticksOf n sweeps)) (given made) (given stopped)))
 
 -- The array beside the answer: a refused or stopped tick gives it back as it was.
 abbrev pub arrayOf : Told Tick → Array → Array

@@ -1,4 +1,2 @@
 pub mod Arrays
 pub mod Runs
-pub mod Hand
-pub mod Neighbours

@@ -1,16 +1,11 @@
 // The array of tiles (document 01, "The array").
 ghost use mathlib.Core.Path.{_≡_};
-ghost use Rattle.refusal.specs.Refusal.{given};
-ghost use Rattle.plain.specs.Run.{beforeRun, outcome};
-ghost use lib.ListN.{length};
-ghost use Rattle.array.specs.Arrays.{toldProgress, progressOf, ticksOf, Ticks};
-ghost use Rattle.array.specs.Runs.{startArray, noArray, Starts, GoesOn, ticked, handedOver, toldCompletion, wholeOf};
+ghost use Rattle.array.specs.Arrays.{Ticks};
+ghost use Rattle.array.specs.Runs.{startArray, noArray, Starts, GoesOn, ticked};
 use refusal::Answer;
-use refusal::Refusal;
+use schedule::Progress;
 use tile::Tile;
 
-mod beginning;
-mod ending;
 mod wiring;
 
 // The order, the sweeps, the number of the next tick and the tiles: that in row i and column j, from 0, is at 16 i + j.
@@ -27,54 +22,10 @@ pub struct Started {
     pub array: Array,
 }
 
-pub enum Progress {
-    Made,
-    Stopped,
-    Refused(Refusal),
-}
-
 // What a tick answers, and the array beside it.
 pub struct Ticked {
     pub answer: Progress,
     pub array: Array,
-}
-
-// What a whole run answers: the number of ticks that it made, or a refusal.
-pub enum Completion {
-    Completed(usize),
-    Refused(Refusal),
-}
-
-// Runs a number of sweeps on a matrix of order n by the array, and leaves the last matrix and the eigenvectors in the two results.
-pub fn run(
-    n: usize,
-    sweeps: usize,
-    matrix: &[f64],
-    result: &mut [f64],
-    vectors: &mut [f64],
-) -> Completion
-    ensures { λ r. ⌜ outcome (toldCompletion r) (now (result .exit)) (now (vectors .exit)) ≡ wholeOf n sweeps (now (matrix .entry)) (now (result .entry)) (now (vectors .entry)) ⌝ }
-{
-    match plain::verdict(n, sweeps, matrix, result.len(), vectors.len()) {
-        Answer::Accepted => run_accepted(n, sweeps, matrix, result, vectors),
-        Answer::Refused(refused) => Completion::Refused(refused),
-    }
-}
-
-// A run that is not refused before it.
-fn run_accepted(
-    n: usize,
-    sweeps: usize,
-    matrix: &[f64],
-    result: &mut [f64],
-    vectors: &mut [f64],
-) -> Completion
-    requires { ⌜ beforeRun n sweeps (now matrix) (length (now result)) (length (now vectors)) ≡ given tt ⌝ }
-    ensures { λ r. ⌜ outcome (toldCompletion r) (now (result .exit)) (now (vectors .exit)) ≡ handedOver (ticked (ticksOf n sweeps) (startArray n sweeps (now (matrix .entry)))) ⌝ }
-{
-    let start = Array::of_matrix(n, sweeps, matrix);
-    let end = start.after(3 * (sweeps * (n - 1)) + n / 2);
-    ending::hand_over(end, result, vectors)
 }
 
 impl Array {
@@ -128,7 +79,7 @@ impl Array {
         let n = self.n;
         let sweeps = self.sweeps;
         let tick = self.tick;
-        match answer_to(n, sweeps, tick) {
+        match schedule::answer_to(n, sweeps, tick) {
             Progress::Made => {}
             Progress::Stopped => {
                 return Ticked {
@@ -147,6 +98,20 @@ impl Array {
             answer: Progress::Made,
             array: self.after(1),
         }
+    }
+
+    // The array after `count` more ticks, as many as are made.
+    pub fn ticks(self, count: usize) -> Array
+        ensures { λ r. ⌜ r ≡ ticked count self ⌝ }
+    {
+        let left = schedule::ticks_left(self.n, self.sweeps, self.tick);
+        if left == 0 {
+            return self;
+        }
+        if count > left {
+            return self.after(left);
+        }
+        self.after(count)
     }
 
     // The array after `count` more ticks, which are all made. In each tick all tiles read before any writes.
@@ -174,7 +139,7 @@ impl Array {
                 let at_column = from.column;
                 rows[k] = array.tiles[at_row].row;
                 columns[k] = array.tiles[at_column].column;
-                if !tile::reads(steps, tick, i, j) {
+                if !schedule::reads(steps, tick, i, j) {
                     continue;
                 }
                 let at_alpha = from.alpha;
@@ -203,20 +168,4 @@ impl Array {
         array.tick = first + count;
         array
     }
-}
-
-// What a tick of an array with this order, these sweeps and this tick answers.
-fn answer_to(n: usize, sweeps: usize, tick: usize) -> Progress
-    ensures { λ r. ⌜ toldProgress r ≡ progressOf n sweeps tick ⌝ }
-{
-    if ordering::is_no_order(n) {
-        return Progress::Refused(Refusal::Order);
-    }
-    if sweeps > 16 {
-        return Progress::Refused(Refusal::Sweeps);
-    }
-    if tick < 3 * (sweeps * (n - 1)) + n / 2 {
-        return Progress::Made;
-    }
-    Progress::Stopped
 }

@@ -5,7 +5,7 @@ use hexio::Line;
 
 mod by_hand;
 mod record;
-mod whole;
+mod whole_run;
 mod wild;
 
 // A proved loop has to end, so it counts its turns down, from a number that no run uses up.
@@ -22,7 +22,7 @@ fn answer_case() -> bool {
         return false;
     };
     match kind {
-        0 => whole::answer_run(),
+        0 => whole_run::answer_run(),
         1 => by_hand::answer_run(),
         2 => wild::answer_tick(),
         _ => false,

@@ -1,10 +1,10 @@
 // What is written of a record: the order, the sweeps, the tick, and some of the tiles. Of a tile: its cells, the
 // lines that leave by its corners, those that leave along its row and its column, and its mark.
 use array::Array;
-use array::Progress;
 use hexio::values;
-use tile::Part;
-use tile::Quad;
+use lines::Part;
+use lines::Quad;
+use schedule::Progress;
 use tile::Tile;
 
 // What a tick answered, as a number.

@@ -2,10 +2,10 @@
 // holds. The answer is what the tick answered, the number of the refusal if it is refused, and the record.
 use crate::record;
 use array::Array;
-use array::Progress;
 use hexio::Line;
-use tile::Part;
-use tile::Quad;
+use lines::Part;
+use lines::Quad;
+use schedule::Progress;
 use tile::Tile;
 
 pub fn answer_tick() -> bool {

@@ -2,13 +2,13 @@
 use Prim.Native.Nat.{ℕ}
 use mathlib.Core.Path.{_≡_, sym, ap, _∙_}
 use Rattle.refusal.specs.Refusal.{Told, given, refused}
-use Rattle.plain.specs.Run.{Outcome, runOf}
-use Rattle.array.specs.Arrays.{ticksOf}
-use Rattle.array.specs.Runs.{tellingIn}
 use Rattle.ordering.proofs.Meetings as ordering
-use Rattle.array.proofs.Agreement as agreement
-use Rattle.array.proofs.Hand as hand
-use Rattle.array.proofs.Neighbours as neighbours
+use Rattle.plain.specs.Run.{Outcome, runOf}
+use Rattle.schedule.specs.Answers.{ticksOf}
+use Rattle.whole.specs.Whole.{tellingIn}
+use Rattle.agreement.proofs.Agreement as agreement
+use Rattle.agreement.proofs.Hand as hand
+use Rattle.agreement.proofs.Neighbours as neighbours
 use Rattle.claims.specs.Histories.{WholeRunIsThePlainRun, TicksReported, OneHistory}
 
 whole-run : WholeRunIsThePlainRun

@@ -15,9 +15,10 @@ use Rattle.array.specs.declared.Array.{Array}
 use Rattle.array.specs.declared.Started.{Started}
 use Rattle.array.specs.declared.Ticked.{Ticked}
 use Rattle.array.specs.Arrays.{tileAt, Ticks}
-use Rattle.array.specs.Runs.{startTold, wholeOf, telling}
-use Rattle.array.specs.Hand.{ByHand, ClaimedByHand}
-use Rattle.array.specs.Neighbours.{Agree}
+use Rattle.array.specs.Runs.{startTold}
+use Rattle.whole.specs.Whole.{wholeOf, telling}
+use Rattle.agreement.specs.Hand.{ByHand, ClaimedByHand}
+use Rattle.agreement.specs.Neighbours.{Agree}
 
 -- Every value is one of binary64, as the values of a lent slice are.
 abbrev pub Binary64 : List Float → Type 0

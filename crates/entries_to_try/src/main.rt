@@ -1,12 +1,12 @@
 // Makes the calls of document 01, "Entries to try", in its order, and writes what each answers and leaves. Results are lent filled with 9.
 // tools/entries_to_try.py writes the expected output.
-use array::Completion;
 use hexio::refusals;
 use hexio::runs::LIMIT;
 use hexio::values;
 use ordering::Registers;
+use reader::Reading;
 use root::Root;
-use sheet::Reading;
+use whole::Completion;
 
 const LARGEST: u64 = 0x7FEF_FFFF_FFFF_FFFF;
 
@@ -127,7 +127,7 @@ fn write_answer(
     vectors: &mut [f64],
 ) -> bool {
     if by_array {
-        return write_completion(array::run(n, sweeps, matrix, result, vectors));
+        return write_completion(whole::run(n, sweeps, matrix, result, vectors));
     }
     refusals::print_answer(plain::run(n, sweeps, matrix, result, vectors))
 }
@@ -178,7 +178,7 @@ fn write_sheets() -> bool {
 fn write_reading(bytes: &[u8]) -> bool {
     let mut codes = [9; 2];
     let mut matrix = [9.0; 4];
-    let reading = sheet::read(bytes, &mut codes, &mut matrix);
+    let reading = reader::read(bytes, &mut codes, &mut matrix);
     write_sizes(reading) && write_codes(codes) && values::print_values(&matrix)
 }
 

@@ -1,10 +1,10 @@
 // Reads a sheet on standard input, runs the array, and prints it (document 01, "The printed sheet").
 ghost use Prim.Native.Nat.{_≤_};
-use array::Completion;
 use libc::STDIN_FILENO;
 use libc::STDOUT_FILENO;
 use reader::Reading;
 use refusal::Refusal;
+use whole::Completion;
 
 // The longest sheet has 4,258 bytes, so one more shows that the input is longer.
 const LONGEST: usize = 4259;
@@ -74,7 +74,7 @@ fn run(
     result: &mut [f64],
     vectors: &mut [f64],
 ) -> bool {
-    match array::run(n, sweeps, matrix, result, vectors) {
+    match whole::run(n, sweeps, matrix, result, vectors) {
         Completion::Completed(ticks) => print(n, sweeps, ticks, codes, result, vectors),
         Completion::Refused(refused) => refuse(refused),
     }

@@ -1,10 +1,10 @@
 // What the benchmark calls: the plain run and the array's whole run.
 ghost use mathlib.Core.Path.{_≡_};
 ghost use Rattle.plain.specs.Run.{runOf};
-ghost use Rattle.array.specs.Runs.{wholeOf};
+ghost use Rattle.whole.specs.Whole.{wholeOf};
 ghost use Rattle.run_bench.specs.Bench.{numbered, numberedOf};
-use array::Completion;
 use refusal::Answer;
+use whole::Completion;
 
 // The plain run. It answers 0, or the number of its refusal.
 #[no_mangle]
@@ -34,7 +34,7 @@ pub extern "C" fn bench_array_run(
 ) -> u8
     ensures { λ r. ⌜ numbered r (now (result .exit)) (now (vectors .exit)) ≡ numberedOf (wholeOf n sweeps (now (matrix .entry)) (now (result .entry)) (now (vectors .entry))) ⌝ }
 {
-    match array::run(n, sweeps, matrix, result, vectors) {
+    match whole::run(n, sweeps, matrix, result, vectors) {
         Completion::Completed(_) => 0,
         Completion::Refused(refused) => refusal::number(refused),
     }

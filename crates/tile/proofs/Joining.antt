@@ -8,11 +8,11 @@ use lib.Dec.{eqb, ltb}
 use Rattle.systolic.specs.Slots.{Side, left, right, slot}
 use Rattle.systolic.specs.Blocks.{cell}
 use Rattle.systolic.specs.Tiles.{withCells, joined}
+use Rattle.lines.specs.declared.Part.{Part}
+use Rattle.lines.specs.Lines.{cornerOf, incomingQuad, incomingPart}
 use Rattle.plain.specs.Cells.{Cell}
-use Rattle.tile.specs.declared.Part.{Part}
 use Rattle.tile.specs.declared.Tile.{Tile}
 use Rattle.tile.specs.Tiles.{blockOf, theTile, broughtTo}
-use Rattle.tile.specs.Lines.{cornerOf, incomingQuad, incomingPart}
 
 abbrev pub sideBy : Bool → Side
 sideBy b = cond b right left

@@ -1,4 +1,3 @@
-pub mod Schedules
 pub mod Working
 pub mod Wiring
 pub mod Ticking

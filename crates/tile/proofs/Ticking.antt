@@ -6,13 +6,13 @@ use lib.Ieee.{Float}
 use Rattle.systolic.specs.Blocks.{Block}
 use Rattle.systolic.specs.Tiles as theory
 use Rattle.systolic.specs.Tiles.{distance, actionAt, stepAt, phaseIn, newCells, newLines, newTile, tickTile}
+use Rattle.lines.specs.declared.Part.{Part}
+use Rattle.lines.specs.Lines.{partLines}
 use Rattle.plain.specs.Cells.{Cell}
-use Rattle.tile.specs.declared.Part.{Part}
 use Rattle.tile.specs.declared.Tile.{Tile}
 use Rattle.tile.specs.declared.cells.Work.{Work}
 use Rattle.tile.specs.Tiles.{blockOf, theTile, operations}
 use Rattle.tile.specs.Turned.{workedOf, someNotFinite}
-use Rattle.tile.specs.Lines.{partLines}
 use Rattle.tile.proofs.Working.{worked-cells, worked-row, worked-column, some-fail}
 use Rattle.tile.proofs.Wiring.{part-lines}
 

@@ -9,11 +9,11 @@ use lib.Ieee.{Float}
 use Rattle.systolic.specs.Slots.{Side, left, right, flip}
 use Rattle.systolic.specs.Blocks.{Block, cell, tab}
 use Rattle.systolic.specs.Tiles.{Action, idle, first, rotate, second, third, final, carried, phaseOf, phaseIn, newLines}
+use Rattle.lines.specs.declared.Quad.{Quad}
+use Rattle.lines.specs.declared.Part.{Part}
+use Rattle.lines.specs.Lines.{quad, acrossOf, interchanged, edgeOf, orderOf, setIn0, setIn1, setIn2, setOf, linesOf, partLines}
 use Rattle.plain.specs.Cells.{Cell}
-use Rattle.tile.specs.declared.Quad.{Quad}
-use Rattle.tile.specs.declared.Part.{Part}
 use Rattle.tile.specs.Tiles.{blockOf}
-use Rattle.tile.specs.Lines.{quad, acrossOf, interchanged, edgeOf, orderOf, setIn0, setIn1, setIn2, setOf, linesOf, partLines}
 
 -- ---- by four tests: in the first row or column, in the last, above the diagonal, below it
 abbrev edge : Bool → Bool → ℕ

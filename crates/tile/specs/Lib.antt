@@ -1,4 +1,2 @@
-pub mod Schedule
 pub mod Turned
-pub mod Lines
 pub mod Tiles

@@ -8,11 +8,9 @@ use Rattle.systolic.specs.Synchronous.{Operations}
 use Rattle.systolic.specs.Sequential.{operationsOf}
 use Rattle.systolic.specs.Tiles as theory
 use Rattle.systolic.specs.Tiles.{joined}
+use Rattle.lines.specs.declared.Part.{Part}
 use Rattle.plain.specs.Cells.{Cell, cell, rules}
-use Rattle.tile.specs.declared.Part.{Part}
 use Rattle.tile.specs.declared.Tile.{Tile}
-use Rattle.tile.specs.declared.schedule.Action.{Action}
-use Rattle.tile.specs.declared.schedule.Action.the-variants.{Idle, First, Rotate, Second, Third, Final}
 
 unfoldable pub blockOf : Part → Block Cell
 blockOf p =
@@ -29,14 +27,6 @@ theTile x = record { cells = blockOf (x .cells); lines = blockOf (x .lines); row
 -- What the tiles do, by the rules of the plain run. A tick does not look at the start.
 unfoldable pub operations : Operations Cell Float Float
 operations = operationsOf rules (inOrder 1) (λ r c. cell plusZero plusZero) (cell plusZero plusZero) plusZero plusZero
-
-abbrev pub theAction : Action → theory.Action
-theAction Idle = theory.idle
-theAction First = theory.first
-theAction Rotate = theory.rotate
-theAction Second = theory.second
-theAction Third = theory.third
-theAction Final = theory.final
 
 -- What the lines bring to tile (i, j), where a, b, c and d are the lines of the tiles that its corners are joined with.
 unfoldable pub broughtTo : ℕ → ℕ → ℕ → Block Cell → Block Cell → Block Cell → Block Cell → Block Cell

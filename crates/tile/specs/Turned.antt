@@ -5,10 +5,10 @@ use lib.Dec.{eqb, ltb}
 use lib.Ieee.{Float}
 use Rattle.float64.specs.Values.{plusZero, finite}
 use Rattle.systolic.specs.Tiles.{Action, idle, first, rotate, second, third, final}
+use Rattle.lines.specs.declared.Quad.{Quad}
+use Rattle.lines.specs.declared.Part.{Part}
 use Rattle.rotation.specs.declared.Parameters.{Parameters}
 use Rattle.rotation.specs.Rotation.{ofPair, ofTangent, sent, diagonalOf, turnOf}
-use Rattle.tile.specs.declared.Quad.{Quad}
-use Rattle.tile.specs.declared.Part.{Part}
 use Rattle.tile.specs.declared.cells.Work.{Work}
 
 unfoldable pub rowsTurned : Parameters → Quad → Quad

@@ -1,12 +1,12 @@
 // The cells of a tile: read, rotated, tested.
 ghost use mathlib.Core.Path.{_≡_};
 ghost use mathlib.Core.Bool.{_||_};
-ghost use Rattle.tile.specs.Tiles.{theAction};
+ghost use Rattle.schedule.specs.Schedule.{theAction};
 ghost use Rattle.tile.specs.Turned.{rowsTurned, columnsTurned, bothTurned, offDiagonalOf, onDiagonalOf, rotatedOf, workedOf, someNotFinite, quadNotFinite};
-use crate::Part;
-use crate::Quad;
-use crate::schedule::Action;
+use lines::Part;
+use lines::Quad;
 use rotation::Parameters;
+use schedule::Action;
 
 // The cells of a tile after its work, and what its parameter lines carry.
 pub struct Work {

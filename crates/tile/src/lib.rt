@@ -1,27 +1,10 @@
 // One tile of the array in one tick (document 01, "The array").
 ghost use mathlib.Core.Path.{_≡_};
-ghost use Rattle.systolic.specs.Tiles.{distance, withCells, actionAt, tickTile};
-ghost use Rattle.systolic.specs.Traffic.{readsCells};
-ghost use Rattle.tile.specs.Lines.{cornerOf};
+ghost use Rattle.systolic.specs.Tiles.{withCells, tickTile};
 ghost use Rattle.tile.specs.Tiles.{blockOf, theTile, operations, broughtTo};
+use lines::Part;
 
 mod cells;
-mod lines;
-mod schedule;
-
-// A 2 by 2 part α β / γ δ of a matrix, row by row.
-pub struct Quad {
-    pub alpha: f64,
-    pub beta: f64,
-    pub gamma: f64,
-    pub delta: f64,
-}
-
-// A part of the matrix and the like part of the eigenvectors.
-pub struct Part {
-    pub matrix: Quad,
-    pub vectors: Quad,
-}
 
 // The cells of a tile, its outgoing lines, each named after the corner that it leaves by, its outgoing parameter lines along its row and
 // along its column, and its mark.
@@ -31,31 +14,6 @@ pub struct Tile {
     pub row: f64,
     pub column: f64,
     pub mark: bool,
-}
-
-// Whether the tile in row i and column j, from 0, reads its cell lines in a tick.
-pub fn reads(steps: usize, tick: usize, i: usize, j: usize) -> bool
-    ensures { λ r. ⌜ r ≡ readsCells (actionAt steps (distance i j) tick) ⌝ }
-{
-    schedule::reads_in(schedule::action_at(steps, i, j, tick))
-}
-
-impl Quad {
-    // The corner in the lower row or the upper, in the right column or the left.
-    pub fn corner(self, lower: bool, right: bool) -> f64
-        ensures { λ r. ⌜ r ≡ cornerOf lower right self ⌝ }
-    {
-        if lower {
-            if right {
-                return self.delta;
-            }
-            return self.gamma;
-        }
-        if right {
-            return self.beta;
-        }
-        self.alpha
-    }
 }
 
 impl Tile {

@@ -1,6 +1,6 @@
 use mathlib.Core.Path.{refl}
 use borrow.Author.Needs.{needs}
-use Rattle.array.specs.Runs.{toldCompletion}
+use Rattle.whole.specs.Whole.{toldCompletion}
 use Rattle.run_bench.proofs.Numbers.{answers}
 use Rattle.run_bench.proofs.bench_array_run.Statement.{statement}
 use Rattle.run_bench.proofs.bench_array_run.Tie as tie

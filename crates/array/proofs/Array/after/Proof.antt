@@ -7,8 +7,8 @@ use lib.ListN.{length, length-map}
 use lib.Ieee.{nan}
 use Rattle.lists.proofs.Replaced.{Replaced, replaced-none, replaced-next, replaced-skip}
 use Rattle.ordering.specs.Registers.{most}
+use Rattle.schedule.proofs.Answers.{Bounds, bounds}
 use Rattle.array.specs.Arrays.{noQuad, noPart, noTile}
-use Rattle.array.proofs.Answers.{Bounds, bounds}
 use Rattle.array.proofs.Made.{in-use, column-unused, takenOf, rowsOf, columnsOf, workedOf, taken-in, not-taken, taken-unused, row-read, column-read, rows-unused, columns-unused, worked-in, worked-unused, tick-made}
 use Rattle.array.proofs.Running.{tilesFrom, tiles-none, tiles-next, after-is}
 use Rattle.array.proofs.Array.after.Statement.{statement}

@@ -1,0 +1,3 @@
+pub mod Neighbours
+pub mod Agreement
+pub mod Hand

@@ -1,0 +1,51 @@
+// Whole runs: the head of each, as hexio::runs has it, and the matrix. The answer is the number of ticks, or
+// the refusal with its row and column where it has them, and in both cases the result and the vectors.
+use hexio::refusals;
+use hexio::runs;
+use hexio::runs::Head;
+use hexio::runs::LIMIT;
+use hexio::values;
+use whole::Completion;
+
+// Lends a run parts of its own buffers, the results filled.
+pub fn answer_run() -> bool {
+    let Head::Run(run) = runs::read_head() else {
+        return false;
+    };
+    let matrix_size = run.matrix;
+    let result_size = run.result;
+    let vectors_size = run.vectors;
+    let mut matrix = [0.0; LIMIT];
+    let mut result = [run.fill; LIMIT];
+    let mut vectors = [run.fill; LIMIT];
+    answer(
+        run.n,
+        run.sweeps,
+        &mut matrix[..matrix_size],
+        &mut result[..result_size],
+        &mut vectors[..vectors_size],
+    )
+}
+
+// Reads the matrix, makes the run and writes its answer and its results.
+fn answer(
+    n: usize,
+    sweeps: usize,
+    matrix: &mut [f64],
+    result: &mut [f64],
+    vectors: &mut [f64],
+) -> bool {
+    if !values::read_values(matrix) {
+        return false;
+    }
+    let completion = whole::run(n, sweeps, matrix, result, vectors);
+    print_completion(completion) && values::print_values(result) && values::print_values(vectors)
+}
+
+// Writes the number of ticks, or the refusal.
+fn print_completion(completion: Completion) -> bool {
+    match completion {
+        Completion::Completed(ticks) => hexio::print_word(ticks as u64),
+        Completion::Refused(refused) => refusals::print_refusal(refused),
+    }
+}
