@@ -22,12 +22,15 @@ use Rattle.records.specs.Records as records
 use Rattle.array.specs.declared.Array.{Array}
 use Rattle.array.specs.declared.Started.{Started}
 use Rattle.array.specs.declared.Ticked.{Ticked}
-use Rattle.array.specs.Arrays.{Tick, made, stopped, toldProgress, ticksOf, progressOf, arrayOf, Ticks}
-use Rattle.array.specs.Runs.{noArray, startedOf, Starts, tellingIn, telling}
-use Rattle.array.proofs.Agreement.{whole-agrees}
+use Rattle.array.specs.Arrays.{arrayOf, Ticks}
+use Rattle.schedule.specs.Answers.{Tick, made, stopped, toldProgress, ticksOf, progressOf}
+use Rattle.array.specs.Runs.{noArray, startedOf, Starts}
+use Rattle.whole.specs.Whole.{tellingIn, telling}
+use Rattle.agreement.proofs.Agreement.{whole-agrees}
 use Rattle.sheet.specs.Format.{sheetLength, sheetOf}
-use Rattle.sheet.specs.Calls as sheets
-use Rattle.sheet.proofs.RoundTrip.{sheet-long}
+use Rattle.reader.specs.Reader as reader
+use Rattle.writer.specs.Writer as writer
+use Rattle.claims.proofs.RoundTrip.{sheet-long}
 use Rattle.claims.specs.Refusals.{square, LeavesResults, RunsLeave, RecordsLeave, ReaderLeaves, WriterLeaves}
 
 -- ---- a run is not refused by 8 before it begins
@@ -135,21 +138,21 @@ records-leave n l step ys =
     (row-kept told (over (n / 2) made ys) ys, row-tail told (n / 2) made ys)
 
 -- ---- sheets
-lent-kept : (b : List ℕ) (t : Told Unit) (c : List ℕ) (m : List Float) (k : ℕ) (values : List ℕ) → sheets.unlessRefused t (sheets.contentOf b) c m .says ≡ refused k values
-    → (sheets.unlessRefused t (sheets.contentOf b) c m .codes ≡ c) × (sheets.unlessRefused t (sheets.contentOf b) c m .matrix ≡ m)
-unfolding sheets.contentOf
+lent-kept : (b : List ℕ) (t : Told Unit) (c : List ℕ) (m : List Float) (k : ℕ) (values : List ℕ) → reader.unlessRefused t (reader.contentOf b) c m .says ≡ refused k values
+    → (reader.unlessRefused t (reader.contentOf b) c m .codes ≡ c) × (reader.unlessRefused t (reader.contentOf b) c m .matrix ≡ m)
+unfolding reader.contentOf
 lent-kept b (given x) c m k values e = given-refused e
 lent-kept b (refused i ys) c m k values e = (refl, refl)
 
 pub reader-leaves : ReaderLeaves
-unfolding sheets.readOf
-reader-leaves b c m = lent-kept b (sheets.readTold b (length c) (length m)) c m
+unfolding reader.readOf
+reader-leaves b c m = lent-kept b (reader.readTold b (length c) (length m)) c m
 
-bytes-tail : (n : ℕ) (t : Told Unit) (sheet old : List ℕ) → length sheet ≡ sheetLength n → drop (sheetLength n) (sheets.keptOr t (sheet ++ drop (sheetLength n) old) old) ≡ drop (sheetLength n) old
+bytes-tail : (n : ℕ) (t : Told Unit) (sheet old : List ℕ) → length sheet ≡ sheetLength n → drop (sheetLength n) (writer.keptOr t (sheet ++ drop (sheetLength n) old) old) ≡ drop (sheetLength n) old
 bytes-tail n (given x) sheet old e = drop-at sheet (drop (sheetLength n) old) (sheetLength n) e
 bytes-tail n (refused k values) sheet old e = refl
 
 pub writer-leaves : WriterLeaves
-unfolding sheets.writeOf sheets.writtenOver
+unfolding writer.writeOf writer.writtenOver
 writer-leaves n sweeps codes l b =
-    (λ k values e. rw e, bytes-tail n (sheets.writeTold n sweeps codes l (length b)) (sheetOf n sweeps codes (at n l)) b (sheet-long n sweeps codes (at n l)))
+    (λ k values e. rw e, bytes-tail n (writer.writeTold n sweeps codes l (length b)) (sheetOf n sweeps codes (at n l)) b (sheet-long n sweeps codes (at n l)))

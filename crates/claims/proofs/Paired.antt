@@ -5,12 +5,11 @@ use mathlib.Core.Bool.{Bool, true, false, cond, _&&_, true≢false}
 use borrow.Author.Tests.{eq-eqb, ne-eqb, eqb-true}
 use lib.Dec.{eqb}
 use lib.Ieee.{Float}
-use Rattle.float64.specs.Values.{plusZero}
 use Rattle.rotation.specs.declared.Parameters.{Parameters}
 use Rattle.rotation.specs.declared.Parameters.the-variants.{Still, Turn}
-use Rattle.matrix.proofs.Same.{still-rows, still-columns, still-all-columns}
-use Rattle.matrix.specs.Turns.{parametersOf, turnedAt, rowTurn, columnTurn, columnTurnAll}
-use Rattle.plain.specs.State.{State, withEntry, pairTurned, pairStep}
+use Rattle.turns.proofs.Still.{still-rows, still-columns, still-all-columns}
+use Rattle.turns.specs.Turns.{parametersOf, turnedAt, rowTurn, columnTurn, columnTurnAll}
+use Rattle.pair.specs.Pair.{State, withEntry, pairTurned, pairStep}
 use Rattle.claims.specs.Report.{Other, ColumnsTurned, MatrixTurned, Cleared, PairByTheReport}
 
 both-equal : (i p j q : ℕ) → (eqb i p && eqb j q) ≡ true → (i ≡ p) × (j ≡ q)

@@ -15,11 +15,14 @@ use Rattle.plain.specs.State.{spoiled}
 use Rattle.plain.specs.Run.{mostSweeps, stepsOf, startOf, beforeRun, Outcome, outcome, unlessRefused, ranOf, runOf}
 use Rattle.records.specs.declared.Record.{Record}
 use Rattle.records.specs.Records as records
-use Rattle.array.specs.Arrays.{Tick, made, stopped, ticksOf, progressOf}
-use Rattle.array.specs.Runs.{startTold, tellingIn}
-use Rattle.array.proofs.Agreement.{whole-agrees}
+use Rattle.schedule.specs.Answers.{Tick, made, stopped, ticksOf, progressOf}
+use Rattle.array.specs.Runs.{startTold}
+use Rattle.whole.specs.Whole.{tellingIn}
+use Rattle.agreement.proofs.Agreement.{whole-agrees}
 use Rattle.sheet.specs.Format.{sheetLength, orderIn, sweepsIn}
-use Rattle.sheet.specs.Calls as sheets
+use Rattle.reader.specs.Reader as reader
+use Rattle.writer.specs.Writer as writer
+use Rattle.sheet.specs.Codes.{badCodes}
 use Rattle.claims.specs.Refusals.{table, row, order, sweep, square, finiteEntries, mirrorEntries, PlainRunAnswers, WholeRunAnswers, RecordsAnswer, ReaderAnswers, WriterAnswers}
 
 -- ---- rows
@@ -134,28 +137,28 @@ records-table n l step ys =
     (passing (square n (length l)) Length (two-rows (finiteEntries n l) (mirrorEntries n l))) (last (row (ltb (length ys) (n / 2)) TooShort)))
 
 -- ---- sheets
-reader-says : (b : List ℕ) (t : Told Unit) (c : List ℕ) (m : List Float) → sheets.unlessRefused t (sheets.contentOf b) c m .says ≡ tellingIn (orderIn b, sweepsIn b) t
-unfolding sheets.contentOf
+reader-says : (b : List ℕ) (t : Told Unit) (c : List ℕ) (m : List Float) → reader.unlessRefused t (reader.contentOf b) c m .says ≡ tellingIn (orderIn b, sweepsIn b) t
+unfolding reader.contentOf
 reader-says b (given x) c m = refl
 reader-says b (refused k values) c m = refl
 
 pub reader-table : ReaderAnswers
-unfolding sheets.readOf sheets.readTold
+unfolding reader.readOf reader.readTold
 reader-table b c m =
-    reader-says b (sheets.readTold b (length c) (length m)) c m
+    reader-says b (reader.readTold b (length c) (length m)) c m
     ∙ ap (tellingIn (orderIn b, sweepsIn b))
     (above (ltb (length b) 2) Length
     (above (noOrder (orderIn b)) Order
     (above (ltb mostSweeps (sweepsIn b)) Sweeps
     (passing (eqb (length c) (orderIn b) && (square (orderIn b) (length m) && eqb (length b) (sheetLength (orderIn b)))) Length
-    (above (sheets.badCodes b 2 (orderIn b)) Code (last (sheets.storedOf b)))))))
+    (above (badCodes b 2 (orderIn b)) Code (last (reader.storedOf b)))))))
 
 pub writer-table : WriterAnswers
-unfolding sheets.writeOf sheets.writeTold entriesOf
+unfolding writer.writeOf writer.writeTold entriesOf
 writer-table n sweeps codes l b =
     let short = row (ltb (length b) (sheetLength n)) TooShort in
     above (noOrder n) Order
     (above (ltb mostSweeps sweeps) Sweeps
-    (same-test (eqb (length codes) n) (square n (length l)) (sheets.badCodes codes 0 n) Code (orElse (finiteEntries n l) (mirrorEntries n l)) (told Length) short
+    (same-test (eqb (length codes) n) (square n (length l)) (badCodes codes 0 n) Code (orElse (finiteEntries n l) (mirrorEntries n l)) (told Length) short
     ∙ passing (eqb (length codes) n && square n (length l)) Length
-    (above (sheets.badCodes codes 0 n) Code (followed (finiteEntries n l ∷ mirrorEntries n l ∷ []) (short ∷ []) (two-rows (finiteEntries n l) (mirrorEntries n l)) (last short)))))
+    (above (badCodes codes 0 n) Code (followed (finiteEntries n l ∷ mirrorEntries n l ∷ []) (short ∷ []) (two-rows (finiteEntries n l) (mirrorEntries n l)) (last short)))))

@@ -24,10 +24,14 @@ use Rattle.records.specs.Records.{recordsOf}
 use Rattle.array.specs.declared.Array.{Array}
 use Rattle.array.specs.declared.Started.{Started}
 use Rattle.array.specs.declared.Ticked.{Ticked}
-use Rattle.array.specs.Arrays.{made, stopped, toldProgress, ticksOf, Ticks}
-use Rattle.array.specs.Runs.{noArray, Starts, tellingIn, wholeOf}
+use Rattle.array.specs.Arrays.{Ticks}
+use Rattle.schedule.specs.Answers.{made, stopped, toldProgress, ticksOf}
+use Rattle.array.specs.Runs.{noArray, Starts}
+use Rattle.whole.specs.Whole.{tellingIn, wholeOf}
 use Rattle.sheet.specs.Format.{sheetLength, orderIn, sweepsIn, patternIn}
-use Rattle.sheet.specs.Calls.{badCodes, storedOf, readOf, writeOf}
+use Rattle.sheet.specs.Codes.{badCodes}
+use Rattle.reader.specs.Reader.{storedOf, readOf}
+use Rattle.writer.specs.Writer.{writeOf}
 use Rattle.claims.specs.Histories.{Binary64}
 
 -- ---- tables

@@ -9,7 +9,7 @@ use lib.ListN.{length}
 use lib.Ieee.{Float}
 use Rattle.turns.specs.Turns.{twoLines}
 use Rattle.turns.proofs.Two.{are-two}
-use Rattle.pair.specs.Pair.{pairStep, stateOf, Held, hasPair, Lists, lists, pairOf}
+use Rattle.pair.specs.Pair.{pairStep, stateOf, Held, hasPair, TwoLists, twoLists, pairOf}
 
 module _ (n p q first second : ℕ) where
   pub other-length : ¬ (second ≡ first) → false ≡ hasPair n p q first second
@@ -33,18 +33,18 @@ module _ (n p q first second : ℕ) where
   there-pair e z = sym (by-lines (z ∙ sym (are-two n p q first e .long))) ∙ e
 
 module _ (n p q : ℕ) (l e : List Float) where
-  pub nothing-done : hasPair n p q (length l) (length e) ≡ false → lists l e ≡ pairOf n p q l e
+  pub nothing-done : hasPair n p q (length l) (length e) ≡ false → twoLists l e ≡ pairOf n p q l e
   unfolding pairOf
   nothing-done z = rw z
 
   module _ {l′ e′ : List Float} where
-    pub pair-done : hasPair n p q (length l) (length e) ≡ true → Held n l′ e′ (pairStep p q (stateOf n l e)) → lists l′ e′ ≡ pairOf n p q l e
+    pub pair-done : hasPair n p q (length l) (length e) ≡ true → Held n l′ e′ (pairStep p q (stateOf n l e)) → twoLists l′ e′ ≡ pairOf n p q l e
     unfolding pairOf
     pair-done z h = rw (z, ← (h .matrix-held), ← (h .vectors-held))
 
     -- the step of a pair, from the lists
-    pub pair-held : twoLines n p q (length l) ≡ true → length e ≡ n * n → lists l′ e′ ≡ pairOf n p q l e → Held n l′ e′ (pairStep p q (stateOf n l e))
+    pub pair-held : twoLines n p q (length l) ≡ true → length e ≡ n * n → twoLists l′ e′ ≡ pairOf n p q l e → Held n l′ e′ (pairStep p q (stateOf n l e))
     unfolding pairOf
     pair-held two long f =
         let w = rw (there-pair n p q (length l) (length e) two long) at f in
-        record { matrix-held = ap (λ (x : Lists). x .matrix-list) w; vectors-held = ap (λ (x : Lists). x .vectors-list) w }
+        record { matrix-held = ap (λ (x : TwoLists). x .matrix-list) w; vectors-held = ap (λ (x : TwoLists). x .vectors-list) w }

@@ -49,15 +49,15 @@ unfoldable pub hasPair : ℕ → ℕ → ℕ → ℕ → ℕ → Bool
 hasPair n p q first second = eqb second first && twoLines n p q first
 
 -- The lists of a matrix and its eigenvectors.
-pub record Lists : Type 0 where
+pub record TwoLists : Type 0 where
   pub matrix-list : List Float
   pub vectors-list : List Float
 
-abbrev pub lists : List Float → List Float → Lists
-lists l e = record { matrix-list = l; vectors-list = e }
+abbrev pub twoLists : List Float → List Float → TwoLists
+twoLists l e = record { matrix-list = l; vectors-list = e }
 
 -- Two lists after the step of a pair, where they have it.
-unfoldable pub pairOf : ℕ → ℕ → ℕ → List Float → List Float → Lists
+unfoldable pub pairOf : ℕ → ℕ → ℕ → List Float → List Float → TwoLists
 pairOf n p q l e =
     cond (hasPair n p q (length l) (length e))
-    (lists (flat n (pairStep p q (stateOf n l e) .matrix)) (flat n (pairStep p q (stateOf n l e) .vectors))) (lists l e)
+    (twoLists (flat n (pairStep p q (stateOf n l e) .matrix)) (flat n (pairStep p q (stateOf n l e) .vectors))) (twoLists l e)

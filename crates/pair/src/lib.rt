@@ -8,13 +8,13 @@ ghost use Rattle.rotation.specs.declared.Parameters.the-variants.{Turn};
 ghost use Rattle.rotation.specs.Rotation.{diagonalOf};
 ghost use Rattle.matrix.specs.Matrix.{at, flat, entryOf};
 ghost use Rattle.turns.specs.Turns.{twoLines};
-ghost use Rattle.pair.specs.Pair.{withEntry, pairTurned, pairStep, stateOf, Held, hasPair, lists, pairOf};
+ghost use Rattle.pair.specs.Pair.{withEntry, pairTurned, pairStep, stateOf, Held, hasPair, twoLists, pairOf};
 use rotation::Parameters;
 use rotation::Sides;
 
 // Turns the lines p and q. Where there are no such lines, or one length is not the other, it does nothing.
 pub fn turn(n: usize, p: usize, q: usize, a: &mut [f64], vectors: &mut [f64])
-    ensures { λ _. ⌜ lists (now (a .exit)) (now (vectors .exit)) ≡ pairOf n p q (now (a .entry)) (now (vectors .entry)) ⌝ }
+    ensures { λ _. ⌜ twoLists (now (a .exit)) (now (vectors .exit)) ≡ pairOf n p q (now (a .entry)) (now (vectors .entry)) ⌝ }
 {
     if !has_pair(n, p, q, a.len(), vectors.len()) {
         return;
