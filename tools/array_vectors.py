@@ -1,6 +1,6 @@
 #!/usr/bin/env python3
-"""Writes crates/array_vectors/stdin and crates/array_vectors/stdout: whole runs of the array, runs by hand
-and single ticks of wild records, and what comes of them by document 01, "The array". Run it as
+"""Writes crates/run_vectors/stdin and crates/run_vectors/stdout: whole runs of the array, runs by hand, single
+ticks of wild records and runs by plain sweeps, and what comes of them by document 01, "The array". Run it as
 
     python3 tools/array_vectors.py
 
@@ -11,7 +11,7 @@ Before anything is written, runs of the array are held against the plain run of 
 
 A case begins with a word for its kind.
 
-0, a whole run: the words of plain_vectors. The answer begins with the number of ticks, unless it is refused.
+0, a whole run: the words of a plain run. The answer begins with the number of ticks, unless it is refused.
 1, a run by hand: n, the sweeps, the length of the matrix, the matrix and a number of ticks. The answer is
    the refusal of the start, if it is refused, then what the last tick answered (0 made, 1 stopped,
    2 refused, 3 there was none), and of the last record n, the sweeps, the tick and the N by N tiles, row by
@@ -19,6 +19,8 @@ A case begins with a word for its kind.
 2, a tick of a wild record: n, the sweeps, the tick, and the word that every cell and line of all tiles
    holds. The answer is that of the tick, followed by its number if it is refused, and of the record given
    back n, the sweeps, the tick and the tiles P_11, P_12, P_21 and P_16,16.
+3, a run by plain sweeps: n, the sweeps, the lengths of the matrix and of both results, the word that these are
+   filled with, and the matrix. The answer is the refusal, if it is refused, and both results.
 
 Of a tile these are printed: the cells α β γ δ of the matrix and of the vectors, the lines that leave by
 α β γ δ with values of the matrix and of the vectors, the parameter lines along the row and along the
@@ -38,7 +40,7 @@ MOST = 16  # tiles in a row of the record
 CORNERS = "αβγδ"
 OFFSETS = {"α": (0, 0), "β": (0, 1), "γ": (1, 0), "δ": (1, 1)}  # row and column in a 2 by 2 part
 MADE, STOPPED, REFUSED, NONE = range(4)
-WHOLE, BY_HAND, WILD = range(3)
+WHOLE, BY_HAND, WILD, PLAIN = range(4)
 
 
 # The record. The cells of a tile and its outgoing lines are two parts, of the matrix and of the vectors,
@@ -597,7 +599,8 @@ def all_lines(rng):
     words = [WILD_WORDS[k % len(WILD_WORDS)] for k in range(len(WILD_SIZES))]
     wilds = [wild_lines(*sizes, word) for sizes, word in zip(WILD_SIZES, words)]
     print(f"{len(wholes)} whole runs, {len(hands)} runs by hand, {len(wilds)} wild records")
-    return wholes + hands + wilds
+    plains = [(plain.lines_of([PLAIN]) + lines, answer) for lines, answer in plain.all_lines()]
+    return wholes + hands + wilds + plains
 
 
 def main():
@@ -606,8 +609,7 @@ def main():
     check_runs(rng, 3)
     check_all_rotations(rng)
     made = all_lines(rng)
-    crate = pathlib.Path(__file__).resolve().parent.parent / "crates" / "array_vectors"
-    crate.mkdir(exist_ok=True)
+    crate = pathlib.Path(__file__).resolve().parent.parent / "crates" / "run_vectors"
     for name, side in [("stdin", 0), ("stdout", 1)]:
         text = "".join(line for lines in made for line in lines[side])
         (crate / name).write_text(text, encoding="ascii")

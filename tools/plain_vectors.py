@@ -1,14 +1,11 @@
-#!/usr/bin/env python3
-"""Writes crates/plain_vectors/stdin and crates/plain_vectors/stdout: orders, sweeps and matrices, and
-what the plain run makes of them by document 01, "One rotation", "Pairs and their movement" and
-"Refused, by place".
+"""Orders, sweeps and matrices, and what the plain run makes of them by document 01, "One rotation",
+"Pairs and their movement" and "Refused, by place". array_vectors.py writes them to files.
 
 The arithmetic is that of Python's float, which is binary64 rounded to nearest. No operation here is
 fused with another, and none divides by zero.
 """
 import collections
 import math
-import pathlib
 import random
 import struct
 
@@ -651,20 +648,12 @@ def checked_refusals(rng):
     return [(case, outcome) for _, case, outcome in made]
 
 
-def main():
+def all_lines():
+    """The lines of each case and of its answer."""
     for case, outcome in EXAMPLES:
         assert outcome_of(case) == outcome, case
     rng = random.Random(1983)
     cases = [*EXAMPLES, *checked_runs(rng), *checked_refusals(rng)]
-    lines, answers = [], []
+    print(f"{len(cases)} plain runs")
     for (case, outcome), fill in zip(cases, finite_patterns(rng)):
-        lines += lines_of(head(case, fill) + case.matrix)
-        answers += answer_of(case, fill, outcome)
-    crate = pathlib.Path(__file__).resolve().parent.parent / "crates" / "plain_vectors"
-    (crate / "stdin").write_text("".join(lines), encoding="ascii")
-    (crate / "stdout").write_text("".join(answers), encoding="ascii")
-    print(f"{len(cases)} cases")
-
-
-if __name__ == "__main__":
-    main()
+        yield lines_of(head(case, fill) + case.matrix), answer_of(case, fill, outcome)

@@ -1,11 +1,11 @@
-// Reads cases of the array, one word to a line, and writes what comes of each. A case begins with the
-// number of its kind: 0 is a whole run, 1 a run by hand and 2 a tick of a wild record.
+// Reads cases of runs, one word to a line, and writes what comes of each. A case begins with the number of its kind: 0 is a whole run by
+// the array, 1 a run by hand, 2 a tick of a wild record and 3 a run by plain sweeps.
 // tools/array_vectors.py writes the input and the expected output.
 use hexio::Line;
 
 mod by_hand;
+mod lent;
 mod record;
-mod whole_run;
 mod wild;
 
 // A proved loop has to end, so it counts its turns down, from a number that no run uses up.
@@ -22,9 +22,10 @@ fn answer_case() -> bool {
         return false;
     };
     match kind {
-        0 => whole_run::answer_run(),
+        0 => lent::answer_run(true),
         1 => by_hand::answer_run(),
         2 => wild::answer_tick(),
+        3 => lent::answer_run(false),
         _ => false,
     }
 }

@@ -4,8 +4,8 @@ use lib.Seq.{length-take-le}
 use borrow.Author.Needs.{needs}
 use Rattle.hexio.specs.Runs.{Lendable}
 use Rattle.hexio.specs.declared.runs.Head.the-variants as head
-use Rattle.plain_vectors.proofs.answer_run.Statement.{statement}
-use Rattle.plain_vectors.proofs.answer_run.Tie as tie
+use Rattle.run_vectors.proofs.lent.answer_run.Statement.{statement}
+use Rattle.run_vectors.proofs.lent.answer_run.Tie as tie
 
 -- the buffers have room for the run that is read
 lendable : (c : tie.After-run) → Lendable (head.Run (c .run .given .0 .0))

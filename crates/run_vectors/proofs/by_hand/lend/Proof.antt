@@ -2,8 +2,8 @@
 use mathlib.Core.Path.{sym}
 use lib.Seq.{length-take-le}
 use borrow.Author.Needs.{needs}
-use Rattle.array_vectors.proofs.by_hand.lend.Statement.{statement}
-use Rattle.array_vectors.proofs.by_hand.lend.Tie as tie
+use Rattle.run_vectors.proofs.by_hand.lend.Statement.{statement}
+use Rattle.run_vectors.proofs.by_hand.lend.Tie as tie
 
 returns : tie.Need-returns
 returns c = search needs

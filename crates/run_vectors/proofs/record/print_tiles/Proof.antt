@@ -1,8 +1,8 @@
 -- The index stays within the tiles. The measure is the number of those that are left. Assumes nothing.
 use Prim.Native.Nat.{_-_, _≤_}
 use borrow.Author.Needs.{needs}
-use Rattle.array_vectors.proofs.record.print_tiles.Statement.{statement}
-use Rattle.array_vectors.proofs.record.print_tiles.Tie as tie
+use Rattle.run_vectors.proofs.record.print_tiles.Statement.{statement}
+use Rattle.run_vectors.proofs.record.print_tiles.Tie as tie
 
 abbrev Inv-loop : tie.InvT-loop
 Inv-loop array processors k₀ k = k ≤ 256

@@ -1,7 +1,7 @@
 -- Nothing has to hold from turn to turn. The measure is the number of turns that are left. Assumes nothing.
 use borrow.Author.Needs.{needs}
-use Rattle.plain_vectors.proofs.main.Statement.{statement}
-use Rattle.plain_vectors.proofs.main.Tie as tie
+use Rattle.run_vectors.proofs.main.Statement.{statement}
+use Rattle.run_vectors.proofs.main.Tie as tie
 
 abbrev Inv-loop : tie.InvT-loop
 Inv-loop turns₀ turns = Unit {0}
@@ -12,8 +12,8 @@ abbrev μ-loop : tie.MeasureT-loop
 loop-holds : tie.Need-loop-holds Inv-loop μ-loop
 loop-holds c = tt
 
-answer-run-requires : tie.Need-answer-run-requires Inv-loop μ-loop
-answer-run-requires c κs = tt
+answer-case-requires : tie.Need-answer-case-requires Inv-loop μ-loop
+answer-case-requires c κs = tt
 
 sub-turns : tie.Need-sub-turns Inv-loop μ-loop
 sub-turns c = search needs
@@ -32,4 +32,4 @@ returns-2 c = tt
 
 pub main-spec : {M : Type 1} → statement M
 main-spec =
-    tie.close (tie.spec Inv-loop μ-loop loop-holds answer-run-requires sub-turns loop-less loop-again returns returns-2)
+    tie.close (tie.spec Inv-loop μ-loop loop-holds answer-case-requires sub-turns loop-less loop-again returns returns-2)

@@ -1,8 +1,8 @@
 -- The count stays within the ticks. The measure is the number of those that are left. Assumes nothing.
 use Prim.Native.Nat.{_-_, _≤_}
 use borrow.Author.Needs.{needs}
-use Rattle.array_vectors.proofs.by_hand.make_ticks.Statement.{statement}
-use Rattle.array_vectors.proofs.by_hand.make_ticks.Tie as tie
+use Rattle.run_vectors.proofs.by_hand.make_ticks.Statement.{statement}
+use Rattle.run_vectors.proofs.by_hand.make_ticks.Tie as tie
 
 abbrev Inv-loop : tie.InvT-loop
 Inv-loop ticks told₀ array₀ counter₀ told array counter = counter ≤ ticks

@@ -1,5 +1,6 @@
-// Whole runs: the head of each, as hexio::runs has it, and the matrix. The answer is the number of ticks, or
-// the refusal with its row and column where it has them, and in both cases the result and the vectors.
+// Runs by plain sweeps and whole runs by the array, lent alike: the head of each, as hexio::runs has it, and the matrix. The answer is the
+// refusal, if it is refused, with its row and column where it has them, or the number of the array's ticks, and in each case the result
+// and the vectors.
 use hexio::refusals;
 use hexio::runs;
 use hexio::runs::Head;
@@ -8,7 +9,7 @@ use hexio::values;
 use whole::Completion;
 
 // Lends a run parts of its own buffers, the results filled.
-pub fn answer_run() -> bool {
+pub fn answer_run(by_array: bool) -> bool {
     let Head::Run(run) = runs::read_head() else {
         return false;
     };
@@ -19,6 +20,7 @@ pub fn answer_run() -> bool {
     let mut result = [run.fill; LIMIT];
     let mut vectors = [run.fill; LIMIT];
     answer(
+        by_array,
         run.n,
         run.sweeps,
         &mut matrix[..matrix_size],
@@ -29,6 +31,7 @@ pub fn answer_run() -> bool {
 
 // Reads the matrix, makes the run and writes its answer and its results.
 fn answer(
+    by_array: bool,
     n: usize,
     sweeps: usize,
     matrix: &mut [f64],
@@ -38,8 +41,24 @@ fn answer(
     if !values::read_values(matrix) {
         return false;
     }
-    let completion = whole::run(n, sweeps, matrix, result, vectors);
-    print_completion(completion) && values::print_values(result) && values::print_values(vectors)
+    make_run(by_array, n, sweeps, matrix, result, vectors)
+        && values::print_values(result)
+        && values::print_values(vectors)
+}
+
+// Makes the run and writes its answer.
+fn make_run(
+    by_array: bool,
+    n: usize,
+    sweeps: usize,
+    matrix: &[f64],
+    result: &mut [f64],
+    vectors: &mut [f64],
+) -> bool {
+    if by_array {
+        return print_completion(whole::run(n, sweeps, matrix, result, vectors));
+    }
+    refusals::print_answer(plain::run(n, sweeps, matrix, result, vectors))
 }
 
 // Writes the number of ticks, or the refusal.
