@@ -59,7 +59,7 @@ TurnsByTheReport =
 abbrev pub Other : ℕ → ℕ → ℕ → Type 0
 Other p q r = (¬ (r ≡ p)) × (¬ (r ≡ q))
 
--- The columns p and q of a matrix turned, in the rows of which In says so: two products and then the sum.
+-- The columns p and q of a matrix turned, in the rows that In names: two products and then the sum.
 pub record ColumnsTurned (In : ℕ → Type 0) (c s : Float) (p q : ℕ) (old new : ℕ → ℕ → Float) : Type 0 where
   pub column-left : (r : ℕ) → In r → new r p ≡ sub binary64 (mul binary64 c (old r p)) (mul binary64 s (old r q))
   pub column-right : (r : ℕ) → In r → new r q ≡ add binary64 (mul binary64 s (old r p)) (mul binary64 c (old r q))
@@ -92,7 +92,7 @@ pub record RotationIsTheReports : Type 0 where
   pub still : (a d b : Float) → isZero b ≡ true → ofPair a d b ≡ Still
   -- sign(ξ) is 1 if ξ is zero of either sign
   pub sign-of-zero : (ξ : Float) → isZero ξ ≡ true → signum ξ ≡ one
-  -- if ξ isn't a number, t, c and s are none
+  -- if ξ isn't a number, neither are t, c and s
   pub not-a-number : (a d b : Float) → isZero b ≡ false → div binary64 (sub binary64 d a) (mul binary64 two b) ≡ nan → ofPair a d b ≡ Turn nan nan nan
 
 -- ---- pairs
