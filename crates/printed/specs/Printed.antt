@@ -36,10 +36,14 @@ linesOf n codes A E (suc k) = linesOf n codes A E k ++ lineOf n (getD codes k 0)
 unfoldable pub printedOf : ℕ → ℕ → ℕ → List ℕ → (ℕ → ℕ → Float) → (ℕ → ℕ → Float) → List ℕ
 printedOf n sweeps ticks codes A E = headOf n sweeps ticks ++ linesOf n codes A E n
 
--- The sizes are those of a run, the numbers have at most 4 digits, and the bytes are enough for a line of 15 and n of 566.
+-- Bytes that are enough for a line of 15 and n of 566.
+abbrev pub roomFor : ℕ → ℕ
+roomFor n = 15 + 566 * n
+
+-- The sizes are those of a run, the numbers have at most 4 digits, and the bytes are enough.
 unfoldable pub printable : ℕ → ℕ → ℕ → ℕ → ℕ → ℕ → ℕ → Bool
 printable n sweeps ticks codes matrix vectors room =
-    not (noOrder n) && (ltb sweeps 10000 && (ltb ticks 10000 && (eqb codes n && (eqb matrix (n * n) && (eqb vectors (n * n) && leb (15 + 566 * n) room)))))
+    not (noOrder n) && (ltb sweeps 10000 && (ltb ticks 10000 && (eqb codes n && (eqb matrix (n * n) && (eqb vectors (n * n) && leb (roomFor n) room)))))
 
 -- How many bytes are printed, and what the lent bytes hold.
 pub record Printing : Type 0 where
@@ -61,5 +65,9 @@ refusedWord = 114 ∷ 101 ∷ 102 ∷ 117 ∷ 115 ∷ 101 ∷ 100 ∷ space
 abbrev pub refusedText : ℕ → List ℕ
 refusedText k = refusedWord ++ (decimalOf k ++ newline)
 
+-- The line of the refusal with the number k, in bytes that are enough for any.
+abbrev pub refusedLine : ℕ → List ℕ → Printing
+refusedLine k b = cond (ltb (length b) 13) (printing 0 b) (printing (length (refusedText k)) (refusedText k ++ drop (length (refusedText k)) b))
+
 unfoldable pub refusalOf : Refusal → List ℕ → Printing
-refusalOf r b = cond (ltb (length b) 13) (printing 0 b) (printing (length (refusedText (numberOf r))) (refusedText (numberOf r) ++ drop (length (refusedText (numberOf r))) b))
+refusalOf r b = refusedLine (numberOf r) b

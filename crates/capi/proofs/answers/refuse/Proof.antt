@@ -1,0 +1,16 @@
+use Rattle.capi.proofs.Saying.{placed}
+use borrow.Author.Needs.{needs}
+use Rattle.capi.proofs.answers.refuse.Statement.{statement}
+use Rattle.capi.proofs.answers.refuse.Tie as tie
+
+set-place-requires : tie.Need-set-place-requires
+set-place-requires c κs = search needs
+
+number-requires : tie.Need-number-requires
+number-requires c κs = search needs
+
+returns : tie.Need-returns
+returns c = placed _ _ (c .before .before .before .before .args .refused) (c .number .ensures) (c .before .set-place .ensures)
+
+pub refuse-spec : {M : Type 1} → statement M
+refuse-spec = tie.close (tie.spec set-place-requires number-requires returns)

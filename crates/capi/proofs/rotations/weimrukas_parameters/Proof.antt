@@ -1,0 +1,37 @@
+use Rattle.capi.proofs.Saying.{parameters-said}
+use borrow.Author.Needs.{needs}
+use Rattle.capi.proofs.rotations.weimrukas_parameters.Statement.{statement}
+use Rattle.capi.proofs.rotations.weimrukas_parameters.Tie as tie
+
+of-pair-requires : tie.Need-of-pair-requires
+of-pair-requires c κs = search needs
+
+of-parameters-requires : tie.Need-of-parameters-requires
+of-parameters-requires c κs = search needs
+
+turns-requires : tie.Need-turns-requires
+turns-requires c κs = search needs
+
+canonical-requires : tie.Need-canonical-requires
+canonical-requires c κs = search needs
+
+canonical-requires-2 : tie.Need-canonical-requires-2
+canonical-requires-2 c κs = search needs
+
+canonical-requires-3 : tie.Need-canonical-requires-3
+canonical-requires-3 c κs = search needs
+
+returns : tie.Need-returns
+returns c = let p = c .before .before .before .before .before in parameters-said (p .of-pair .ensures) (c .before .before .before .before .of-parameters .ensures) (c .before .before .before .turns .ensures) (c .before .before .canonical .ensures) (c .before .canonical2 .ensures) (c .canonical3 .ensures)
+
+pub weimrukas-parameters-spec : {M : Type 1} → statement M
+weimrukas-parameters-spec =
+    tie.close
+    (tie.spec
+    of-pair-requires
+    of-parameters-requires
+    turns-requires
+    canonical-requires
+    canonical-requires-2
+    canonical-requires-3
+    returns)

@@ -1,0 +1,27 @@
+use Rattle.capi.proofs.Saying.{root-given, root-refused}
+use borrow.Author.Needs.{needs}
+use Rattle.capi.proofs.rotations.weimrukas_root.Statement.{statement}
+use Rattle.capi.proofs.rotations.weimrukas_root.Tie as tie
+
+sqrt-requires : tie.Need-sqrt-requires
+sqrt-requires c κs = search needs
+
+enum-known-y : tie.Need-enum-known-y
+enum-known-y c = search needs
+
+enum-known-refused : tie.Need-enum-known-refused
+enum-known-refused c = search needs
+
+number-requires : tie.Need-number-requires
+number-requires c κs = search needs
+
+returns : tie.Need-returns
+returns c = root-given _ _ _ (c .before .y .given .1) (c .before .before .before .sqrt .ensures)
+
+returns-2 : tie.Need-returns-2
+returns-2 c = root-refused _ _ _ (c .before .before .refused .given .1) (c .before .before .before .before .sqrt .ensures) (c .number .ensures)
+
+pub weimrukas-root-spec : {M : Type 1} → statement M
+weimrukas-root-spec =
+    tie.close
+    (tie.spec sqrt-requires enum-known-y enum-known-refused number-requires returns returns-2)

@@ -1,0 +1,42 @@
+use native.Mathlib.Omega.{arith}
+use Rattle.capi.proofs.Listing.{records-fit, records-given, records-refused}
+use borrow.Author.Needs.{needs}
+use Rattle.capi.proofs.rows.weimrukas_records.Statement.{statement}
+use Rattle.capi.proofs.rows.weimrukas_records.Tie as tie
+
+verdict-requires : tie.Need-verdict-requires
+verdict-requires c κs = search needs
+
+enum-told : tie.Need-enum-told
+enum-told c = search needs
+
+put-records-requires : tie.Need-put-records-requires
+put-records-requires c κs = let e = c .before .enum-told .given .1 in let h = records-fit _ _ _ _ e (c .before .before .before .verdict .ensures) in (h .0, omega (arith, h .1))
+
+enum-known-refused : tie.Need-enum-known-refused
+enum-known-refused c = search needs
+
+refuse-requires : tie.Need-refuse-requires
+refuse-requires c κs = search needs
+
+same-length : tie.Need-same-length
+same-length c = search needs
+
+returns : tie.Need-returns
+returns c = records-given _ _ _ _ _ _ _ (c .before .before .before .before .enum-told .given .1) (c .before .before .before .before .before .before .verdict .ensures) (c .before .before .put-records .ensures)
+
+returns-2 : tie.Need-returns-2
+returns-2 c = records-refused _ _ _ _ _ _ _ _ (c .before .before .before .before .refused .given .1) (c .before .before .before .before .before .before .verdict .ensures) (c .refuse .ensures)
+
+pub weimrukas-records-spec : {M : Type 1} → statement M
+weimrukas-records-spec =
+    tie.close
+    (tie.spec
+    verdict-requires
+    enum-told
+    put-records-requires
+    enum-known-refused
+    refuse-requires
+    same-length
+    returns
+    returns-2)

@@ -1,0 +1,66 @@
+// The numbers and places of answers, and what crosses to C.
+ghost use mathlib.Core.Path.{_≡_};
+ghost use Rattle.refusal.specs.Refusal.{entryOf, toldAnswer};
+ghost use Rattle.capi.specs.Said.{said, placeOf, refusedAs, saidOf, numberTold};
+use refusal::Answer;
+use refusal::Refusal;
+
+// The number of an answer, with the place of a refusal that has one.
+pub fn number_of(answer: Answer, row: &mut usize, column: &mut usize) -> u8
+    ensures { λ r. ⌜ said r (now (row .exit)) (now (column .exit)) ≡ saidOf (toldAnswer answer) (now (row .entry)) (now (column .entry)) ⌝ }
+{
+    match answer {
+        Answer::Accepted => 0,
+        Answer::Refused(refused) => refuse(refused, row, column),
+    }
+}
+
+// The number of an answer alone.
+pub fn number_alone(answer: Answer) -> u8
+    ensures { λ r. ⌜ r ≡ numberTold (toldAnswer answer) ⌝ }
+{
+    match answer {
+        Answer::Accepted => 0,
+        Answer::Refused(refused) => refusal::number(refused),
+    }
+}
+
+// The number of a refusal, with its place if it has one.
+pub fn refuse(refused: Refusal, row: &mut usize, column: &mut usize) -> u8
+    ensures { λ r. ⌜ said r (now (row .exit)) (now (column .exit)) ≡ refusedAs (entryOf refused .0) (entryOf refused .1) (now (row .entry)) (now (column .entry)) ⌝ }
+{
+    set_place(refused, row, column);
+    refusal::number(refused)
+}
+
+fn set_place(refused: Refusal, row: &mut usize, column: &mut usize)
+    ensures { λ _. ⌜ (now (row .exit), now (column .exit)) ≡ placeOf (entryOf refused .1) (now (row .entry)) (now (column .entry)) ⌝ }
+{
+    match refused {
+        Refusal::NotFinite(i, j) => {
+            *row = i;
+            *column = j;
+        }
+        Refusal::NotMirrored(i, j) => {
+            *row = i;
+            *column = j;
+        }
+        Refusal::Order => {}
+        Refusal::Sweeps => {}
+        Refusal::Length => {}
+        Refusal::Code => {}
+        Refusal::TooShort => {}
+        Refusal::Spoiled => {}
+        Refusal::NoRoot => {}
+    }
+}
+
+// The same value. A NaN that an operation gave may have any pattern in memory; what callers in C see is that of one function.
+pub fn canonical(x: f64) -> f64
+    ensures { λ r. ⌜ r ≡ x ⌝ }
+{
+    if x != x {
+        return float64::not_a_number();
+    }
+    x
+}
