@@ -4,3 +4,4 @@ pub mod First
 pub mod Answers
 pub mod Same
 pub mod Accepted
+pub mod Transposing

@@ -1,12 +1,14 @@
 // Lent matrices, row by row (document 01).
 ghost use mathlib.Core.Path.{_≡_};
-ghost use Prim.Native.Nat.{_*_};
+ghost use Prim.Native.Nat.{ℕ, _+_, _*_, _<_};
 ghost use lib.ListN.{length};
 ghost use lib.Dec.{eqb};
+ghost use lib.Ieee.{Float};
 ghost use Rattle.float64.specs.Values.{plusZero};
 ghost use Rattle.lists.specs.Tabulate.{tabulate};
 ghost use Rattle.refusal.specs.Refusal.{toldAnswer};
-ghost use Rattle.matrix.specs.Matrix.{isLine, isPlace, entryOf};
+ghost use Rattle.matrix.specs.Matrix.{flat, isLine, isPlace, entryOf};
+ghost use Rattle.matrix.specs.Transposed.{transposedIn, exchanged, across, upTo};
 ghost use Rattle.matrix.specs.Entries.{firstPlace, notFiniteAt, notMirroredAt, entriesOf};
 use refusal::Answer;
 use refusal::Refusal;
@@ -106,4 +108,36 @@ pub fn clear(a: &mut [f64])
     for k in 0..a.len() {
         a[k] = 0.0;
     }
+}
+
+// Transposes a matrix of order n in its place. Where the length is not that of the matrix it does nothing.
+pub fn transpose(n: usize, a: &mut [f64])
+    ensures { λ _. ⌜ now (a .exit) ≡ transposedIn n (now (a .entry)) ⌝ }
+{
+    if !is_square(n, a.len()) {
+        return;
+    }
+    for i in 0..n {
+        exchange_line(n, i, a);
+    }
+}
+
+// Exchanges row i and column i up to the diagonal, where those before them are exchanged. Lines count from 0.
+fn exchange_line(n: usize, i: usize, a: &mut [f64])
+    requires { ⌜ (i < n) × (length (now a) ≡ n * n) ⌝ }
+    ensures { λ _. ⌜ ((A : ℕ → ℕ → Float) → now (a .entry) ≡ flat n (across (upTo i 0) A) → now (a .exit) ≡ flat n (across (upTo (i + 1) 0) A)) ⌝ }
+{
+    for j in 0..i {
+        exchange(i * n + j, j * n + i, a);
+    }
+}
+
+// Exchanges the values at the indices i and j.
+fn exchange(i: usize, j: usize, a: &mut [f64])
+    requires { ⌜ (i < length (now a)) × (j < length (now a)) ⌝ }
+    ensures { λ _. ⌜ now (a .exit) ≡ exchanged i j (now (a .entry)) ⌝ }
+{
+    let x = a[i];
+    a[i] = a[j];
+    a[j] = x;
 }
