@@ -24,13 +24,23 @@ unfolding ofTangent ofBits
 still-zero = refl
 
 module _ (a d b : Float) where
+  pub zero-tangent : eq b plusZero ≡ true → plusZero ≡ tangent a d b
+  unfolding tangent
+  zero-tangent h = ap (λ (z : Bool). cond z plusZero (tangentOf (quotient a d b))) (sym h ∙ equal-zero b)
+
+  pub other-tangent : (t : Float) → eq b plusZero ≡ false → t ≡ tangentOf (quotient a d b) → t ≡ tangent a d b
+  unfolding tangent
+  other-tangent t h e = e ∙ ap (λ (z : Bool). cond z plusZero (tangentOf (quotient a d b))) (sym h ∙ equal-zero b)
+
+  pub by-tangent : {t : Float} → t ≡ tangent a d b → ofTangent t ≡ ofPair a d b
+  unfolding ofPair
+  by-tangent e = ap ofTangent e
+
   pub still-pair : eq b plusZero ≡ true → Still ≡ ofPair a d b
-  unfolding ofPair tangent
-  still-pair h = still-zero ∙ ap (λ (z : Bool). ofTangent (cond z plusZero (tangentOf (quotient a d b)))) (sym h ∙ equal-zero b)
+  still-pair h = still-zero ∙ by-tangent (zero-tangent h)
 
   pub other-pair : (t : Float) → eq b plusZero ≡ false → t ≡ tangentOf (quotient a d b) → ofTangent t ≡ ofPair a d b
-  unfolding ofPair tangent
-  other-pair t h e = ap ofTangent e ∙ ap (λ (z : Bool). ofTangent (cond z plusZero (tangentOf (quotient a d b)))) (sym h ∙ equal-zero b)
+  other-pair t h e = by-tangent (other-tangent t h e)
 
 -- ---- A tile that receives the tangent of a pair has the pair's own parameters.
 pub received : (t : Float) → ofTangent (sent (ofTangent t)) ≡ ofTangent t

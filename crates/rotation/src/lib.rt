@@ -1,6 +1,6 @@
 // One rotation of a pair of lines (document 01, "One rotation"; document 003, (5.1)).
 ghost use mathlib.Core.Path.{_≡_};
-ghost use Rattle.rotation.specs.Rotation.{rootOf, signum, tangentOf, cosineOf, ofTangent, ofPair, sent, diagonalOf, turnOf};
+ghost use Rattle.rotation.specs.Rotation.{rootOf, signum, tangentOf, cosineOf, tangent, ofTangent, ofPair, sent, diagonalOf, turnOf};
 use root::Root;
 
 // Still, or a turn with the tangent, the cosine and the sine of its angle.
@@ -19,13 +19,20 @@ pub struct Sides {
 pub fn of_pair(a: f64, d: f64, b: f64) -> Parameters
     ensures { λ r. ⌜ r ≡ ofPair a d b ⌝ }
 {
+    of_tangent(tangent_of_pair(a, d, b))
+}
+
+// The tangent of a pair, +0 where b is zero.
+pub fn tangent_of_pair(a: f64, d: f64, b: f64) -> f64
+    ensures { λ r. ⌜ r ≡ tangent a d b ⌝ }
+{
     if b == 0.0 {
-        return Parameters::Still;
+        return 0.0;
     }
     let difference = d - a;
     let double = 2.0 * b;
     let quotient = difference / double;
-    of_tangent(tangent(quotient))
+    tangent(quotient)
 }
 
 // The parameters of a pair whose tangent is t.

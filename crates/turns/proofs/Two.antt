@@ -78,11 +78,12 @@ pair-entries n p q l e =
     there r c r1 rn c1 cn long =
         entry-at n r c l (place-is n r c (length l) (record { row-above = r1; row-within = rn; column-above = c1; column-within = cn; square = long }))
 
-pub same-pair : {a a′ d d′ b b′ : Float} → a ≡ a′ → d ≡ d′ → b ≡ b′ → ofPair a d b ≡ ofPair a′ d′ b′
-same-pair e f g = rw (e, f, g)
+-- what is found from three entries
+pub from-three : {X : Type 0} (f : Float → Float → Float → X) {a a′ d d′ b b′ : Float} → a ≡ a′ → d ≡ d′ → b ≡ b′ → f a d b ≡ f a′ d′ b′
+from-three f e g h = rw (e, g, h)
 
 pub pair-parameters : (n p q : ℕ) (l : List Float) → twoLines n p q (length l) ≡ true → parametersOf p q (entryOf n l) ≡ parametersOf p q (at n l)
-pair-parameters n p q l e = let t = pair-entries n p q l e in same-pair (t .0) (t .1) (t .2)
+pair-parameters n p q l e = let t = pair-entries n p q l e in from-three ofPair (t .0) (t .1) (t .2)
 
 -- ---- what a turn leaves
 module _ (n p q : ℕ) (turn : (ℕ → ℕ → Float) → ℕ → ℕ → Float) (l : List Float) where
