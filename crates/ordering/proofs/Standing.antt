@@ -1,12 +1,13 @@
--- The lines that stand in the registers of a step: two different ones in each processor, from 1 to n. Assumes nothing.
+-- The lines that stand in the registers of a step: two different ones in each processor, from 1 to n, and none in two. Assumes nothing.
 use Prim.Native.Nat.{ℕ, suc, _+_, _-_, _*_, _/_, _≤_, _<_}
 use mathlib.Core.Path.{_≡_, ap}
 use mathlib.Core.Bool.{Bool, true, false, true≢false}
+use native.Mathlib.Nat.{le-refl}
 use native.Mathlib.Omega.{arith}
 use lib.ListN.{getD}
 use Rattle.systolic.specs.Slots.{Side, left, right, Slot, slot, lineAt, inOrder}
 use Rattle.systolic.proofs.Lines.{line-from, line-one, inOrder-one, inOrder-in}
-use Rattle.ordering.specs.Registers.{registersOf}
+use Rattle.ordering.specs.Registers.{registersOf, standing}
 use Rattle.ordering.specs.Pairs.{noOrder, registersAt}
 use Rattle.ordering.proofs.Columns.{column-at}
 use Rattle.ordering.proofs.Orders.{order-is, order-half, odd}
@@ -24,6 +25,11 @@ module _ (n : ℕ) (order : noOrder n ≡ false) (s k : ℕ) (below : k < n / 2)
   unfolding registersAt registersOf
   right-stands = column-at (n / 2) (λ k. lineAt (inOrder 1) (n / 2 - 1) s (slot k right)) k below (order-half n order .1)
 
+  pub stands : (r : Side) → standing (registersAt n s .left) (registersAt n s .right) r k ≡ lineOf n s k r
+  unfolding standing
+  stands left = left-stands
+  stands right = right-stands
+
   last : (r : Side) → slot k r .processor ≤ n / 2 - 1
   last r = unfold slot in (omega arith)
 
@@ -37,9 +43,11 @@ module _ (n : ℕ) (order : noOrder n ≡ false) (s k : ℕ) (below : k < n / 2)
       let i = inOrder-in 1 (n / 2 - 1) (w .0) (w .1) in
       rw (w .2) (i .0, (let z = twice in let b = i .1 in omega arith))
 
+  one-slot : (r t : Side) (i : ℕ) → i ≤ k → lineOf n s i r ≡ lineOf n s k t → slot i r ≡ slot k t
+  one-slot r t i h e = line-one (inOrder 1) (n / 2 - 1) (inOrder-one 1 (n / 2 - 1)) s (slot i r) (slot k t) (unfold slot in (omega arith)) (last t) e
+
   pub lines-differ : ¬ (lineOf n s k left ≡ lineOf n s k right)
-  lines-differ e =
-      true≢false (sides (line-one (inOrder 1) (n / 2 - 1) (inOrder-one 1 (n / 2 - 1)) s (slot k left) (slot k right) (last left) (last right) e))
+  lines-differ e = true≢false (sides (one-slot left right k (le-refl k) e))
     where
       isLeft : Side → Bool
       isLeft left = true
@@ -47,3 +55,10 @@ module _ (n : ℕ) (order : noOrder n ≡ false) (s k : ℕ) (below : k < n / 2)
 
       sides : slot k left ≡ slot k right → true ≡ false
       sides e = unfold slot in (ap (λ (u : Slot). isLeft (u .side)) e)
+
+  -- no line stands in two processors
+  pub lines-apart : (r t : Side) (i : ℕ) → i < k → ¬ (lineOf n s i r ≡ lineOf n s k t)
+  lines-apart r t i h e = processors (one-slot r t i (omega arith) e)
+    where
+      processors : slot i r ≡ slot k t → ⊥
+      processors e = let z : i ≡ k = unfold slot in (ap (λ (u : Slot). u .processor) e) in omega arith

@@ -7,9 +7,10 @@ use borrow.Author.Tests.{eqb-true, eq-eqb, ne-eqb}
 use lib.Dec.{eqb}
 use lib.ListN.{length}
 use lib.Ieee.{Float}
+use Rattle.rotation.specs.declared.Parameters.{Parameters}
 use Rattle.turns.specs.Turns.{twoLines}
 use Rattle.turns.proofs.Two.{are-two}
-use Rattle.pair.specs.Pair.{pairStep, stateOf, Held, hasPair, TwoLists, twoLists, pairOf}
+use Rattle.pair.specs.Pair.{stateTurned, stateOf, Held, hasPair, TwoLists, twoLists, pairOf}
 
 module _ (n p q first second : ℕ) where
   pub other-length : ¬ (second ≡ first) → false ≡ hasPair n p q first second
@@ -32,18 +33,19 @@ module _ (n p q first second : ℕ) where
   there-pair : twoLines n p q first ≡ true → second ≡ n * n → hasPair n p q first second ≡ true
   there-pair e z = sym (by-lines (z ∙ sym (are-two n p q first e .long))) ∙ e
 
-module _ (n p q : ℕ) (l e : List Float) where
-  pub nothing-done : hasPair n p q (length l) (length e) ≡ false → twoLists l e ≡ pairOf n p q l e
+module _ (P : Parameters) (n p q : ℕ) (l e : List Float) where
+  pub nothing-done : hasPair n p q (length l) (length e) ≡ false → twoLists l e ≡ pairOf P n p q l e
   unfolding pairOf
   nothing-done z = rw z
 
   module _ {l′ e′ : List Float} where
-    pub pair-done : hasPair n p q (length l) (length e) ≡ true → Held n l′ e′ (pairStep p q (stateOf n l e)) → twoLists l′ e′ ≡ pairOf n p q l e
+    pub pair-done : hasPair n p q (length l) (length e) ≡ true → Held n l′ e′ (stateTurned P p q (stateOf n l e)) → twoLists l′ e′ ≡ pairOf P n p q l e
     unfolding pairOf
     pair-done z h = rw (z, ← (h .matrix-held), ← (h .vectors-held))
 
-    -- the step of a pair, from the lists
-    pub pair-held : twoLines n p q (length l) ≡ true → length e ≡ n * n → twoLists l′ e′ ≡ pairOf n p q l e → Held n l′ e′ (pairStep p q (stateOf n l e))
+    -- a pair turned, from the lists
+    pub pair-held : twoLines n p q (length l) ≡ true → length e ≡ n * n → twoLists l′ e′ ≡ pairOf P n p q l e
+        → Held n l′ e′ (stateTurned P p q (stateOf n l e))
     unfolding pairOf
     pair-held two long f =
         let w = rw (there-pair n p q (length l) (length e) two long) at f in

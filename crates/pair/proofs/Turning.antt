@@ -1,4 +1,4 @@
--- What the parts of a pair's turn leave in the two lists is the pair's step. Assumes nothing.
+-- What the parts of a pair's turn leave in the two lists is the state turned. Assumes nothing.
 use Prim.Native.Nat.{ℕ, _*_}
 use mathlib.Core.Path.{_≡_, refl, sym, ap, _∙_}
 use mathlib.Core.Bool.{Bool, true, false, cond, _&&_}
@@ -13,14 +13,15 @@ use Rattle.rotation.specs.declared.Parameters.the-variants.{Still}
 use Rattle.rotation.specs.declared.Sides.{Sides}
 use Rattle.rotation.specs.Rotation.{diagonalOf}
 use Rattle.matrix.specs.Matrix.{at, flat, entryOf}
+use Rattle.matrix.specs.Transposed.{transposed}
 use Rattle.matrix.proofs.Flat.{flat-length}
 use Rattle.matrix.proofs.Same.{Same, flat-same, flat-again, one-more}
-use Rattle.turns.specs.Turns.{parametersOf, twoLines, onLines, rowTurn, columnTurn, rowTurnAll, columnTurnAll}
+use Rattle.turns.specs.Turns.{twoLines, onLines, rowTurn, columnTurn, rowTurnAll, columnTurnAll}
 use Rattle.turns.proofs.Two.{are-two, two-as, first-line, second-line, pair-entries, turned-flat}
 use Rattle.turns.proofs.Same.{all-columns-same}
 use Rattle.turns.proofs.Still.{still-rows, still-columns, still-all-columns}
 use Rattle.pair.proofs.Spots.{turned-whole}
-use Rattle.pair.specs.Pair.{withEntry, pairTurned, pairStep, stateOf, Held}
+use Rattle.pair.specs.Pair.{withEntry, pairTurned, stateTurned, stateOf, Held}
 
 -- ---- one entry
 module _ (p q : ℕ) (x : Float) where
@@ -43,9 +44,6 @@ module _ (p q : ℕ) (x : Float) where
       go false b f g = refl
 
 -- ---- the entries of a pair
-pub same-diagonal : (P : Parameters) {a a′ d d′ b b′ : Float} → a ≡ a′ → d ≡ d′ → b ≡ b′ → diagonalOf P a d b ≡ diagonalOf P a′ d′ b′
-same-diagonal P e f g = rw (e, f, g)
-
 -- the two that become +0
 pub cleared : (n p q : ℕ) (l l′ l″ : List Float) → l′ ≡ flat n (withEntry p q plusZero (at n l)) → l″ ≡ flat n (withEntry q p plusZero (at n l′))
     → l″ ≡ flat n (withEntry q p plusZero (withEntry p q plusZero (at n l)))
@@ -82,14 +80,19 @@ module _ (n p q : ℕ) where
       rw (d, z .0, z .1, z .2) at (one-more n _ (pairSet (s .left) (s .right)) (set-same (s .left) (s .right)) f₂ e₃)
       ∙ flat-same n _ _ (λ r c hr hc. turned-whole P p q (at n l) r c)
 
-  -- ---- the step of a pair, still or turned
-  pub turn-held : (P : Parameters) (l l′ e e′ : List Float) → twoLines n p q (length l) ≡ true → length e ≡ n * n → P ≡ parametersOf p q (at n l)
-      → l′ ≡ flat n (pairTurned P p q (at n l)) → e′ ≡ onLines n p q (columnTurnAll P p q) e → Held n l′ e′ (pairStep p q (stateOf n l e))
-  unfolding pairStep stateOf
+  -- the row turn is the column turn of the transposed matrix
+  row-as-column : (P : Parameters) (A : ℕ → ℕ → Float) (r c : ℕ) → rowTurnAll P p q A r c ≡ columnTurnAll P p q (transposed A) c r
+  unfolding rowTurnAll columnTurnAll
+  row-as-column P A r c = refl
+
+  -- ---- both lists, turned or still
+  pub turn-held : (P : Parameters) {Q : Parameters} (l l′ e e′ : List Float) → twoLines n p q (length l) ≡ true → length e ≡ n * n → P ≡ Q
+      → l′ ≡ flat n (pairTurned P p q (at n l)) → e′ ≡ onLines n p q (rowTurnAll P p q) e → Held n l′ e′ (stateTurned Q p q (stateOf n l e))
+  unfolding stateOf
   turn-held P l l′ e e′ two long z f g =
       let t = are-two n p q (length l) two in
       let two′ : twoLines n p q (length e) ≡ true = two-as n p q two (long ∙ sym (t .long)) in
-      record { matrix-held = rw z at f; vectors-held = rw z at (g ∙ turned-flat n p q (columnTurnAll P p q) e two′) }
+      record { matrix-held = rw z at f; vectors-held = rw z at (g ∙ turned-flat n p q (rowTurnAll P p q) e two′ ∙ flat-same n _ _ (λ r c hr hc. row-as-column P (at n e) r c)) }
 
   still-turned : (A : ℕ → ℕ → Float) (r c : ℕ) → pairTurned Still p q A r c ≡ withEntry q p plusZero (withEntry p q plusZero A) r c
   unfolding pairTurned
@@ -104,11 +107,11 @@ module _ (n p q : ℕ) where
       diagonal-kept : (r c : ℕ) → withEntry q q (A q q) (withEntry p p (A p p) (columnTurn Still p q (rowTurn Still p q A))) r c ≡ columnTurn Still p q (rowTurn Still p q A) r c
       diagonal-kept r c = entry-kept q q (A q q) _ r c (sym (first-kept q q ∙ turns-kept q q)) ∙ first-kept r c
 
-  pub still-held : (l l′ e : List Float) → length e ≡ n * n → Still ≡ parametersOf p q (at n l)
-      → l′ ≡ flat n (withEntry q p plusZero (withEntry p q plusZero (at n l))) → Held n l′ e (pairStep p q (stateOf n l e))
-  unfolding pairStep stateOf
+  pub still-held : {Q : Parameters} (l l′ e : List Float) → length e ≡ n * n → Still ≡ Q
+      → l′ ≡ flat n (withEntry q p plusZero (withEntry p q plusZero (at n l))) → Held n l′ e (stateTurned Q p q (stateOf n l e))
+  unfolding stateOf
   still-held l l′ e long z f =
       record {
         matrix-held = f ∙ flat-same n _ _ (λ r c hr hc. rw (← z) (sym (still-turned (at n l) r c)));
-        vectors-held = flat-again n e long ∙ flat-same n _ _ (λ r c hr hc. rw (← z) (sym (still-all-columns p q (at n e) r c)));
+        vectors-held = flat-again n e long ∙ flat-same n _ _ (λ r c hr hc. rw (← z) (sym (still-all-columns p q (transposed (at n e)) c r)));
       }

@@ -10,6 +10,7 @@ use Rattle.float64.specs.Values.{plusZero}
 use Rattle.rotation.specs.declared.Parameters.{Parameters}
 use Rattle.rotation.specs.Rotation.{diagonalOf}
 use Rattle.matrix.specs.Matrix.{at, flat}
+use Rattle.matrix.specs.Transposed.{transposed}
 use Rattle.turns.specs.Turns.{parametersOf, rowTurn, columnTurn, columnTurnAll, twoLines}
 
 -- The two matrices of a run, by row and column from 1.
@@ -32,17 +33,21 @@ pairTurned P p q A =
     (withEntry q q (diagonalOf P (A p p) (A q q) (A p q) .right)
     (withEntry p p (diagonalOf P (A p p) (A q q) (A p q) .left) (columnTurn P p q (rowTurn P p q A)))))
 
--- One pair: the eigenvectors get the column turn on all rows.
-unfoldable pub pairStep : ℕ → ℕ → State → State
-pairStep p q X = state (pairTurned (parametersOf p q (X .matrix)) p q (X .matrix)) (columnTurnAll (parametersOf p q (X .matrix)) p q (X .vectors))
+-- Both matrices turned: the eigenvectors get the column turn on all rows.
+abbrev pub stateTurned : Parameters → ℕ → ℕ → State → State
+stateTurned P p q X = state (pairTurned P p q (X .matrix)) (columnTurnAll P p q (X .vectors))
 
--- The state in two lent lists, and two lists that hold a state.
+-- One pair, by its own parameters.
+unfoldable pub pairStep : ℕ → ℕ → State → State
+pairStep p q X = stateTurned (parametersOf p q (X .matrix)) p q X
+
+-- The state in two lent lists, and two lists that hold a state. The second list has the eigenvectors as rows.
 unfoldable pub stateOf : ℕ → List Float → List Float → State
-stateOf n l e = state (at n l) (at n e)
+stateOf n l e = state (at n l) (transposed (at n e))
 
 pub record Held (n : ℕ) (l e : List Float) (X : State) : Type 0 where
   pub matrix-held : l ≡ flat n (X .matrix)
-  pub vectors-held : e ≡ flat n (X .vectors)
+  pub vectors-held : e ≡ flat n (transposed (X .vectors))
 
 -- Two lengths are that of a matrix of order n, and p and q are two of its lines.
 unfoldable pub hasPair : ℕ → ℕ → ℕ → ℕ → ℕ → Bool
@@ -56,8 +61,8 @@ pub record TwoLists : Type 0 where
 abbrev pub twoLists : List Float → List Float → TwoLists
 twoLists l e = record { matrix-list = l; vectors-list = e }
 
--- Two lists after the step of a pair, where they have it.
-unfoldable pub pairOf : ℕ → ℕ → ℕ → List Float → List Float → TwoLists
-pairOf n p q l e =
+-- Two lists after the turn of a pair, where they have it.
+unfoldable pub pairOf : Parameters → ℕ → ℕ → ℕ → List Float → List Float → TwoLists
+pairOf P n p q l e =
     cond (hasPair n p q (length l) (length e))
-    (twoLists (flat n (pairStep p q (stateOf n l e) .matrix)) (flat n (pairStep p q (stateOf n l e) .vectors))) (twoLists l e)
+    (twoLists (flat n (stateTurned P p q (stateOf n l e) .matrix)) (flat n (transposed (stateTurned P p q (stateOf n l e) .vectors)))) (twoLists l e)

@@ -8,18 +8,26 @@ ghost use Rattle.rotation.specs.declared.Parameters.the-variants.{Turn};
 ghost use Rattle.rotation.specs.Rotation.{diagonalOf};
 ghost use Rattle.matrix.specs.Matrix.{at, flat, entryOf};
 ghost use Rattle.turns.specs.Turns.{twoLines};
-ghost use Rattle.pair.specs.Pair.{withEntry, pairTurned, pairStep, stateOf, Held, hasPair, twoLists, pairOf};
+ghost use Rattle.pair.specs.Pair.{withEntry, pairTurned, stateTurned, stateOf, Held, hasPair, twoLists, pairOf};
 use rotation::Parameters;
 use rotation::Sides;
 
-// Turns the lines p and q. Where there are no such lines, or one length is not the other, it does nothing.
-pub fn turn(n: usize, p: usize, q: usize, a: &mut [f64], vectors: &mut [f64])
-    ensures { λ _. ⌜ twoLists (now (a .exit)) (now (vectors .exit)) ≡ pairOf n p q (now (a .entry)) (now (vectors .entry)) ⌝ }
+// Turns the lines p and q by their parameters; the eigenvectors are the rows of `vectors`. Where there are no such lines, or one length is
+// not the other, it does nothing.
+pub fn turn(
+    parameters: Parameters,
+    n: usize,
+    p: usize,
+    q: usize,
+    a: &mut [f64],
+    vectors: &mut [f64],
+)
+    ensures { λ _. ⌜ twoLists (now (a .exit)) (now (vectors .exit)) ≡ pairOf parameters n p q (now (a .entry)) (now (vectors .entry)) ⌝ }
 {
     if !has_pair(n, p, q, a.len(), vectors.len()) {
         return;
     }
-    make_pair(n, p, q, a, vectors);
+    make_pair(parameters, n, p, q, a, vectors);
 }
 
 // Whether two lengths are that of a matrix of order n, and p and q are two of its lines.
@@ -33,15 +41,22 @@ fn has_pair(n: usize, p: usize, q: usize, first: usize, second: usize) -> bool
 }
 
 // Turns lines that there are.
-fn make_pair(n: usize, p: usize, q: usize, a: &mut [f64], vectors: &mut [f64])
+fn make_pair(
+    parameters: Parameters,
+    n: usize,
+    p: usize,
+    q: usize,
+    a: &mut [f64],
+    vectors: &mut [f64],
+)
     requires { ⌜ (twoLines n p q (length (now a)) ≡ true) × (length (now vectors) ≡ n * n) ⌝ }
-    ensures { λ _. ⌜ Held n (now (a .exit)) (now (vectors .exit)) (pairStep p q (stateOf n (now (a .entry)) (now (vectors .entry)))) ⌝ }
+    ensures { λ _. ⌜ Held n (now (a .exit)) (now (vectors .exit)) (stateTurned parameters p q (stateOf n (now (a .entry)) (now (vectors .entry)))) ⌝ }
 {
-    match turns::parameters(n, p, q, a) {
+    match parameters {
         Parameters::Still => clear_pair(n, p, q, a),
         Parameters::Turn(t, c, s) => {
             turn_matrix(t, c, s, n, p, q, a);
-            turns::turn_columns(Parameters::Turn(t, c, s), n, p, q, vectors);
+            turns::turn_rows(Parameters::Turn(t, c, s), n, p, q, vectors);
         }
     }
 }

@@ -1,5 +1,6 @@
 pub mod Starts
 pub mod Steps
+pub mod Ahead
 pub mod Endings
 pub mod Verdicts
 pub mod Mirrors

@@ -19,13 +19,16 @@ use Rattle.ordering.specs.Pairs.{noOrder, limit}
 use Rattle.ordering.proofs.Orders.{order-is}
 use Rattle.matrix.specs.Matrix.{at, flat}
 use Rattle.matrix.specs.Entries.{entriesOf}
-use Rattle.matrix.proofs.Flat.{row-lt, column-lt, at-offset, at-flat}
+use Rattle.matrix.specs.Transposed.{transposedIn}
+use Rattle.matrix.proofs.Flat.{row-lt, column-lt, at-offset, flat-length, at-flat}
+use Rattle.matrix.proofs.Transposing.{transposed-again}
 use Rattle.matrix.proofs.Same.{Finite, Mirrored, read-again, flat-again}
 use Rattle.matrix.proofs.Accepted.{refused-given, accepted-finite, accepted-mirrored}
 use Rattle.pair.specs.Pair.{State, stateOf, Held}
-use Rattle.pair.proofs.Alike.{Alike, held-long, held-alike}
+use Rattle.pair.proofs.Alike.{Alike, held-alike}
 use Rattle.plain.specs.State.{identity, after, notFinite, spoiled}
 use Rattle.plain.specs.Run.{mostSweeps, stepsOf, beforeRun, Outcome, outcome, startOf, someNotFinite, finishOf, ranOf, runOf}
+use Rattle.plain.proofs.Starts.{identity-mirrored}
 use Rattle.plain.proofs.Steps.{after-alike}
 use Rattle.plain.proofs.Persists.{FiniteState, finite-state, state-finite, spoiled-at-end}
 
@@ -81,26 +84,22 @@ module _ (n : ℕ) where
           ∙ ap (λ (l : List Float). finite (at n l (k / n + 1) (k % n + 1))) e ∙ ap finite (at-flat n A (k / n) (k % n) (row-lt n k h) (column-lt n k h))
           ∙ entry-finite k h
 
-  pub lists-finite : (l e : List Float) (X : State) → Held n l e X → (someNotFinite l || someNotFinite e) ≡ notFinite n X
-  lists-finite l e X h = same-bool _ _ to from
+  pub lists-finite : (l e : List Float) (X : State) → l ≡ flat n (X .matrix) → e ≡ flat n (X .vectors) → (someNotFinite l || someNotFinite e) ≡ notFinite n X
+  lists-finite l e X h g = same-bool _ _ to from
     where
       long : (length l ≡ n * n) × (length e ≡ n * n)
-      long = held-long n l e X h
+      long = (ap length h ∙ flat-length n _, ap length g ∙ flat-length n _)
 
       to : (someNotFinite l || someNotFinite e) ≡ false → notFinite n X ≡ false
       to f =
           let o = or-false _ _ f in
           state-finite n X
-          (record {
-            finite-matrix = finite-of-list (X .matrix) l (h .matrix-held) (long .0) (o .0);
-            finite-vectors = finite-of-list (X .vectors) e (h .vectors-held) (long .1) (o .1);
-          })
+          (record { finite-matrix = finite-of-list (X .matrix) l h (long .0) (o .0); finite-vectors = finite-of-list (X .vectors) e g (long .1) (o .1) })
 
       from : notFinite n X ≡ false → (someNotFinite l || someNotFinite e) ≡ false
       from f =
           let o = finite-state n X f in
-          false-or _ _ (list-of-finite (X .matrix) l (h .matrix-held) (long .0) (o .finite-matrix))
-          (list-of-finite (X .vectors) e (h .vectors-held) (long .1) (o .finite-vectors))
+          false-or _ _ (list-of-finite (X .matrix) l h (long .0) (o .finite-matrix)) (list-of-finite (X .vectors) e g (long .1) (o .finite-vectors))
 
 -- ---- the start of a run
 identity-finite : (n : ℕ) → Finite n identity
@@ -114,7 +113,8 @@ identity-finite n r c hr hc = go (eqb r c)
 module _ (n sweeps : ℕ) (l : List Float) (fitting : (k : ℕ) → T (fits binary64 (getD l k nan))) (lr lv : ℕ) (b : Begins n sweeps l lr lv) where
   start-alike : (e : List Float) → e ≡ flat n identity → Alike n (stateOf n l e) (startOf n l)
   unfolding stateOf startOf
-  start-alike e z = record { matrices = λ r c hr hc. refl; eigenvectors = λ r c hr hc. ap (λ (e : List Float). at n e r c) z ∙ read-again n identity r c hr hc }
+  start-alike e z =
+      record { matrices = λ r c hr hc. refl; eigenvectors = λ r c hr hc. ap (λ (e : List Float). at n e c r) z ∙ read-again n identity c r hc hr ∙ identity-mirrored r c }
 
   pub start-finite : FiniteState n (startOf n l)
   unfolding startOf
@@ -124,16 +124,18 @@ module _ (n sweeps : ℕ) (l : List Float) (fitting : (k : ℕ) → T (fits bina
   unfolding startOf
   start-mirrored = accepted-mirrored n l fitting (b .entries)
 
-  -- a run is the start, the steps and the end
-  pub run-made : {o : Outcome Unit} (l₀ e₀ l₁ e₁ : List Float) → l₀ ≡ l → e₀ ≡ flat n identity → Held n l₁ e₁ (after n (stepsOf n sweeps) (stateOf n l₀ e₀))
-      → o ≡ finishOf n l₁ e₁ → o ≡ ranOf n sweeps l
+  -- a run is the start, the steps, the eigenvectors as columns, and the end
+  pub run-made : {o : Outcome Unit} (l₀ e₀ l₁ e₁ e₂ : List Float) → l₀ ≡ l → e₀ ≡ flat n identity → Held n l₁ e₁ (after n (stepsOf n sweeps) (stateOf n l₀ e₀))
+      → e₂ ≡ transposedIn n e₁ → o ≡ finishOf n l₁ e₂ → o ≡ ranOf n sweeps l
   unfolding finishOf ranOf
-  run-made l₀ e₀ l₁ e₁ z y h f =
+  run-made l₀ e₀ l₁ e₁ e₂ z y h t f =
       let K = stepsOf n sweeps in
       let X = startOf n l in
       let held : Held n l₁ e₁ (after n K X) = held-alike n l₁ e₁ _ _ (rw z at h) (after-alike n (b .order) K _ _ (start-alike e₀ y)) in
-      let s : (someNotFinite l₁ || someNotFinite e₁) ≡ spoiled n K X = lists-finite n l₁ e₁ _ held ∙ sym (spoiled-at-end n (b .order) X start-mirrored start-finite K) in
-      rw (← s, ← (held .matrix-held), ← (held .vectors-held)) f
+      let columns : e₂ ≡ flat n (after n K X .vectors) = transposed-again n _ (held .vectors-held) t in
+      let s : (someNotFinite l₁ || someNotFinite e₂) ≡ spoiled n K X =
+      lists-finite n l₁ e₂ _ (held .matrix-held) columns ∙ sym (spoiled-at-end n (b .order) X start-mirrored start-finite K) in
+      rw (← s, ← (held .matrix-held), ← columns) f
 
 -- no sweeps: the matrix as lent, and the identity
 pub no-sweeps : (n : ℕ) (l : List Float) → length l ≡ n * n → ranOf n 0 l ≡ outcome (given tt) l (flat n identity)

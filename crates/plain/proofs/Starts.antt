@@ -1,8 +1,10 @@
--- What the loops over a whole list leave in it. Assumes nothing.
+-- What the loops over a whole list leave in it, and the identity. Assumes nothing.
 use Prim.Native.Nat.{ℕ, _+_, _*_, _/_, _%_, _≤_}
 use mathlib.Core.Path.{_≡_, refl, sym, _∙_}
+use mathlib.Core.Bool.{Bool, true, false}
 use mathlib.Core.List.{List}
-use borrow.Author.Tests.{eq-eqb, ne-eqb}
+use borrow.Author.Tests.{eqb-true, eqb-false, eq-eqb, ne-eqb}
+use lib.Dec.{eqb}
 use lib.ListN.{length, getD}
 use lib.Ieee.{Float, nan}
 use Rattle.float64.specs.Values.{plusZero, one}
@@ -33,3 +35,10 @@ module _ (i j : ℕ) where
   pub off-diagonal : ¬ (i ≡ j) → plusZero ≡ identity i j
   unfolding identity
   off-diagonal e = rw (ne-eqb i j e)
+
+pub identity-mirrored : (r c : ℕ) → identity c r ≡ identity r c
+identity-mirrored r c = go (eqb r c) refl
+  where
+    go : (b : Bool) → eqb r c ≡ b → identity c r ≡ identity r c
+    go true e = let z : r ≡ c = eqb-true _ _ e in sym (on-diagonal c r (sym z)) ∙ on-diagonal r c z
+    go false e = let z : ¬ (r ≡ c) = eqb-false _ _ e in sym (off-diagonal c r (λ y. z (sym y))) ∙ off-diagonal r c z

@@ -11,10 +11,11 @@ use Rattle.systolic.specs.Slots.{left, right}
 use Rattle.ordering.specs.declared.Registers.{Registers}
 use Rattle.ordering.specs.Pairs.{noOrder, registersAt}
 use Rattle.ordering.proofs.Standing.{left-stands, right-stands, line-within, lines-differ}
-use Rattle.turns.specs.Turns.{twoLines}
+use Rattle.rotation.specs.declared.Parameters.{Parameters}
+use Rattle.turns.specs.Turns.{parametersOf, twoLines}
 use Rattle.turns.proofs.Two.{are-two, two-are, first-line, second-line}
-use Rattle.pair.specs.Pair.{State, pairStep, stateOf, Held}
-use Rattle.pair.proofs.Alike.{Alike, pair-alike, held-alike, read-alike}
+use Rattle.pair.specs.Pair.{State, stateTurned, pairStep, stateOf, Held}
+use Rattle.pair.proofs.Alike.{Alike, turned-alike, pair-alike, held-alike, read-alike}
 use Rattle.plain.specs.State.{pairsStep, after}
 
 -- every processor below N has two different lines
@@ -31,12 +32,13 @@ module _ (n : ℕ) (ls rs : List ℕ) where
 
 module _ (n : ℕ) (l e l′ e′ : List Float) (X : State) (held : Held n l e X) where
   -- one pair more
-  pub pair-next : (ls rs : List ℕ) (N k : ℕ) (Y : State) → Paired n ls rs N → k < N → X ≡ pairsStep ls rs k Y
-      → Held n l′ e′ (pairStep (getD ls k 0) (getD rs k 0) (stateOf n l e)) → Held n l′ e′ (pairsStep ls rs (k + 1) Y)
-  unfolding pairsStep
-  pair-next ls rs N k Y paired below z h =
+  pub pair-next : (P : Parameters) (ls rs : List ℕ) (N k : ℕ) (Y : State) → Paired n ls rs N → k < N → X ≡ pairsStep ls rs k Y
+      → P ≡ parametersOf (getD ls k 0) (getD rs k 0) (X .matrix) → Held n l′ e′ (stateTurned P (getD ls k 0) (getD rs k 0) (stateOf n l e))
+      → Held n l′ e′ (pairsStep ls rs (k + 1) Y)
+  unfolding pairsStep pairStep
+  pair-next P ls rs N k Y paired below z f h =
       let t = are-two n _ _ (n * n) (paired k below) in
-      rw (add-one, ← z) (held-alike n l′ e′ _ _ h (pair-alike n (getD ls k 0) (getD rs k 0) (first-line t) (second-line t) _ _ (read-alike n l e X held)))
+      rw (add-one, ← z, ← f) (held-alike n l′ e′ _ _ h (turned-alike n (getD ls k 0) (getD rs k 0) (first-line t) (second-line t) P _ _ (read-alike n l e X held)))
 
   -- one step more
   pub step-next : (R : Registers) (k : ℕ) (Y : State) → R ≡ registersAt n k → Paired n (R .left) (R .right) (n / 2) → X ≡ after n k Y

@@ -3,17 +3,21 @@ ghost use mathlib.Core.Path.{_≡_};
 ghost use mathlib.Core.Bool.{true, false, not, _||_};
 ghost use Prim.Native.Nat.{ℕ, _+_, _*_, _/_, _<_, _≤_};
 ghost use lib.ListN.{length, getD};
+ghost use lib.Ieee.{nan};
 ghost use Rattle.refusal.specs.Refusal.{given, told, toldAnswer};
 ghost use Rattle.refusal.specs.declared.Refusal.the-variants.{Spoiled};
 ghost use Rattle.ordering.specs.Pairs.{noOrder, limit};
-ghost use Rattle.matrix.specs.Matrix.{flat};
-ghost use Rattle.turns.specs.Turns.{twoLines};
+ghost use Rattle.rotation.specs.declared.Parameters.the-variants.{Still};
+ghost use Rattle.rotation.specs.Rotation.{ofTangent};
+ghost use Rattle.matrix.specs.Matrix.{flat, entryOf};
+ghost use Rattle.turns.specs.Turns.{pairTangent, parametersOf, twoLines};
 ghost use Rattle.pair.specs.Pair.{stateOf, Held};
 ghost use Rattle.plain.specs.State.{identity, pairsStep, after};
 ghost use Rattle.plain.specs.Run.{beforeRun, outcome, zeros, someNotFinite, finishOf, ranOf, runOf};
 use ordering::Registers;
 use refusal::Answer;
 use refusal::Refusal;
+use rotation::Parameters;
 
 // Runs a number of sweeps on a matrix of order n and leaves the last matrix and the eigenvectors in the two results.
 pub fn run(
@@ -50,7 +54,7 @@ pub fn verdict(n: usize, sweeps: usize, matrix: &[f64], first: usize, second: us
     matrix::tested(n, matrix)
 }
 
-// A run that is not refused before it.
+// A run that is not refused before it. The eigenvectors are rows until all steps are made; the identity is its own transpose.
 fn run_accepted(
     n: usize,
     sweeps: usize,
@@ -64,6 +68,7 @@ fn run_accepted(
     copy(matrix, result);
     set_identity(n, vectors);
     make_steps(n, sweeps * (n - 1), result, vectors);
+    matrix::transpose(n, vectors);
     finish(n, result, vectors)
 }
 
@@ -95,7 +100,8 @@ pub fn identity(r: usize, c: usize) -> f64
     0.0
 }
 
-// Makes the steps 0 to count - 1.
+// Makes the steps 0 to count - 1. All tangents of a step are found before any cosine, and all cosines before any turn, so that the
+// processor need not wait for one root to begin the next.
 fn make_steps(n: usize, count: usize, a: &mut [f64], vectors: &mut [f64])
     requires { ⌜ (noOrder n ≡ false) × (length (now a) ≡ n * n) × (length (now vectors) ≡ n * n) ⌝ }
     ensures { λ _. ⌜ Held n (now (a .exit)) (now (vectors .exit)) (after n count (stateOf n (now (a .entry)) (now (vectors .entry)))) ⌝ }
@@ -103,23 +109,60 @@ fn make_steps(n: usize, count: usize, a: &mut [f64], vectors: &mut [f64])
     let mut registers = Registers::of_order(n);
     let mut k = 0;
     while k < count {
-        make_pairs(n, registers, a, vectors);
+        let tangents = tangents_of(n, registers, a);
+        let found = parameters_of(n, tangents);
+        make_pairs(n, registers, found, a, vectors);
         let next = registers.after_step(n);
         registers = next;
         k += 1;
     }
 }
 
-// Turns the pairs of all processors, in order.
-fn make_pairs(n: usize, registers: Registers, a: &mut [f64], vectors: &mut [f64])
+// The tangents of the pairs of all processors.
+fn tangents_of(n: usize, registers: Registers, a: &[f64]) -> [f64; 16]
+    requires { ⌜ n ≤ limit ⌝ }
+    ensures { λ r. ⌜ ((k : ℕ) → k < n / 2 → getD r k nan ≡ pairTangent (getD (registers .left) k 0) (getD (registers .right) k 0) (entryOf n (now (a .entry)))) ⌝ }
+{
+    let lefts = registers.left;
+    let rights = registers.right;
+    let mut tangents = [0.0; 16];
+    for k in 0..n / 2 {
+        tangents[k] = turns::tangent(n, lefts[k], rights[k], a);
+    }
+    tangents
+}
+
+// The parameters of pairs with these tangents.
+fn parameters_of(n: usize, tangents: [f64; 16]) -> [Parameters; 16]
+    requires { ⌜ n ≤ limit ⌝ }
+    ensures { λ r. ⌜ ((k : ℕ) → k < n / 2 → getD r k Still ≡ ofTangent (getD tangents k nan)) ⌝ }
+{
+    let still = Parameters::Still;
+    let mut found = [still; 16];
+    for k in 0..n / 2 {
+        let parameters = rotation::of_tangent(tangents[k]);
+        found[k] = parameters;
+    }
+    found
+}
+
+// Turns the pairs of all processors, in order, by the parameters that each has at its turn.
+fn make_pairs(
+    n: usize,
+    registers: Registers,
+    found: [Parameters; 16],
+    a: &mut [f64],
+    vectors: &mut [f64],
+)
     requires { ⌜ (n ≤ limit) × (length (now a) ≡ n * n) × (length (now vectors) ≡ n * n) ⌝ }
     requires { ⌜ ((k : ℕ) → k < n / 2 → twoLines n (getD (registers .left) k 0) (getD (registers .right) k 0) (n * n) ≡ true) ⌝ }
+    requires { ⌜ ((k : ℕ) → k < n / 2 → getD found k Still ≡ parametersOf (getD (registers .left) k 0) (getD (registers .right) k 0) (pairsStep (registers .left) (registers .right) k (stateOf n (now a) (now vectors)) .matrix)) ⌝ }
     ensures { λ _. ⌜ Held n (now (a .exit)) (now (vectors .exit)) (pairsStep (registers .left) (registers .right) (n / 2) (stateOf n (now (a .entry)) (now (vectors .entry)))) ⌝ }
 {
     let lefts = registers.left;
     let rights = registers.right;
     for k in 0..n / 2 {
-        pair::turn(n, lefts[k], rights[k], a, vectors);
+        pair::turn(found[k], n, lefts[k], rights[k], a, vectors);
     }
 }
 

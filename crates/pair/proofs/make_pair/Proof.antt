@@ -1,12 +1,8 @@
-use mathlib.Core.Path.{sym, _∙_}
-use Rattle.turns.proofs.Two.{pair-parameters}
+use mathlib.Core.Path.{sym}
 use Rattle.pair.proofs.Turning.{still-held, turn-held}
 use borrow.Author.Needs.{needs}
 use Rattle.pair.proofs.make_pair.Statement.{statement}
 use Rattle.pair.proofs.make_pair.Tie as tie
-
-parameters-requires : tie.Need-parameters-requires
-parameters-requires c κs = search needs
 
 enum-told : tie.Need-enum-told
 enum-told c = search needs
@@ -14,14 +10,14 @@ enum-told c = search needs
 clear-pair-requires : tie.Need-clear-pair-requires
 clear-pair-requires c κs = search needs
 
-enum-known-t : tie.Need-enum-known-t
-enum-known-t c = search needs
+enum-known-parameters : tie.Need-enum-known-parameters
+enum-known-parameters c = search needs
 
 turn-matrix-requires : tie.Need-turn-matrix-requires
 turn-matrix-requires c κs = search needs
 
-turn-columns-requires : tie.Need-turn-columns-requires
-turn-columns-requires c κs = search needs
+turn-rows-requires : tie.Need-turn-rows-requires
+turn-rows-requires c κs = search needs
 
 same-length : tie.Need-same-length
 same-length c = search needs
@@ -30,8 +26,8 @@ returns : tie.Need-returns
 returns c =
     let s = c .before .before in
     let k = s .before .before in
-    let start = k .before .before .before .before .before .before in
-    still-held _ _ _ (start .args .a .now) _ _ (start .pre .1) (sym (k .enum-told .given .1) ∙ k .before .before .parameters .ensures ∙ pair-parameters _ _ _ _ (start .pre .0)) (s .clear-pair .ensures)
+    let start = k .before .before .before .before in
+    still-held _ _ _ (start .args .a .now) _ _ (start .pre .1) (sym (k .enum-told .given .1)) (s .clear-pair .ensures)
 
 same-length-2 : tie.Need-same-length-2
 same-length-2 c = search needs
@@ -44,19 +40,18 @@ returns-2 c =
     let s = c .before .before in
     let m = s .before .before .before .before in
     let k = m .before .before .before in
-    let start = k .before .before .before .before .before .before in
-    turn-held _ _ _ _ (start .args .a .now) _ (start .args .vectors .now) _ (start .pre .0) (start .pre .1) (sym (k .t .given .1) ∙ k .before .before .parameters .ensures ∙ pair-parameters _ _ _ _ (start .pre .0)) (m .turn-matrix .ensures) (s .turn-columns .ensures)
+    let start = k .before .before .before .before in
+    turn-held _ _ _ _ (start .args .a .now) _ (start .args .vectors .now) _ (start .pre .0) (start .pre .1) (sym (k .parameters .given .1)) (m .turn-matrix .ensures) (s .turn-rows .ensures)
 
 pub make-pair-spec : {M : Type 1} → statement M
 make-pair-spec =
     tie.close
     (tie.spec
-    parameters-requires
     enum-told
     clear-pair-requires
-    enum-known-t
+    enum-known-parameters
     turn-matrix-requires
-    turn-columns-requires
+    turn-rows-requires
     same-length
     returns
     same-length-2

@@ -1,7 +1,8 @@
 use mathlib.Core.Path.{_∙_}
 use borrow.Author.Needs.{needs}
 use Rattle.rotation.specs.declared.Parameters.the-variants.{Turn}
-use Rattle.pair.proofs.Turning.{same-diagonal}
+use Rattle.rotation.specs.Rotation.{diagonalOf}
+use Rattle.turns.proofs.Two.{from-three}
 use Rattle.pair.proofs.new_diagonal.Statement.{statement}
 use Rattle.pair.proofs.new_diagonal.Tie as tie
 
@@ -21,7 +22,7 @@ returns : tie.Need-returns
 returns c =
     let s = c .before in
     let a = s .before .before .before .before .args in
-    c .diagonal .ensures ∙ same-diagonal (Turn (a .t) (a .c) (a .s)) (s .before .before .entry .ensures) (s .before .entry2 .ensures) (s .entry3 .ensures)
+    c .diagonal .ensures ∙ from-three (diagonalOf (Turn (a .t) (a .c) (a .s))) (s .before .before .entry .ensures) (s .before .entry2 .ensures) (s .entry3 .ensures)
 
 pub new-diagonal-spec : {M : Type 1} → statement M
 new-diagonal-spec =

@@ -9,7 +9,7 @@ has-pair-requires : tie.Need-has-pair-requires
 has-pair-requires c κs = search needs
 
 returns : tie.Need-returns
-returns c = nothing-done _ _ _ _ _ (sym (c .before .has-pair .ensures) ∙ not-true _ (c .if1 .taken))
+returns c = nothing-done _ _ _ _ _ _ (sym (c .before .has-pair .ensures) ∙ not-true _ (c .if1 .taken))
 
 make-pair-requires : tie.Need-make-pair-requires
 make-pair-requires c κs =
@@ -26,7 +26,7 @@ returns-2 : tie.Need-returns-2
 returns-2 c =
     let s = c .before .before .before .before in
     let t = s .before .before .before in
-    pair-done _ _ _ _ _ (sym (t .before .has-pair .ensures) ∙ not-false _ (t .if1 .left)) (s .make-pair .ensures)
+    pair-done _ _ _ _ _ _ (sym (t .before .has-pair .ensures) ∙ not-false _ (t .if1 .left)) (s .make-pair .ensures)
 
 pub turn-spec : {M : Type 1} → statement M
 turn-spec =

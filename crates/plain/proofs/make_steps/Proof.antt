@@ -11,6 +11,7 @@ use Rattle.pair.specs.Pair.{stateOf, Held}
 use Rattle.pair.proofs.Alike.{held-itself, held-long}
 use Rattle.plain.specs.State.{after}
 use Rattle.plain.proofs.Steps.{no-steps, step-next, registers-paired}
+use Rattle.plain.proofs.Ahead.{step-found}
 use Rattle.plain.proofs.make_steps.Statement.{statement}
 use Rattle.plain.proofs.make_steps.Tie as tie
 
@@ -28,11 +29,20 @@ loop-holds c =
     let s = c .before .before .before in
     (omega arith, s .pre .0, s .pre .1, s .pre .2, of-order _ (s .pre .0) (c .of-order .ensures), no-steps _ _ _ _ (held-itself _ _ _ (s .pre .1) (s .pre .2)))
 
+tangents-of-requires : tie.Need-tangents-of-requires Inv-loop μ-loop
+tangents-of-requires c κs = order-is _ (c .before .before .loop .inv .1) .2
+
+parameters-of-requires : tie.Need-parameters-of-requires Inv-loop μ-loop
+parameters-of-requires c κs = order-is _ (c .before .before .before .loop .inv .1) .2
+
 make-pairs-requires : tie.Need-make-pairs-requires Inv-loop μ-loop
 make-pairs-requires c κs =
-    let i = c .before .before .before .loop .inv in
+    let s = c .before .before in
+    let t = s .before in
+    let k = t .before .before .before .loop in
+    let i = k .inv in
     let h = held-long _ _ _ _ (i .5) in
-    ((order-is _ (i .1) .2, h .0, h .1), rw (i .4) (registers-paired _ (i .1) _))
+    ((order-is _ (i .1) .2, h .0, h .1), (rw (i .4) (registers-paired _ (i .1) _), step-found _ (i .1) (k .k) (k .registers) (i .4) (t .tangents-of .result) (s .parameters-of .result) _ _ (h .0) (t .tangents-of .ensures) (s .parameters-of .ensures)))
 
 after-step-requires : tie.Need-after-step-requires Inv-loop μ-loop
 after-step-requires c κs = search needs
@@ -46,7 +56,7 @@ loop-less c = omega arith
 loop-again : tie.Need-loop-again Inv-loop μ-loop
 loop-again c =
     let s = c .before .before .before .before .before in
-    let k = s .before .before .before .before .loop in
+    let k = s .before .before .before .before .before .before .before .loop in
     let i = k .inv in (
       omega arith,
       i .1,
@@ -75,6 +85,8 @@ make-steps-spec =
     μ-loop
     of-order-requires
     loop-holds
+    tangents-of-requires
+    parameters-of-requires
     make-pairs-requires
     after-step-requires
     add-k

@@ -39,8 +39,13 @@ make-steps-requires c κs =
     let t = begins _ _ (s .args .matrix .now) _ _ (s .pre) in
     (t .order, omega (arith, t .result-long), omega (arith, t .vectors-long))
 
+transpose-requires : tie.Need-transpose-requires
+transpose-requires c κs = search needs
+
 finish-requires : tie.Need-finish-requires
-finish-requires c κs = held-long _ _ _ _ (c .before .before .before .before .before .before .make-steps .ensures)
+finish-requires c κs =
+    let h = held-long _ _ _ _ (c .before .before .before .before .before .before .before .before .before .before .make-steps .ensures) in
+    (h .0, omega (arith, h .1))
 
 same-length : tie.Need-same-length
 same-length c = search needs
@@ -51,12 +56,13 @@ same-length-2 c = search needs
 returns : tie.Need-returns
 returns c =
     let f = c .before .before .before .before in
-    let m = f .before .before .before .before .before .before .before in
+    let v = f .before .before .before .before .before in
+    let m = v .before .before .before .before .before .before in
     let i = m .before .before .before .before .before in
     let a = i .before .before .before .before in
     let k = a .before .before .before .before in
     let t = begins _ _ (k .before .args .matrix .now) _ _ (k .before .pre) in
-    run-made _ _ _ (k .shared-slice-known .given) _ _ t _ _ _ _ (a .copy .ensures) (i .set-identity .ensures) (m .make-steps .ensures) (f .finish .ensures)
+    run-made _ _ _ (k .shared-slice-known .given) _ _ t _ _ _ _ _ (a .copy .ensures) (i .set-identity .ensures) (m .make-steps .ensures) (v .transpose .ensures) (f .finish .ensures)
 
 pub run-accepted-spec : {M : Type 1} → statement M
 run-accepted-spec =
@@ -67,6 +73,7 @@ run-accepted-spec =
     sub-make-steps
     mul-make-steps
     make-steps-requires
+    transpose-requires
     finish-requires
     same-length
     same-length-2
