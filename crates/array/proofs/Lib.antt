@@ -4,3 +4,4 @@ pub mod Nearby
 pub mod Made
 pub mod Handed
 pub mod Staying
+pub mod Recalling

@@ -1,2 +1,3 @@
+pub mod Angles
 pub mod Arrays
 pub mod Runs

@@ -3,9 +3,11 @@ ghost use mathlib.Core.Path.{_≡_};
 ghost use Rattle.array.specs.Arrays.{Ticks};
 ghost use Rattle.array.specs.Runs.{startArray, noArray, Starts, GoesOn, ticked};
 use refusal::Answer;
+use rotation::Angle;
 use schedule::Progress;
 use tile::Tile;
 
+mod angles;
 mod wiring;
 
 // The order, the sweeps, the number of the next tick and the tiles: that in row i and column j, from 0, is at 16 i + j.
@@ -114,7 +116,8 @@ impl Array {
         self.after(count)
     }
 
-    // The array after `count` more ticks, which are all made. In each tick all tiles read before any writes.
+    // The array after `count` more ticks, which are all made. In each tick all tiles turn before any sets its cell lines;
+    // a tile does not set its parameter lines while another takes what they bring.
     fn after(self, count: usize) -> Array
         requires { ⌜ GoesOn self count ⌝ }
         ensures { λ r. ⌜ r ≡ ticked count self ⌝ }
@@ -125,8 +128,9 @@ impl Array {
         let steps = self.sweeps * (n - 1);
         let first = self.tick;
         let mut array = self;
-        let mut rows = [0.0; 256];
-        let mut columns = [0.0; 256];
+        let zero = Angle::of_tangent(0.0);
+        let mut tangents = [zero.tangent; 256];
+        let mut cosines = [zero.cosine; 256];
         for tick in first..first + count {
             for k in 0..16 * processors {
                 let i = k / 16;
@@ -134,25 +138,28 @@ impl Array {
                 if j >= processors {
                     continue;
                 }
+                if !schedule::changes(steps, tick, i, j) {
+                    continue;
+                }
                 let from = wiring::sources(last, i, j);
                 let at_row = from.row;
                 let at_column = from.column;
-                rows[k] = array.tiles[at_row].row;
-                columns[k] = array.tiles[at_column].column;
-                if !schedule::reads(steps, tick, i, j) {
-                    continue;
-                }
                 let at_alpha = from.alpha;
                 let at_beta = from.beta;
                 let at_gamma = from.gamma;
                 let at_delta = from.delta;
+                let row_tangent = array.tiles[at_row].row;
+                let row = angles::known(row_tangent, tick, i, j, &mut tangents, &mut cosines);
+                let column_tangent = array.tiles[at_column].column;
+                let column = angles::known(column_tangent, tick, j, i, &mut tangents, &mut cosines);
                 let alpha = array.tiles[at_alpha];
                 let beta = array.tiles[at_beta];
                 let gamma = array.tiles[at_gamma];
                 let delta = array.tiles[at_delta];
+                let brought = tile::brought(alpha, beta, gamma, delta, last, i, j);
                 let tile = array.tiles[k];
-                let taken = tile.taking(alpha, beta, gamma, delta, last, i, j);
-                array.tiles[k] = taken;
+                let turned = tile.turned(brought, row, column, steps, tick, i, j);
+                array.tiles[k] = turned;
             }
             for k in 0..16 * processors {
                 let i = k / 16;
@@ -161,7 +168,7 @@ impl Array {
                     continue;
                 }
                 let tile = array.tiles[k];
-                let new = tile.after(rows[k], columns[k], last, steps, tick, i, j);
+                let new = tile.after(last, steps, tick, i, j);
                 array.tiles[k] = new;
             }
         }

@@ -7,7 +7,7 @@ use Rattle.lists.specs.Tabulate.{tabulate}
 use Rattle.systolic.specs.Slots.{any, slot, cameFrom, intoLast, prior, lineAt, inOrderAt, inOrder}
 use Rattle.ordering.specs.Registers.{column, registersOf}
 use Rattle.ordering.specs.Pairs.{noOrder, registersAt}
-use Rattle.rotation.specs.Rotation.{tangent, ofTangent, ofPair}
+use Rattle.rotation.specs.Rotation.{tangent, ofAngle, ofTangent, ofPair}
 use Rattle.matrix.specs.Matrix.{at, flat}
 use Rattle.matrix.specs.Entries.{first, notFiniteAt, notMirroredAt, entriesOf}
 use Rattle.turns.specs.Turns.{turnedAt, rowTurn, columnTurn, columnTurnAll}
@@ -17,5 +17,5 @@ use Rattle.plain.specs.Run.{beforeRun, startOf, ranOf, runOf}
 use Rattle.claims.specs.Examples.{All, examples}
 
 pub examples-hold : All examples
-unfolding sqrtOf ofBits toBits finite tabulate any slot cameFrom intoLast prior lineAt inOrderAt inOrder column registersOf registersAt noOrder at flat first notFiniteAt notMirroredAt entriesOf turnedAt rowTurn columnTurn columnTurnAll ofTangent tangent ofPair identity withEntry pairTurned pairStep pairsStep after notFinite spoiled beforeRun startOf ranOf runOf
+unfolding sqrtOf ofBits toBits finite tabulate any slot cameFrom intoLast prior lineAt inOrderAt inOrder column registersOf registersAt noOrder at flat first notFiniteAt notMirroredAt entriesOf turnedAt rowTurn columnTurn columnTurnAll ofAngle ofTangent tangent ofPair identity withEntry pairTurned pairStep pairsStep after notFinite spoiled beforeRun startOf ranOf runOf
 examples-hold = (refl, (refl, (refl, (refl, (refl, (refl, (refl, (refl, (refl, (refl, (λ r v e f. rw (e, f), tt)))))))))))

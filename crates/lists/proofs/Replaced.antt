@@ -58,11 +58,11 @@ module _ {A : Type 0} {z : A} {f : ℕ → A} {old : List A} where
   replaced-all k l h rest = tabulated (length old) f l z (h .long) (λ i o. replaced-each k l h rest i)
 
   -- a part that the formula leaves alone
-  pub replaced-part : {B : Type 0} (g : A → B) (k : ℕ) (l : List A) → ((i : ℕ) → g (f i) ≡ g (getD old i z)) → Replaced z f old k l → (i : ℕ) → g (getD l i z) ≡ g (getD old i z)
-  replaced-part g k l e h i = go (ltb i k) refl
+  pub replaced-part : {B : Type 0} (g : A → B) (k : ℕ) (l : List A) (i : ℕ) → g (f i) ≡ g (getD old i z) → Replaced z f old k l → g (getD l i z) ≡ g (getD old i z)
+  replaced-part g k l i e h = go (ltb i k) refl
     where
       go : (b : Bool) → ltb i k ≡ b → g (getD l i z) ≡ g (getD old i z)
-      go true y = ap g (h .done i (ltb-true _ _ y)) ∙ e i
+      go true y = ap g (h .done i (ltb-true _ _ y)) ∙ e
       go false y = ap g (h .kept i (ltb-false _ _ y))
 
   -- the new elements, and the old ones after them

@@ -1,5 +1,5 @@
 // The correctly rounded square root of an f64 (document 01, "Square root").
-pub mod whole;
+mod whole;
 
 ghost use mathlib.Core.Path.{_≡_};
 ghost use mathlib.Core.Bool.{false};

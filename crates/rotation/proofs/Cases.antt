@@ -7,20 +7,20 @@ use Rattle.float64.proofs.Zeros.{equal-zero}
 use Rattle.root.specs.Sqrt.{sqrtOf}
 use Rattle.rotation.specs.declared.Parameters.{Parameters}
 use Rattle.rotation.specs.declared.Parameters.the-variants.{Still, Turn}
-use Rattle.rotation.specs.Rotation.{rootOf, signum, tangentOf, cosineOf, quotient, tangent, ofTangent, ofPair, sent}
+use Rattle.rotation.specs.declared.Angle.{Angle}
+use Rattle.rotation.specs.Rotation.{rootOf, signum, tangentOf, cosineOf, angleOf, ofAngle, quotient, tangent, ofTangent, ofPair, sent}
 
-module _ (t : Float) where
-  pub still-at : eq t plusZero ≡ true → Still ≡ ofTangent t
-  unfolding ofTangent
-  still-at h = ap (λ (z : Bool). cond z Still (Turn t (cosineOf t) (mul binary64 t (cosineOf t)))) (sym h ∙ equal-zero t)
+module _ (x : Angle) where
+  pub still-at : eq (x .tangent) plusZero ≡ true → Still ≡ ofAngle x
+  unfolding ofAngle
+  still-at h = rw (sym (equal-zero (x .tangent)) ∙ h)
 
-  pub turn-at : (c : Float) → eq t plusZero ≡ false → c ≡ cosineOf t → Turn t c (mul binary64 t c) ≡ ofTangent t
-  unfolding ofTangent
-  turn-at c h e =
-      ap (λ (c : Float). Turn t c (mul binary64 t c)) e ∙ ap (λ (z : Bool). cond z Still (Turn t (cosineOf t) (mul binary64 t (cosineOf t)))) (sym h ∙ equal-zero t)
+  pub turn-at : eq (x .tangent) plusZero ≡ false → Turn (x .tangent) (x .cosine) (mul binary64 (x .tangent) (x .cosine)) ≡ ofAngle x
+  unfolding ofAngle
+  turn-at h = rw (sym (equal-zero (x .tangent)) ∙ h)
 
 still-zero : Still ≡ ofTangent plusZero
-unfolding ofTangent ofBits
+unfolding ofTangent ofAngle ofBits
 still-zero = refl
 
 module _ (a d b : Float) where
@@ -44,20 +44,25 @@ module _ (a d b : Float) where
 
 -- ---- A tile that receives the tangent of a pair has the pair's own parameters.
 pub received : (t : Float) → ofTangent (sent (ofTangent t)) ≡ ofTangent t
+unfolding ofTangent
 received t = go (isZero t) refl
   where
     go : (z : Bool) → isZero t ≡ z → ofTangent (sent (ofTangent t)) ≡ ofTangent t
-    go true h = let e = still-at t (equal-zero t ∙ h) in ap (λ (p : Parameters). ofTangent (sent p)) (sym e) ∙ sym still-zero ∙ e
-    go false h = let e = turn-at t (cosineOf t) (equal-zero t ∙ h) refl in ap (λ (p : Parameters). ofTangent (sent p)) (sym e)
+    go true h = let e = still-at (angleOf t) (equal-zero t ∙ h) in ap (λ (p : Parameters). ofTangent (sent p)) (sym e) ∙ sym still-zero ∙ e
+    go false h = let e = turn-at (angleOf t) (equal-zero t ∙ h) in ap (λ (p : Parameters). ofTangent (sent p)) (sym e)
 
 pub received-pair : (a d b : Float) → ofTangent (sent (ofPair a d b)) ≡ ofPair a d b
 unfolding ofPair
 received-pair a d b = received (tangent a d b)
 
 -- ---- A tangent that isn't a number counts as a turn with three of them.
+pub cosine-nan : cosineOf nan ≡ nan
+unfolding cosineOf rootOf sqrtOf add mul div ofBits
+cosine-nan = refl
+
 pub turn-nan : ofTangent nan ≡ Turn nan nan nan
-unfolding ofTangent cosineOf rootOf sqrtOf add mul div ofBits
-turn-nan = refl
+unfolding ofTangent ofAngle mul ofBits
+turn-nan = rw cosine-nan
 
 -- ---- If ξ isn't a number, neither is t.
 pub tangent-nan : tangentOf nan ≡ nan

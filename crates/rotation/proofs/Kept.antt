@@ -8,7 +8,7 @@ use Rattle.float64.proofs.Operands.{BothFinite, sum-operands, difference-operan
 use Rattle.root.specs.Sqrt.{sqrtOf}
 use Rattle.rotation.specs.declared.Parameters.{Parameters}
 use Rattle.rotation.specs.declared.Parameters.the-variants.{Still, Turn}
-use Rattle.rotation.specs.Rotation.{rootOf, signum, tangentOf, quotient, tangent, ofTangent, ofPair, diagonalOf, turnOf}
+use Rattle.rotation.specs.Rotation.{rootOf, signum, tangentOf, quotient, tangent, ofAngle, ofTangent, ofPair, diagonalOf, turnOf}
 use Rattle.rotation.proofs.Cases.{tangent-nan}
 
 -- ---- a turn of two values
@@ -24,7 +24,7 @@ isStill Still = true
 isStill (Turn t c s) = false
 
 turns : (t : Float) → isZero t ≡ false → isStill (ofTangent t) ≡ false
-unfolding ofTangent
+unfolding ofTangent ofAngle
 turns t e = rw e
 
 -- 1 / 1, for a zero of either sign

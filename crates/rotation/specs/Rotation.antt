@@ -7,6 +7,7 @@ use Rattle.float64.specs.Values.{plusZero, one, isZero, magnitude}
 use Rattle.root.specs.Sqrt.{sqrtOf}
 use Rattle.rotation.specs.declared.Parameters.{Parameters}
 use Rattle.rotation.specs.declared.Parameters.the-variants.{Still, Turn}
+use Rattle.rotation.specs.declared.Angle.{Angle}
 use Rattle.rotation.specs.declared.Sides.{Sides}
 
 abbrev pub two : Float
@@ -37,9 +38,15 @@ quotient a d b = div binary64 (sub binary64 d a) (mul binary64 two b)
 unfoldable pub tangent : Float → Float → Float → Float
 tangent a d b = cond (isZero b) plusZero (tangentOf (quotient a d b))
 
+abbrev pub angleOf : Float → Angle
+angleOf t = record { tangent = t; cosine = cosineOf t }
+
 -- Still if t is zero, or else a turn with t, c and s.
+unfoldable pub ofAngle : Angle → Parameters
+ofAngle x = cond (isZero (x .tangent)) Still (Turn (x .tangent) (x .cosine) (mul binary64 (x .tangent) (x .cosine)))
+
 unfoldable pub ofTangent : Float → Parameters
-ofTangent t = cond (isZero t) Still (Turn t (cosineOf t) (mul binary64 t (cosineOf t)))
+ofTangent t = ofAngle (angleOf t)
 
 unfoldable pub ofPair : Float → Float → Float → Parameters
 ofPair a d b = ofTangent (tangent a d b)

@@ -1,12 +1,18 @@
 // One rotation of a pair of lines (document 01, "One rotation"; document 003, (5.1)).
 ghost use mathlib.Core.Path.{_≡_};
-ghost use Rattle.rotation.specs.Rotation.{rootOf, signum, tangentOf, cosineOf, tangent, ofTangent, ofPair, sent, diagonalOf, turnOf};
+ghost use Rattle.rotation.specs.Rotation.{rootOf, signum, tangentOf, cosineOf, angleOf, ofAngle, tangent, ofTangent, ofPair, sent, diagonalOf, turnOf};
 use root::Root;
 
 // Still, or a turn with the tangent, the cosine and the sine of its angle.
 pub enum Parameters {
     Still,
     Turn(f64, f64, f64),
+}
+
+// The tangent of an angle and its cosine.
+pub struct Angle {
+    pub tangent: f64,
+    pub cosine: f64,
 }
 
 // A value at the left line of a pair and one at the right.
@@ -42,9 +48,30 @@ pub fn of_tangent(t: f64) -> Parameters
     if t == 0.0 {
         return Parameters::Still;
     }
-    let c = cosine(t);
-    let s = t * c;
-    Parameters::Turn(t, c, s)
+    of_angle(Angle::of_tangent(t))
+}
+
+// The parameters of a pair that is turned by an angle.
+pub fn of_angle(x: Angle) -> Parameters
+    ensures { λ r. ⌜ r ≡ ofAngle x ⌝ }
+{
+    if x.tangent == 0.0 {
+        return Parameters::Still;
+    }
+    let s = x.tangent * x.cosine;
+    Parameters::Turn(x.tangent, x.cosine, s)
+}
+
+impl Angle {
+    // The angle whose tangent is t.
+    pub fn of_tangent(t: f64) -> Angle
+        ensures { λ r. ⌜ r ≡ angleOf t ⌝ }
+    {
+        Angle {
+            tangent: t,
+            cosine: cosine(t),
+        }
+    }
 }
 
 // The tangent that a diagonal tile passes on.

@@ -1,7 +1,7 @@
 // What a tile does in a tick, by its distance from the diagonal, and what a tick of the array answers (document 01, "The array").
 ghost use mathlib.Core.Path.{_≡_};
 ghost use Rattle.systolic.specs.Tiles.{distance, action, actionAt, phaseIn};
-ghost use Rattle.systolic.specs.Traffic.{readsCells};
+ghost use Rattle.systolic.specs.Traffic.{rotates, readsCells, changesCells};
 ghost use Rattle.schedule.specs.Schedule.{theAction, inStep};
 ghost use Rattle.schedule.specs.Answers.{toldProgress, progressOf, leftOf};
 use refusal::Refusal;
@@ -23,11 +23,15 @@ pub enum Progress {
     Refused(Refusal),
 }
 
-// Whether the tile in row i and column j, from 0, reads its cell lines in a tick.
-pub fn reads(steps: usize, tick: usize, i: usize, j: usize) -> bool
-    ensures { λ r. ⌜ r ≡ readsCells (actionAt steps (distance i j) tick) ⌝ }
+// Whether the cells of the tile in row i and column j, from 0, change in a tick.
+pub fn changes(steps: usize, tick: usize, i: usize, j: usize) -> bool
+    ensures { λ r. ⌜ r ≡ changesCells (actionAt steps (distance i j) tick) ⌝ }
 {
-    reads_in(action_at(steps, i, j, tick))
+    let action = action_at(steps, i, j, tick);
+    if rotates(action) {
+        return true;
+    }
+    reads(action)
 }
 
 // What the tile in row i and column j, from 0, does in a tick.
@@ -41,8 +45,22 @@ pub fn action_at(steps: usize, i: usize, j: usize, tick: usize) -> Action
     action_since(steps, tick - away)
 }
 
+// Whether the cells are turned.
+pub fn rotates(action: Action) -> bool
+    ensures { λ r. ⌜ r ≡ rotates (theAction action) ⌝ }
+{
+    match action {
+        Action::Idle => false,
+        Action::First => true,
+        Action::Rotate => true,
+        Action::Second => false,
+        Action::Third => false,
+        Action::Final => false,
+    }
+}
+
 // Whether the cell lines are read.
-fn reads_in(action: Action) -> bool
+pub fn reads(action: Action) -> bool
     ensures { λ r. ⌜ r ≡ readsCells (theAction action) ⌝ }
 {
     match action {
@@ -69,7 +87,8 @@ pub fn phase_in(action: Action) -> usize
     }
 }
 
-fn distance(i: usize, j: usize) -> usize
+// The distance from the diagonal of the tile in row i and column j.
+pub fn distance(i: usize, j: usize) -> usize
     ensures { λ r. ⌜ r ≡ distance i j ⌝ }
 {
     if i < j {

@@ -9,6 +9,6 @@ pub mod Ticks
 pub mod Printed
 pub mod Neighbourhood
 pub mod Starts
-pub mod Takes
+pub mod Turning
 pub mod Steps
 pub mod Agreement

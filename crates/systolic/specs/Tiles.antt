@@ -18,9 +18,6 @@ pub record Tile (X H W : Type 0) : Type 0 where
   pub columnLine : W
   pub mark : Bool
 
-abbrev pub withCells : {X H W : Type 0} → Block X → Tile X H W → Tile X H W
-withCells b x = record { cells = b; lines = x .lines; rowLine = x .rowLine; columnLine = x .columnLine; mark = x .mark }
-
 -- The wiring is a product of one for rows and one for columns.
 -- Which register's cells leave by the side r of processor i: at the first processor those of that side, elsewhere those of the other.
 unfoldable pub carried : ℕ → Side → Side
@@ -97,16 +94,30 @@ unfoldable pub newLines : {X : Type 0} → ℕ → ℕ → ℕ → Action → Bl
 newLines m i j a c old =
     tab (λ r s. cond (eqb (phaseIn a) (phaseOf m r s i j)) (cell (carried i r) (carried j s) c) (cell r s old))
 
--- A tile is marked, for good, once its cells are bad at the end of a tick.
-unfoldable pub newTile : {X H W : Type 0} → Operations X H W → ℕ → ℕ → ℕ → ℕ → Action → Tile X H W → Block X → H → W → Tile X H W
-newTile S m k i j a old ins h v =
+-- the first part of a tick: the cells and the parameter lines
+abbrev pub turnedTile : {X H W : Type 0} → Operations X H W → ℕ → ℕ → ℕ → Action → Tile X H W → Block X → H → W → Tile X H W
+turnedTile S k i j a old ins h v =
     record {
       cells = newCells S k i j a (old .cells) ins h v;
-      lines = newLines m i j a (newCells S k i j a (old .cells) ins h v) (old .lines);
+      lines = old .lines;
       rowLine = newParameter (S .sendsRow k i) i j a (old .cells) ins h (old .rowLine);
       columnLine = newParameter (S .sendsColumn k i) i j a (old .cells) ins v (old .columnLine);
-      mark = old .mark || S .bad (newCells S k i j a (old .cells) ins h v);
+      mark = old .mark;
     }
+
+-- The second part: the cell lines and the mark. A tile is marked, for good, once its cells are bad at the end of a tick.
+abbrev pub settledTile : {X H W : Type 0} → Operations X H W → ℕ → ℕ → ℕ → Action → Tile X H W → Tile X H W
+settledTile S m i j a x =
+    record {
+      cells = x .cells;
+      lines = newLines m i j a (x .cells) (x .lines);
+      rowLine = x .rowLine;
+      columnLine = x .columnLine;
+      mark = x .mark || S .bad (x .cells);
+    }
+
+unfoldable pub newTile : {X H W : Type 0} → Operations X H W → ℕ → ℕ → ℕ → ℕ → Action → Tile X H W → Block X → H → W → Tile X H W
+newTile S m k i j a old ins h v = settledTile S m i j a (turnedTile S k i j a old ins h v)
 
 -- Tile (i, j) after tick t of an array of m + 1 by m + 1 tiles that runs K steps: a function of the tile and what comes in, and of nothing else.
 unfoldable pub tickTile : {X H W : Type 0} → Operations X H W → ℕ → ℕ → ℕ → ℕ → ℕ → Tile X H W → Block X → H → W → Tile X H W

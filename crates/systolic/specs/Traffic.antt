@@ -1,6 +1,6 @@
 -- What crosses the wires in a tick, as tests, so that it can be counted. Definitions only.
 use Prim.Native.Nat.{ℕ}
-use mathlib.Core.Bool.{Bool, true, false, not, _&&_}
+use mathlib.Core.Bool.{Bool, true, false, not, _&&_, _||_}
 use lib.Dec.{eqb}
 use Rattle.systolic.specs.Slots.{Side}
 use Rattle.systolic.specs.Tiles.{distance, Action, idle, first, rotate, second, third, final, actionAt, phaseIn, phaseOf}
@@ -29,3 +29,7 @@ readsCells rotate = true
 readsCells second = false
 readsCells third = false
 readsCells final = true
+
+-- A tile's cells change: it rotates, or takes in what its lines bring.
+abbrev pub changesCells : Action → Bool
+changesCells a = rotates a || readsCells a

@@ -1,18 +1,17 @@
 -- What the lines bring to a tile, by the tests of the code. Assumes nothing.
 use Prim.Native.Nat.{ℕ, zero, suc}
-use mathlib.Core.Path.{_≡_, refl, ap, _∙_}
+use mathlib.Core.Path.{_≡_, refl}
 use mathlib.Core.Bool.{Bool, true, false, cond}
 use native.Mathlib.Omega.{arith}
 use borrow.Author.Tests.{lt-ltb}
 use lib.Dec.{eqb, ltb}
 use Rattle.systolic.specs.Slots.{Side, left, right, slot}
 use Rattle.systolic.specs.Blocks.{cell}
-use Rattle.systolic.specs.Tiles.{withCells, joined}
+use Rattle.systolic.specs.Tiles.{joined}
 use Rattle.lines.specs.declared.Part.{Part}
 use Rattle.lines.specs.Lines.{cornerOf, incomingQuad, incomingPart}
 use Rattle.plain.specs.Cells.{Cell}
-use Rattle.tile.specs.declared.Tile.{Tile}
-use Rattle.tile.specs.Tiles.{blockOf, theTile, broughtTo}
+use Rattle.tile.specs.Tiles.{blockOf, broughtTo}
 
 abbrev pub sideBy : Bool → Side
 sideBy b = cond b right left
@@ -51,9 +50,3 @@ brought a b c d m i j =
         → record { entry = p .matrix .gamma; vector = p .vectors .gamma } ≡ z → record { entry = p .matrix .delta; vector = p .vectors .delta } ≡ w
         → blockOf p ≡ record { α = x; β = y; γ = z; δ = w }
     whole e f g h = unfold blockOf in (rw (e, f, g, h))
-
-pub taking-brought : (x : Tile) (a b c d : Part) (m i j : ℕ) {p : Part} → p ≡ incomingPart a b c d m i j
-    → theTile (record { cells = p; lines = x .lines; row = x .row; column = x .column; mark = x .mark })
-    ≡ withCells (broughtTo m i j (blockOf a) (blockOf b) (blockOf c) (blockOf d)) (theTile x)
-unfolding theTile
-taking-brought x a b c d m i j e = rw (ap blockOf e ∙ brought a b c d m i j)

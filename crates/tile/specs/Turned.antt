@@ -4,11 +4,14 @@ use mathlib.Core.Bool.{Bool, not, cond, _||_}
 use lib.Dec.{eqb, ltb}
 use lib.Ieee.{Float}
 use Rattle.float64.specs.Values.{plusZero, finite}
-use Rattle.systolic.specs.Tiles.{Action, idle, first, rotate, second, third, final}
+use Rattle.systolic.specs.Tiles.{Action}
+use Rattle.systolic.specs.Traffic.{rotates, readsCells}
 use Rattle.lines.specs.declared.Quad.{Quad}
 use Rattle.lines.specs.declared.Part.{Part}
+use Rattle.rotation.specs.declared.Angle.{Angle}
 use Rattle.rotation.specs.declared.Parameters.{Parameters}
-use Rattle.rotation.specs.Rotation.{ofPair, ofTangent, sent, diagonalOf, turnOf}
+use Rattle.rotation.specs.Rotation.{ofAngle, ofPair, sent, diagonalOf, turnOf}
+use Rattle.tile.specs.declared.Tile.{Tile}
 use Rattle.tile.specs.declared.cells.Work.{Work}
 
 unfoldable pub rowsTurned : Parameters → Quad → Quad
@@ -32,9 +35,9 @@ columnsTurned P q =
 unfoldable pub bothTurned : Parameters → Parameters → Bool → Quad → Quad
 bothTurned R C above q = cond above (columnsTurned C (rowsTurned R q)) (rowsTurned R (columnsTurned C q))
 
-unfoldable pub offDiagonalOf : Part → Bool → Float → Float → Part
+unfoldable pub offDiagonalOf : Part → Bool → Angle → Angle → Part
 offDiagonalOf p above row column =
-    record { matrix = bothTurned (ofTangent row) (ofTangent column) above (p .matrix); vectors = columnsTurned (ofTangent column) (p .vectors) }
+    record { matrix = bothTurned (ofAngle row) (ofAngle column) above (p .matrix); vectors = columnsTurned (ofAngle column) (p .vectors) }
 
 -- The parameters of the part on the diagonal.
 abbrev pub quadParameters : Quad → Parameters
@@ -56,18 +59,23 @@ onDiagonalOf p =
       column = sent (quadParameters (p .matrix));
     }
 
-unfoldable pub rotatedOf : Part → ℕ → ℕ → Float → Float → Work
+unfoldable pub rotatedOf : Part → ℕ → ℕ → Angle → Angle → Work
 rotatedOf p i j row column =
-    cond (eqb i j) (onDiagonalOf p) (record { cells = offDiagonalOf p (ltb i j) row column; row = row; column = column })
+    cond (eqb i j) (onDiagonalOf p) (record { cells = offDiagonalOf p (ltb i j) row column; row = row .tangent; column = column .tangent })
 
--- p are the cells of the tile, or what its lines bring where it reads them.
-abbrev pub workedOf : Action → Part → ℕ → ℕ → Float → Float → Float → Float → Work
-workedOf idle p i j row column r c = record { cells = p; row = r; column = c }
-workedOf first p i j row column r c = rotatedOf p i j row column
-workedOf rotate p i j row column r c = rotatedOf p i j row column
-workedOf second p i j row column r c = record { cells = p; row = r; column = c }
-workedOf third p i j row column r c = record { cells = p; row = r; column = c }
-workedOf final p i j row column r c = record { cells = p; row = r; column = c }
+-- The cells that a tile works on: its own, p, or where it reads its lines what they bring, q.
+abbrev pub takenOf : Action → Part → Part → Part
+takenOf a p q = cond (readsCells a) q p
+
+abbrev pub workedOf : Action → Part → ℕ → ℕ → Angle → Angle → Float → Float → Work
+workedOf a p i j row column r c = cond (rotates a) (rotatedOf p i j row column) (record { cells = p; row = r; column = c })
+
+-- The tile with its cells and its parameter lines as they are after the tick.
+abbrev pub tileWith : Tile → Work → Tile
+tileWith x w = record { cells = w .cells; lines = x .lines; row = w .row; column = w .column; mark = x .mark }
+
+unfoldable pub turnedOf : Action → Tile → Part → ℕ → ℕ → Angle → Angle → Tile
+turnedOf a x q i j row column = tileWith x (workedOf a (takenOf a (x .cells) q) i j row column (x .row) (x .column))
 
 unfoldable pub quadNotFinite : Quad → Bool
 quadNotFinite q = not (finite (q .alpha)) || (not (finite (q .beta)) || (not (finite (q .gamma)) || not (finite (q .delta))))

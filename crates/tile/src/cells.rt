@@ -1,10 +1,11 @@
-// The cells of a tile: read, rotated, tested.
+// The cells of a tile: taken in, rotated, tested.
 ghost use mathlib.Core.Path.{_≡_};
 ghost use mathlib.Core.Bool.{_||_};
 ghost use Rattle.schedule.specs.Schedule.{theAction};
-ghost use Rattle.tile.specs.Turned.{rowsTurned, columnsTurned, bothTurned, offDiagonalOf, onDiagonalOf, rotatedOf, workedOf, someNotFinite, quadNotFinite};
+ghost use Rattle.tile.specs.Turned.{rowsTurned, columnsTurned, bothTurned, offDiagonalOf, onDiagonalOf, rotatedOf, takenOf, workedOf, someNotFinite, quadNotFinite};
 use lines::Part;
 use lines::Quad;
+use rotation::Angle;
 use rotation::Parameters;
 use schedule::Action;
 
@@ -15,46 +16,40 @@ pub struct Work {
     pub column: f64,
 }
 
+// The cells that a tile works on: its own, or where it reads its lines what they bring.
+pub fn taken(action: Action, cells: Part, brought: Part) -> Part
+    ensures { λ r. ⌜ r ≡ takenOf (theAction action) cells brought ⌝ }
+{
+    if schedule::reads(action) {
+        return brought;
+    }
+    cells
+}
+
 pub fn worked(
     action: Action,
     cells: Part,
     i: usize,
     j: usize,
-    row: f64,
-    column: f64,
+    row: Angle,
+    column: Angle,
     old_row: f64,
     old_column: f64,
 ) -> Work
     ensures { λ r. ⌜ r ≡ workedOf (theAction action) cells i j row column «old_row» «old_column» ⌝ }
 {
-    match action {
-        Action::Idle => Work {
-            cells: cells,
-            row: old_row,
-            column: old_column,
-        },
-        Action::First => rotated(cells, i, j, row, column),
-        Action::Rotate => rotated(cells, i, j, row, column),
-        Action::Second => Work {
-            cells: cells,
-            row: old_row,
-            column: old_column,
-        },
-        Action::Third => Work {
-            cells: cells,
-            row: old_row,
-            column: old_column,
-        },
-        Action::Final => Work {
-            cells: cells,
-            row: old_row,
-            column: old_column,
-        },
+    if schedule::rotates(action) {
+        return rotated(cells, i, j, row, column);
+    }
+    Work {
+        cells: cells,
+        row: old_row,
+        column: old_column,
     }
 }
 
 // A tile off the diagonal passes on the tangents that it receives.
-pub fn rotated(part: Part, i: usize, j: usize, row: f64, column: f64) -> Work
+pub fn rotated(part: Part, i: usize, j: usize, row: Angle, column: Angle) -> Work
     ensures { λ r. ⌜ r ≡ rotatedOf part i j row column ⌝ }
 {
     if i == j {
@@ -63,8 +58,8 @@ pub fn rotated(part: Part, i: usize, j: usize, row: f64, column: f64) -> Work
     let cells = off_diagonal(part, i < j, row, column);
     Work {
         cells: cells,
-        row: row,
-        column: column,
+        row: row.tangent,
+        column: column.tangent,
     }
 }
 
@@ -96,13 +91,13 @@ pub fn on_diagonal(part: Part) -> Work
 }
 
 // The eigenvectors get the column turn alone.
-pub fn off_diagonal(part: Part, above: bool, row: f64, column: f64) -> Part
+pub fn off_diagonal(part: Part, above: bool, row: Angle, column: Angle) -> Part
     ensures { λ r. ⌜ r ≡ offDiagonalOf part above row column ⌝ }
 {
     let a = part.matrix;
     let e = part.vectors;
-    let rows = rotation::of_tangent(row);
-    let columns = rotation::of_tangent(column);
+    let rows = rotation::of_angle(row);
+    let columns = rotation::of_angle(column);
     let matrix = turn_both(rows, columns, above, a);
     let vectors = turn_columns(columns, e);
     Part {

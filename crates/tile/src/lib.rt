@@ -1,8 +1,11 @@
 // One tile of the array in one tick (document 01, "The array").
 ghost use mathlib.Core.Path.{_≡_};
-ghost use Rattle.systolic.specs.Tiles.{withCells, tickTile};
-ghost use Rattle.tile.specs.Tiles.{blockOf, theTile, operations, broughtTo};
+ghost use Rattle.systolic.specs.Tiles.{distance, actionAt, settledTile};
+ghost use Rattle.lines.specs.Lines.{incomingPart};
+ghost use Rattle.tile.specs.Tiles.{theTile, operations};
+ghost use Rattle.tile.specs.Turned.{turnedOf};
 use lines::Part;
+use rotation::Angle;
 
 mod cells;
 
@@ -17,61 +20,70 @@ pub struct Tile {
 }
 
 impl Tile {
-    // The tile in row i and column j, from 0, with the cells that its lines bring from the tiles that its corners are joined with.
-    pub fn taking(
+    // The tile in row i and column j, from 0, with its cells and its parameter lines as they are after a tick of a run of so many steps. Its
+    // cell lines bring the cells `brought`, its parameter lines the tangents of `row` and `column`.
+    pub fn turned(
         self,
-        alpha: Tile,
-        beta: Tile,
-        gamma: Tile,
-        delta: Tile,
-        last: usize,
-        i: usize,
-        j: usize,
-    ) -> Tile
-        ensures { λ r. ⌜ theTile r ≡ withCells (broughtTo last i j (blockOf (alpha .lines)) (blockOf (beta .lines)) (blockOf (gamma .lines)) (blockOf (delta .lines))) (theTile self) ⌝ }
-    {
-        let by_alpha = alpha.lines;
-        let by_beta = beta.lines;
-        let by_gamma = gamma.lines;
-        let by_delta = delta.lines;
-        let lines = self.lines;
-        Tile {
-            cells: lines::incoming(by_alpha, by_beta, by_gamma, by_delta, last, i, j),
-            lines: lines,
-            row: self.row,
-            column: self.column,
-            mark: self.mark,
-        }
-    }
-
-    // The tile in row i and column j, from 0, after a tick of a run of so many steps; `last` is the last row and column. A tile that reads its
-    // cell lines in this tick already holds what they bring. Its parameter lines bring the tangents `row` and `column`.
-    pub fn after(
-        self,
-        row: f64,
-        column: f64,
-        last: usize,
+        brought: Part,
+        row: Angle,
+        column: Angle,
         steps: usize,
         tick: usize,
         i: usize,
         j: usize,
     ) -> Tile
-        ensures { λ r. ⌜ theTile r ≡ tickTile operations last steps tick i j (theTile self) (blockOf (self .cells)) row column ⌝ }
+        ensures { λ r. ⌜ r ≡ turnedOf (actionAt steps (distance i j) tick) self brought i j row column ⌝ }
     {
         let action = schedule::action_at(steps, i, j, tick);
-        let cells = self.cells;
+        let own = self.cells;
         let lines = self.lines;
+        let cells = cells::taken(action, own, brought);
         let work = cells::worked(action, cells, i, j, row, column, self.row, self.column);
         let new = work.cells;
-        let phase = schedule::phase_in(action);
-        let out = lines::after(phase, last, i, j, new, lines);
-        let mark = cells::is_marked(self.mark, new);
         Tile {
             cells: new,
-            lines: out,
+            lines: lines,
             row: work.row,
             column: work.column,
+            mark: self.mark,
+        }
+    }
+
+    // A turned tile with its cell lines and its mark as they are after the tick; `last` is the last row and column.
+    pub fn after(self, last: usize, steps: usize, tick: usize, i: usize, j: usize) -> Tile
+        ensures { λ r. ⌜ theTile r ≡ settledTile operations last i j (actionAt steps (distance i j) tick) (theTile self) ⌝ }
+    {
+        let phase = schedule::phase_in(schedule::action_at(steps, i, j, tick));
+        let cells = self.cells;
+        let lines = self.lines;
+        let out = lines::after(phase, last, i, j, cells, lines);
+        let mark = cells::is_marked(self.mark, cells);
+        Tile {
+            cells: cells,
+            lines: out,
+            row: self.row,
+            column: self.column,
             mark: mark,
         }
     }
+}
+
+// The cells that the lines bring to the tile in row i and column j, from 0, from the tiles that its corners are joined with; `last` is the
+// last row and column.
+pub fn brought(
+    alpha: Tile,
+    beta: Tile,
+    gamma: Tile,
+    delta: Tile,
+    last: usize,
+    i: usize,
+    j: usize,
+) -> Part
+    ensures { λ r. ⌜ r ≡ incomingPart (alpha .lines) (beta .lines) (gamma .lines) (delta .lines) last i j ⌝ }
+{
+    let by_alpha = alpha.lines;
+    let by_beta = beta.lines;
+    let by_gamma = gamma.lines;
+    let by_delta = delta.lines;
+    lines::incoming(by_alpha, by_beta, by_gamma, by_delta, last, i, j)
 }

@@ -1,13 +1,12 @@
-use Rattle.tile.proofs.Ticking.{tile-ticked}
+use mathlib.Core.Path.{ap, _∙_}
+use Rattle.systolic.specs.Tiles.{phaseIn}
+use Rattle.tile.proofs.Ticking.{tile-settled}
 use borrow.Author.Needs.{needs}
 use Rattle.tile.proofs.Tile.after.Statement.{statement}
 use Rattle.tile.proofs.Tile.after.Tie as tie
 
 action-at-requires : tie.Need-action-at-requires
 action-at-requires c κs = search needs
-
-worked-requires : tie.Need-worked-requires
-worked-requires c κs = search needs
 
 phase-in-requires : tie.Need-phase-in-requires
 phase-in-requires c κs = search needs
@@ -20,16 +19,10 @@ is-marked-requires c κs = search needs
 
 returns : tie.Need-returns
 returns c =
-    let w = c .before .before .before .before in
-    tile-ticked (w .before .before .before .before .args .self) _ _ _ _ _ _ _ (w .before .before .before .action-at .ensures) (w .worked .ensures) (c .before .before .phase-in .ensures) (c .before .after .ensures) (c .is-marked .ensures)
+    let p = c .before .before .before .before in
+    tile-settled (p .before .before .args .self) _ _ _ _ (p .phase-in .ensures ∙ ap phaseIn (p .before .action-at .ensures)) (c .before .after .ensures) (c .is-marked .ensures)
 
 pub after-spec : {M : Type 1} → statement M
 after-spec =
     tie.close
-    (tie.spec
-    action-at-requires
-    worked-requires
-    phase-in-requires
-    after-requires
-    is-marked-requires
-    returns)
+    (tie.spec action-at-requires phase-in-requires after-requires is-marked-requires returns)

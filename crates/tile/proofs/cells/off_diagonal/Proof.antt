@@ -3,11 +3,11 @@ use borrow.Author.Needs.{needs}
 use Rattle.tile.proofs.cells.off_diagonal.Statement.{statement}
 use Rattle.tile.proofs.cells.off_diagonal.Tie as tie
 
-of-tangent-requires : tie.Need-of-tangent-requires
-of-tangent-requires c κs = search needs
+of-angle-requires : tie.Need-of-angle-requires
+of-angle-requires c κs = search needs
 
-of-tangent-requires-2 : tie.Need-of-tangent-requires-2
-of-tangent-requires-2 c κs = search needs
+of-angle-requires-2 : tie.Need-of-angle-requires-2
+of-angle-requires-2 c κs = search needs
 
 turn-both-requires : tie.Need-turn-both-requires
 turn-both-requires c κs = search needs
@@ -17,14 +17,14 @@ turn-columns-requires c κs = search needs
 
 returns : tie.Need-returns
 unfolding offDiagonalOf
-returns c = rw (← (c .before .before .before .of-tangent .ensures), ← (c .before .before .of-tangent2 .ensures), ← (c .before .turn-both .ensures), ← (c .turn-columns .ensures))
+returns c = rw (← (c .before .before .before .of-angle .ensures), ← (c .before .before .of-angle2 .ensures), ← (c .before .turn-both .ensures), ← (c .turn-columns .ensures))
 
 pub off-diagonal-spec : {M : Type 1} → statement M
 off-diagonal-spec =
     tie.close
     (tie.spec
-    of-tangent-requires
-    of-tangent-requires-2
+    of-angle-requires
+    of-angle-requires-2
     turn-both-requires
     turn-columns-requires
     returns)

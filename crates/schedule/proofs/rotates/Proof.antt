@@ -1,6 +1,6 @@
 use borrow.Author.Needs.{needs}
-use Rattle.schedule.proofs.reads_in.Statement.{statement}
-use Rattle.schedule.proofs.reads_in.Tie as tie
+use Rattle.schedule.proofs.rotates.Statement.{statement}
+use Rattle.schedule.proofs.rotates.Tie as tie
 
 enum-told : tie.Need-enum-told
 enum-told c = search needs
@@ -38,8 +38,8 @@ returns-5 c = rw (c .enum-told5 .given .1)
 returns-6 : tie.Need-returns-6
 returns-6 c = rw (c .enum-told6 .given .1)
 
-pub reads-in-spec : {M : Type 1} → statement M
-reads-in-spec =
+pub rotates-spec : {M : Type 1} → statement M
+rotates-spec =
     tie.close
     (tie.spec
     enum-told
