@@ -2,7 +2,7 @@
  * Weimrukas: eigenvalues and eigenvectors of symmetric matrices of coded barley lines by the Jacobi method in the ordering of
  * Brent and Luk, as plain sweeps or by a systolic array of tiles. Both give the same bits.
  *
- * Link libweimrukas.a for x86-64, which `rt staticlib capi` proves and writes as target/staticlib/libcapi.a.
+ * `rt staticlib capi` proves the library and writes it for x86-64: link target/staticlib/libcapi.a.
  *
  * Answers. Where nothing else is said a function answers 0, or the number of a refusal in document 01's table:
  *
