@@ -1,5 +1,5 @@
 -- What the C functions answer and leave, by the definitions of the calls. Definitions only.
-use Prim.Native.Nat.{ℕ, _+_, _*_, _/_, _%_}
+use Prim.Native.Nat.{ℕ, _*_, _/_, _%_}
 use mathlib.Core.Bool.{Bool, not, cond, _||_, _&&_}
 use mathlib.Core.List.{List, _++_}
 use lib.Dec.{ltb, eqb}
@@ -10,7 +10,6 @@ use Rattle.refusal.specs.declared.Refusal.the-variants.{Order, Length, TooShort
 use Rattle.lists.specs.Tabulate.{tabulate}
 use Rattle.rotation.specs.declared.Parameters.{Parameters}
 use Rattle.rotation.specs.declared.Parameters.the-variants.{Still, Turn}
-use Rattle.ordering.specs.declared.Registers.{Registers}
 use Rattle.ordering.specs.Pairs.{noOrder, orNone, registersAt}
 use Rattle.plain.specs.Run.{Outcome, beforeRun}
 use Rattle.records.specs.declared.Record.{Record}

@@ -1,5 +1,5 @@
 -- What the reader, the run and the printer give together. Assumes nothing.
-use Prim.Native.Nat.{ℕ, _+_, _*_, _<_, _≤_}
+use Prim.Native.Nat.{ℕ, _*_, _<_, _≤_}
 use mathlib.Core.Path.{_≡_, refl, sym, ap, _∙_}
 use mathlib.Core.Bool.{Bool, true, false, cond, true≢false}
 use mathlib.Core.List.{List, []}
@@ -25,7 +25,7 @@ use Rattle.reader.specs.Reader.{readTold, ReadOutcome, readOutcome, toldReading
 use Rattle.reader.specs.Reader as reader
 use Rattle.reader.proofs.Tables.{readable}
 use Rattle.printed.specs.Printed.{Printing, printing, printOf, refusedLine, refusalOf, roomFor}
-use Rattle.lister.specs.Listing.{Listed, listed, byRun, roomThenRun, contentListed, byReading, listOf}
+use Rattle.lister.specs.Listing.{Listed, listed, byRun, roomThenRun, contentListed, listOf}
 
 -- ---- the order
 module _ (b : List ℕ) where
