@@ -1,13 +1,15 @@
-// Links the libraries that `rt staticlib` writes.
+// Links the library that `rt staticlib capi` writes.
 use std::path::Path;
 
 fn main() {
     let root = std::env::var("CARGO_MANIFEST_DIR").expect("set by cargo");
     let folder = Path::new(&root).join("../target/staticlib");
-    println!("cargo:rustc-link-search=native={}", folder.display());
-    for name in ["root_bench", "run_bench"] {
-        let file = folder.join(format!("lib{name}.a"));
-        println!("cargo:rustc-link-lib=static={name}");
-        println!("cargo:rerun-if-changed={}", file.display());
+    let file = folder.join("libcapi.a");
+    println!("cargo:rerun-if-changed={}", file.display());
+    if !file.exists() {
+        eprintln!("target/staticlib/libcapi.a is not there: run `rt staticlib capi` in the root of the repository");
+        std::process::exit(1);
     }
+    println!("cargo:rustc-link-search=native={}", folder.display());
+    println!("cargo:rustc-link-lib=static=capi");
 }

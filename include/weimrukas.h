@@ -18,7 +18,7 @@
  * Memory. A slice is a pointer and the number of its values, not of its bytes. What a function may write does not overlap anything else
  * that it is lent. A null pointer, also for a slice of no values, a length that is not that of the memory, and an overlap are the
  * caller's fault; any other argument, whatever its value, is answered. Nothing is allocated or kept, and no function calls any but
- * memcpy, memmove and memset; threads may call them at the same time. 128 KiB of stack are enough.
+ * memcpy, memmove and memset; threads may call them at the same time. 256 KiB of stack are enough.
  *
  * A function that refuses leaves everything lent as it was, unless its own comment says otherwise.
  *
@@ -87,7 +87,7 @@ uint8_t weimrukas_write_sheet(size_t n, size_t sweeps, const uint8_t *codes, siz
 
 /*
  * Reads a sheet, runs the array and puts the printed sheet into text, as ASCII without a final zero; *length becomes the number of its bytes.
- * The rest of text stays. The sheet's own refusal, for a sheet that is to be read; 7 for a text shorter than WEIMRUKAS_TEXT_LENGTH(n); 8.
+ * The rest of text stays. 3 for fewer than 2 bytes, 1, 2, 3, 4, 5, all of the sheet; 7 for a text shorter than WEIMRUKAS_TEXT_LENGTH(n); 8.
  * A refusal other than 7 puts its line, `refused` and the number, into a text of at least 13 bytes. Where nothing is put, *length is 0.
  */
 uint8_t weimrukas_list(const uint8_t *sheet, size_t sheet_length, uint8_t *text, size_t text_length, size_t *length, size_t *row, size_t *column);
@@ -96,7 +96,8 @@ uint8_t weimrukas_list(const uint8_t *sheet, size_t sheet_length, uint8_t *text,
  * The array by hand. Its record is WEIMRUKAS_ARRAY_WORDS words: n, sweeps and the number of the next tick, and then 16 rows of 16 tiles, each
  * of WEIMRUKAS_TILE_WORDS: the cells of the matrix (alpha, beta, gamma, delta: row by row) and of the eigenvectors, the matrix lines and the
  * vector lines by the same corners, the tangents that it sends along its row and its column, all as bits of doubles, and 1 where it is marked,
- * otherwise 0. A record that a caller wrote may hold any words: each pattern of no number counts as 7FF8000000000000, each mark but 0 as 1.
+ * otherwise 0. A record that a caller wrote may hold any words: each pattern of no number counts as 7FF8000000000000, each mark but 0 as 1, and
+ * a tick that is made writes all words anew in that form.
  */
 #define WEIMRUKAS_TILE_WORDS 19
 #define WEIMRUKAS_ARRAY_WORDS (3 + 256 * WEIMRUKAS_TILE_WORDS)
