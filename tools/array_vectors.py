@@ -1,5 +1,5 @@
 #!/usr/bin/env python3
-"""Writes crates/run_vectors/stdin and crates/run_vectors/stdout: whole runs of the array, runs by hand, single
+"""Writes crates/test_runs/stdin and crates/test_runs/stdout: whole runs of the array, runs by hand, single
 ticks of wild records and runs by plain sweeps, and what comes of them by document 01, "The array". Run it as
 
     python3 tools/array_vectors.py
@@ -609,7 +609,7 @@ def main():
     check_runs(rng, 3)
     check_all_rotations(rng)
     made = all_lines(rng)
-    crate = pathlib.Path(__file__).resolve().parent.parent / "crates" / "run_vectors"
+    crate = pathlib.Path(__file__).resolve().parent.parent / "crates" / "test_runs"
     for name, side in [("stdin", 0), ("stdout", 1)]:
         text = "".join(line for lines in made for line in lines[side])
         (crate / name).write_text(text, encoding="ascii")

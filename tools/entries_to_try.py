@@ -1,5 +1,5 @@
 #!/usr/bin/env python3
-"""Writes crates/entries_to_try/stdout: what the calls of document 01, "Entries to try", answer and leave, by the models of
+"""Writes crates/test_entries/stdout: what the calls of document 01, "Entries to try", answer and leave, by the models of
 the other files here. What document 01 itself says of an entry is asserted.
 """
 import pathlib
@@ -120,7 +120,7 @@ def all_lines():
 def main():
     unchanged = plain.outcome_of(plain.case_of(*RUNS[0][:3]))
     assert unchanged.result == RUNS[0][2] and unchanged.vectors == [plain.ONE, plain.ZERO, plain.ZERO, plain.ONE]
-    folder = pathlib.Path(__file__).resolve().parent.parent / "crates" / "entries_to_try"
+    folder = pathlib.Path(__file__).resolve().parent.parent / "crates" / "test_entries"
     (folder / "stdout").write_text("".join(f"{line}\n" for line in all_lines()))
 
 

@@ -1,5 +1,5 @@
 #!/usr/bin/env python3
-"""Writes crates/ordering_vectors/stdin and crates/ordering_vectors/stdout: orders and steps, and what
+"""Writes crates/test_ordering/stdin and crates/test_ordering/stdout: orders and steps, and what
 the list of pairs is by document 01, "Pairs and their movement".
 
 The registers are moved one by one, until they stand as at first. The lists of later steps repeat
@@ -125,7 +125,7 @@ def main():
     for n, step in cases():
         lines += [f"{n:016X}\n", f"{step:016X}\n"]
         answers += answer_of(n, step)
-    crate = pathlib.Path(__file__).resolve().parent.parent / "crates" / "ordering_vectors"
+    crate = pathlib.Path(__file__).resolve().parent.parent / "crates" / "test_ordering"
     (crate / "stdin").write_text("".join(lines), encoding="ascii")
     (crate / "stdout").write_text("".join(answers), encoding="ascii")
     print(f"{len(lines) // 2} lists")

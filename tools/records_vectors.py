@@ -1,5 +1,5 @@
 #!/usr/bin/env python3
-"""Writes crates/records_vectors/stdin and crates/records_vectors/stdout: orders, matrices and steps, and the records of
+"""Writes crates/test_records/stdin and crates/test_records/stdout: orders, matrices and steps, and the records of
 the step by document 01, "One rotation", last paragraph, and "Refused, by place".
 
 Matrices of all kinds and the parameters of a pair come from plain_vectors.py. The pair of a processor is found
@@ -92,7 +92,7 @@ def cases(rng):
 
 
 def main():
-    folder = pathlib.Path(__file__).resolve().parent.parent / "crates" / "records_vectors"
+    folder = pathlib.Path(__file__).resolve().parent.parent / "crates" / "test_records"
     rng = random.Random(8)
     given, answers, count = [], [], 0
     for n, matrix, step, room in cases(rng):

@@ -1,5 +1,5 @@
 #!/usr/bin/env python3
-"""Writes crates/root_vectors/stdin and crates/root_vectors/stdout: bit patterns of f64 values, and
+"""Writes crates/test_root/stdin and crates/test_root/stdout: bit patterns of f64 values, and
 what the square root of each is by document 01, "Square root".
 
 The roots are worked out here with whole numbers alone. math.sqrt is only held against them.
@@ -196,7 +196,7 @@ def main():
         check(pattern, root)
         lines.append(f"{pattern:016X}\n")
         answers.append("refused 9\n" if root is None else f"{root:016X}\n")
-    crate = pathlib.Path(__file__).resolve().parent.parent / "crates" / "root_vectors"
+    crate = pathlib.Path(__file__).resolve().parent.parent / "crates" / "test_root"
     (crate / "stdin").write_text("".join(lines), encoding="ascii")
     (crate / "stdout").write_text("".join(answers), encoding="ascii")
     print(f"{len(lines)} patterns")

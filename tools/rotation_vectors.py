@@ -1,5 +1,5 @@
 #!/usr/bin/env python3
-"""Writes crates/rotation_vectors/stdin and crates/rotation_vectors/stdout: bit patterns of f64
+"""Writes crates/test_rotation/stdin and crates/test_rotation/stdout: bit patterns of f64
 values a = a_pp, d = a_qq and b = a_pq of pairs, and what the parameters of each pair are by
 document 01, "One rotation".
 
@@ -318,7 +318,7 @@ def main():
         check(pair, answer)
         lines += [f"{pattern:016X}\n" for pattern in pair]
         answers += [still] if answer == STILL else [f"{pattern:016X}\n" for pattern in answer]
-    crate = pathlib.Path(__file__).resolve().parent.parent / "crates" / "rotation_vectors"
+    crate = pathlib.Path(__file__).resolve().parent.parent / "crates" / "test_rotation"
     (crate / "stdin").write_text("".join(lines), encoding="ascii")
     (crate / "stdout").write_text("".join(answers), encoding="ascii")
     print(f"{len(lines) // 3} pairs, {answers.count(still)} of them still")

@@ -1,5 +1,5 @@
 #!/usr/bin/env python3
-"""Writes crates/sheet_vectors/stdin and crates/sheet_vectors/stdout: sheets to be read and matrices to be
+"""Writes crates/test_sheets/stdin and crates/test_sheets/stdout: sheets to be read and matrices to be
 written as sheets, and what comes of them by document 01, "A sheet" and "Refused, by place". Run it as
 
     python3 tools/sheet_vectors.py
@@ -668,7 +668,7 @@ def all_lines(rng):
 def main():
     check_examples()
     made = all_lines(random.Random(1981))
-    crate = pathlib.Path(__file__).resolve().parent.parent / "crates" / "sheet_vectors"
+    crate = pathlib.Path(__file__).resolve().parent.parent / "crates" / "test_sheets"
     crate.mkdir(exist_ok=True)
     for name, side in [("stdin", 0), ("stdout", 1)]:
         text = "".join(line for lines in made for line in lines[side])

@@ -1,5 +1,5 @@
 #!/usr/bin/env python3
-"""Writes crates/systolic_model/proofs/Computed.antt: whole states of the array, the registers and the plain run under the rules of
+"""Writes crates/test_systolic/proofs/Computed.antt: whole states of the array, the registers and the plain run under the rules of
 specs/Toy.antt, worked out here and computed there by the definitions of the crate systolic.
 
 The model follows the documents and not those definitions: document 01, "Pairs and their movement", "Plain run" and "The array"; document
@@ -597,7 +597,7 @@ BLOCK_STEPS = {1: 3, 2: 3, 3: 2, 4: 2}
 def imports(names):
     """Lines of six names each."""
     groups = [names[k : k + 6] for k in range(0, len(names), 6)]
-    return ["use Rattle.systolic_model.specs.Readings.{" + ", ".join(group) + "}" for group in groups]
+    return ["use Rattle.test_systolic.specs.Readings.{" + ", ".join(group) + "}" for group in groups]
 
 
 def main():
@@ -616,7 +616,7 @@ def main():
         *imports(["upTo", *theorems.readings]),
     ]
     root = pathlib.Path(__file__).resolve().parent.parent
-    path = root / "crates" / "systolic_model" / "proofs" / "Computed.antt"
+    path = root / "crates" / "test_systolic" / "proofs" / "Computed.antt"
     path.write_text("\n".join([*head, *theorems.text]) + "\n", encoding="utf-8")
 
 

@@ -3,9 +3,9 @@ use mathlib.Core.Path.{_≡_, refl, _∙_}
 use native.Mathlib.Omega.{arith}
 use Rattle.refusal.specs.Refusal.{given, told}
 use Rattle.refusal.specs.declared.Refusal.{Refusal}
-use Rattle.schedule.specs.declared.Progress.the-variants.{Made, Stopped, Refused}
-use Rattle.schedule.specs.Answers.{made, stopped, progressOf}
-use Rattle.schedule.proofs.Answers.{made-means}
+use Rattle.tile_schedule.specs.declared.Progress.the-variants.{Made, Stopped, Refused}
+use Rattle.tile_schedule.specs.Answers.{made, stopped, progressOf}
+use Rattle.tile_schedule.proofs.Answers.{made-means}
 use Rattle.array.specs.declared.Array.{Array}
 use Rattle.array.specs.Arrays.{Ticks}
 use Rattle.array.specs.Runs.{nextArray, ticked, GoesOn}

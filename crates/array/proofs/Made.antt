@@ -20,11 +20,11 @@ use Rattle.systolic.specs.Arrays.{nearer, incoming, tick}
 use Rattle.systolic.proofs.Wires.{nearer-ok}
 use Rattle.systolic.proofs.Turning.{tile-kept, parameter-kept, row-ahead, column-ahead}
 use Rattle.ordering.specs.Registers.{most}
-use Rattle.lines.specs.declared.Part.{Part}
-use Rattle.lines.specs.Lines.{incomingPart}
+use Rattle.tile_wires.specs.declared.Part.{Part}
+use Rattle.tile_wires.specs.Lines.{incomingPart}
 use Rattle.rotation.specs.declared.Angle.{Angle}
 use Rattle.rotation.specs.Rotation.{angleOf}
-use Rattle.plain.specs.Cells.{Cell}
+use Rattle.plain_run.specs.Cells.{Cell}
 use Rattle.tile.specs.declared.Tile.{Tile}
 use Rattle.tile.specs.Tiles.{blockOf, theTile, operations, broughtTo}
 use Rattle.tile.specs.Turned.{turnedOf}

@@ -7,9 +7,9 @@ use lib.Ieee.{Float}
 use Rattle.refusal.specs.Refusal.{Told, given, refused, told}
 use Rattle.refusal.specs.declared.Refusal.{Refusal}
 use Rattle.refusal.specs.declared.Answer.the-variants as answer
-use Rattle.plain.specs.Run.{stepsOf}
-use Rattle.schedule.proofs.Answers.{is-made}
-use Rattle.schedule.specs.Answers.{Tick, made, stopped, progressOf}
+use Rattle.plain_run.specs.Run.{stepsOf}
+use Rattle.tile_schedule.proofs.Answers.{is-made}
+use Rattle.tile_schedule.specs.Answers.{Tick, made, stopped, progressOf}
 use Rattle.tile.specs.declared.Tile.{Tile}
 use Rattle.array.specs.declared.Array.{Array}
 use Rattle.array.specs.Arrays.{tilesAfter, arrayOf}

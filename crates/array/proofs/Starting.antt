@@ -6,7 +6,7 @@ use lib.Ieee.{Float}
 use Rattle.lists.specs.Tabulate.{tabulate}
 use Rattle.ordering.specs.Registers.{most}
 use Rattle.tile.specs.declared.Tile.{Tile}
-use Rattle.beginning.specs.Beginning.{zeroPart, tileWith, startTile}
+use Rattle.tile_start.specs.Beginning.{zeroPart, tileWith, startTile}
 use Rattle.array.specs.declared.Array.{Array}
 use Rattle.array.specs.Runs.{startArray, noArray}
 

@@ -4,8 +4,8 @@ use mathlib.Core.Path.{_≡_, refl, sym, ap, _∙_}
 use native.Mathlib.Nat.{zero-add, suc-add}
 use native.Mathlib.Omega.{arith}
 use Rattle.refusal.specs.Refusal.{Told, given, refused}
-use Rattle.schedule.specs.Answers.{Tick, made, stopped, ticksOf, progressOf, leftOf}
-use Rattle.schedule.proofs.Answers.{is-stopped, Ahead, ahead, none-left}
+use Rattle.tile_schedule.specs.Answers.{Tick, made, stopped, ticksOf, progressOf, leftOf}
+use Rattle.tile_schedule.proofs.Answers.{is-stopped, Ahead, ahead, none-left}
 use Rattle.array.specs.declared.Array.{Array}
 use Rattle.array.specs.Arrays.{arrayOf}
 use Rattle.array.specs.Runs.{nextArray, ticked, GoesOn}

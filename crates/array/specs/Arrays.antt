@@ -11,12 +11,12 @@ use Rattle.lists.specs.Tabulate.{tabulate}
 use Rattle.systolic.specs.Blocks.{Block}
 use Rattle.systolic.specs.Tiles as theory
 use Rattle.systolic.specs.Arrays.{tick}
-use Rattle.lines.specs.declared.Quad.{Quad}
-use Rattle.lines.specs.declared.Part.{Part}
+use Rattle.tile_wires.specs.declared.Quad.{Quad}
+use Rattle.tile_wires.specs.declared.Part.{Part}
 use Rattle.ordering.specs.Registers.{most}
-use Rattle.plain.specs.Cells.{Cell}
-use Rattle.plain.specs.Run.{stepsOf}
-use Rattle.schedule.specs.Answers.{Tick, made, stopped, toldProgress, progressOf}
+use Rattle.plain_run.specs.Cells.{Cell}
+use Rattle.plain_run.specs.Run.{stepsOf}
+use Rattle.tile_schedule.specs.Answers.{Tick, made, stopped, toldProgress, progressOf}
 use Rattle.tile.specs.declared.Tile.{Tile}
 use Rattle.tile.specs.Tiles.{theTile, operations}
 use Rattle.array.specs.declared.Array.{Array}

@@ -9,9 +9,9 @@ use Rattle.refusal.specs.Refusal.{Told, given, refused, toldAnswer}
 use Rattle.lists.specs.Tabulate.{tabulate}
 use Rattle.ordering.specs.Registers.{most}
 use Rattle.ordering.specs.Pairs.{noOrder}
-use Rattle.plain.specs.Run.{mostSweeps, beforeRun}
-use Rattle.schedule.specs.Answers.{ticksOf, progressOf}
-use Rattle.beginning.specs.Beginning.{zeroPart, tileWith, startTile}
+use Rattle.plain_run.specs.Run.{mostSweeps, beforeRun}
+use Rattle.tile_schedule.specs.Answers.{ticksOf, progressOf}
+use Rattle.tile_start.specs.Beginning.{zeroPart, tileWith, startTile}
 use Rattle.array.specs.declared.Array.{Array}
 use Rattle.array.specs.declared.Started.{Started}
 use Rattle.array.specs.Arrays.{arrayOf}

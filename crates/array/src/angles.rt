@@ -51,7 +51,7 @@ fn recalled(t: f64, old: Angle) -> Angle
 fn place(tick: usize, line: usize, other: usize) -> usize
     ensures { λ r. ⌜ r < most * most ⌝ }
 {
-    let away = schedule::distance(line, other);
+    let away = tile_schedule::distance(line, other);
     if tick < away {
         return 0;
     }

@@ -4,7 +4,7 @@ ghost use Rattle.array.specs.Arrays.{Ticks};
 ghost use Rattle.array.specs.Runs.{startArray, noArray, Starts, GoesOn, ticked};
 use refusal::Answer;
 use rotation::Angle;
-use schedule::Progress;
+use tile_schedule::Progress;
 use tile::Tile;
 
 mod angles;
@@ -35,7 +35,7 @@ impl Array {
     pub fn start(n: usize, sweeps: usize, matrix: &[f64]) -> Started
         ensures { λ r. ⌜ Starts n sweeps (now (matrix .entry)) r ⌝ }
     {
-        match plain::verdict(n, sweeps, matrix, matrix.len(), matrix.len()) {
+        match plain_run::verdict(n, sweeps, matrix, matrix.len(), matrix.len()) {
             Answer::Accepted => Started {
                 answer: Answer::Accepted,
                 array: Array::of_matrix(n, sweeps, matrix),
@@ -51,9 +51,9 @@ impl Array {
     fn of_matrix(n: usize, sweeps: usize, matrix: &[f64]) -> Array
         ensures { λ r. ⌜ r ≡ startArray n sweeps (now (matrix .entry)) ⌝ }
     {
-        let mut tiles = [beginning::zero_tile(); 256];
+        let mut tiles = [tile_start::zero_tile(); 256];
         for k in 0..256 {
-            tiles[k] = beginning::tile_at(n, k / 16, k % 16, matrix);
+            tiles[k] = tile_start::tile_at(n, k / 16, k % 16, matrix);
         }
         Array {
             n: n,
@@ -71,7 +71,7 @@ impl Array {
             n: 0,
             sweeps: 0,
             tick: 0,
-            tiles: [beginning::zero_tile(); 256],
+            tiles: [tile_start::zero_tile(); 256],
         }
     }
 
@@ -81,7 +81,7 @@ impl Array {
         let n = self.n;
         let sweeps = self.sweeps;
         let tick = self.tick;
-        match schedule::answer_to(n, sweeps, tick) {
+        match tile_schedule::answer_to(n, sweeps, tick) {
             Progress::Made => {}
             Progress::Stopped => {
                 return Ticked {
@@ -106,7 +106,7 @@ impl Array {
     pub fn ticks(self, count: usize) -> Array
         ensures { λ r. ⌜ r ≡ ticked count self ⌝ }
     {
-        let left = schedule::ticks_left(self.n, self.sweeps, self.tick);
+        let left = tile_schedule::ticks_left(self.n, self.sweeps, self.tick);
         if left == 0 {
             return self;
         }
@@ -138,7 +138,7 @@ impl Array {
                 if j >= processors {
                     continue;
                 }
-                if !schedule::changes(steps, tick, i, j) {
+                if !tile_schedule::changes(steps, tick, i, j) {
                     continue;
                 }
                 let from = wiring::sources(last, i, j);

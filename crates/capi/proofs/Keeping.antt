@@ -9,15 +9,15 @@ use lib.Ieee.{Float}
 use Rattle.refusal.specs.Refusal.{Told, given, told, entryOf, toldAnswer}
 use Rattle.refusal.specs.declared.Refusal.{Refusal}
 use Rattle.refusal.specs.declared.Refusal.the-variants.{Length}
-use Rattle.plain.specs.Run.{beforeRun}
-use Rattle.schedule.specs.declared.Progress.the-variants as progress
-use Rattle.schedule.specs.Answers.{Tick, made, stopped, toldProgress, progressOf}
+use Rattle.plain_run.specs.Run.{beforeRun}
+use Rattle.tile_schedule.specs.declared.Progress.the-variants as progress
+use Rattle.tile_schedule.specs.Answers.{Tick, made, stopped, toldProgress, progressOf}
 use Rattle.array.specs.declared.Array.{Array}
 use Rattle.array.specs.declared.Started.{Started}
 use Rattle.array.specs.declared.Ticked.{Ticked}
 use Rattle.array.specs.Arrays.{Ticks}
 use Rattle.array.specs.Runs.{Starts}
-use Rattle.words.specs.Words.{arrayWords, arrayIn, storedIn}
+use Rattle.array_words.specs.Words.{arrayWords, arrayIn, storedIn}
 use Rattle.capi.specs.Said.{Said, saidOf}
 use Rattle.capi.specs.Calls.{ofStart, ofTick}
 

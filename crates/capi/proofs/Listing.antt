@@ -17,10 +17,10 @@ use Rattle.lists.proofs.Filled.{Filled, filled-all}
 use Rattle.lists.proofs.Replaced.{Replaced, replaced-next, replaced-over}
 use Rattle.ordering.specs.declared.Listed.{Listed}
 use Rattle.ordering.specs.Pairs.{noOrder, registersAt, Lists}
-use Rattle.records.specs.declared.Record.{Record}
-use Rattle.records.specs.Records.{recordAt, beforeRecords}
+use Rattle.step_records.specs.declared.Record.{Record}
+use Rattle.step_records.specs.Records.{recordAt, beforeRecords}
 use Rattle.matrix.proofs.Accepted.{refused-given}
-use Rattle.records.proofs.Rows.{written-fits}
+use Rattle.step_records.proofs.Rows.{written-fits}
 use Rattle.capi.specs.Said.{Said, said, refusedAs, saidOf, numberTold}
 use Rattle.capi.specs.Calls.{pairsTooShort, listedIn, pairsOf, fieldOf, fieldsOf, recordsLeft, ofRecords}
 

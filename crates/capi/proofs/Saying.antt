@@ -5,22 +5,22 @@ use mathlib.Core.List.{List}
 use lib.Ieee.{Float}
 use Rattle.refusal.specs.Refusal.{Told, entryOf}
 use Rattle.refusal.specs.declared.Refusal.{Refusal}
-use Rattle.plain.specs.Run.{Outcome, outcome}
+use Rattle.plain_run.specs.Run.{Outcome, outcome}
 use Rattle.root.specs.declared.Root.{Root}
 use Rattle.root.specs.declared.Root.the-variants as root
 use Rattle.root.specs.Sqrt.{toldRoot}
 use Rattle.rotation.specs.declared.Parameters.{Parameters}
-use Rattle.records.specs.declared.Record.{Record}
-use Rattle.records.specs.Records.{recordOf}
-use Rattle.reader.specs.declared.Reading.{Reading}
-use Rattle.reader.specs.declared.Reading.the-variants as reading
-use Rattle.reader.specs.Reader.{ReadOutcome, readOutcome, toldReading}
-use Rattle.writer.specs.Writer.{WriteOutcome, writeOutcome}
-use Rattle.printed.specs.Printed.{printing}
-use Rattle.lister.specs.Listing.{Listed, listed}
-use Rattle.whole.specs.declared.Completion.{Completion}
-use Rattle.whole.specs.declared.Completion.the-variants.{Completed, Refused}
-use Rattle.whole.specs.Whole.{toldCompletion}
+use Rattle.step_records.specs.declared.Record.{Record}
+use Rattle.step_records.specs.Records.{recordOf}
+use Rattle.sheet_reader.specs.declared.Reading.{Reading}
+use Rattle.sheet_reader.specs.declared.Reading.the-variants as reading
+use Rattle.sheet_reader.specs.Reader.{ReadOutcome, readOutcome, toldReading}
+use Rattle.sheet_writer.specs.Writer.{WriteOutcome, writeOutcome}
+use Rattle.listing_text.specs.Printed.{printing}
+use Rattle.listing.specs.Listing.{Listed, listed}
+use Rattle.array_run.specs.declared.Completion.{Completion}
+use Rattle.array_run.specs.declared.Completion.the-variants.{Completed, Refused}
+use Rattle.array_run.specs.Whole.{toldCompletion}
 use Rattle.capi.specs.Said.{Said, said, placeOf, refusedAs, saidOf, numberTold, givenOr}
 use Rattle.capi.specs.Calls.{ofRoot, turns, ofParameters, ofRun, ofWhole, ofReading, ofWriting, ofListing}
 

@@ -11,17 +11,17 @@ use Rattle.lists.specs.Tabulate.{tabulate}
 use Rattle.rotation.specs.declared.Parameters.{Parameters}
 use Rattle.rotation.specs.declared.Parameters.the-variants.{Still, Turn}
 use Rattle.ordering.specs.Pairs.{noOrder, orNone, registersAt}
-use Rattle.plain.specs.Run.{Outcome, beforeRun}
-use Rattle.records.specs.declared.Record.{Record}
-use Rattle.records.specs.Records.{recordOf, recordAt, beforeRecords}
-use Rattle.schedule.specs.Answers.{Tick, made, stopped, progressOf}
+use Rattle.plain_run.specs.Run.{Outcome, beforeRun}
+use Rattle.step_records.specs.declared.Record.{Record}
+use Rattle.step_records.specs.Records.{recordOf, recordAt, beforeRecords}
+use Rattle.tile_schedule.specs.Answers.{Tick, made, stopped, progressOf}
 use Rattle.array.specs.declared.Array.{Array}
 use Rattle.array.specs.Arrays.{arrayOf}
 use Rattle.array.specs.Runs.{startTold, startedOf}
-use Rattle.words.specs.Words.{arrayWords, wordsOf, arrayIn}
-use Rattle.reader.specs.Reader.{ReadOutcome}
-use Rattle.writer.specs.Writer.{WriteOutcome}
-use Rattle.lister.specs.Listing.{Listed}
+use Rattle.array_words.specs.Words.{arrayWords, wordsOf, arrayIn}
+use Rattle.sheet_reader.specs.Reader.{ReadOutcome}
+use Rattle.sheet_writer.specs.Writer.{WriteOutcome}
+use Rattle.listing.specs.Listing.{Listed}
 use Rattle.capi.specs.Said.{Said, saidOf, numberTold, givenOr}
 
 -- ---- root: the number, and the lent root

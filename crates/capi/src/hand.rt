@@ -4,7 +4,7 @@ ghost use Rattle.capi.specs.Said.{said};
 ghost use Rattle.capi.specs.Calls.{ofStart, ofTick};
 use array::Array;
 use refusal::Refusal;
-use schedule::Progress;
+use tile_schedule::Progress;
 
 #[no_mangle]
 pub extern "C" fn weimrukas_array_start(
@@ -17,13 +17,13 @@ pub extern "C" fn weimrukas_array_start(
 ) -> u8
     ensures { λ r. ⌜ (said r (now (row .exit)) (now (column .exit)), now (words .exit)) ≡ ofStart n sweeps (now (matrix .entry)) (now (words .entry)) (now (row .entry)) (now (column .entry)) ⌝ }
 {
-    if !words::is_array(words.len()) {
-        let refused = plain::verdict(n, sweeps, matrix, 0, 0);
+    if !array_words::is_array(words.len()) {
+        let refused = plain_run::verdict(n, sweeps, matrix, 0, 0);
         return crate::answers::number_of(refused, row, column);
     }
     let started = Array::start(n, sweeps, matrix);
     let array = started.array;
-    words::store(array, words);
+    array_words::store(array, words);
     let answer = started.answer;
     crate::answers::number_of(answer, row, column)
 }
@@ -32,16 +32,16 @@ pub extern "C" fn weimrukas_array_start(
 pub extern "C" fn weimrukas_array_tick(words: &mut [u64], made: &mut u8) -> u8
     ensures { λ r. ⌜ (r, now (made .exit), now (words .exit)) ≡ ofTick (now (words .entry)) (now (made .entry)) ⌝ }
 {
-    if !words::is_array(words.len()) {
+    if !array_words::is_array(words.len()) {
         return refusal::number(Refusal::Length);
     }
-    let array = words::load(words);
+    let array = array_words::load(words);
     let ticked = array.tick();
     let answer = ticked.answer;
     match answer {
         Progress::Made => {
             let next = ticked.array;
-            words::store(next, words);
+            array_words::store(next, words);
             *made = 1;
             0
         }

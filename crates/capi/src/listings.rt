@@ -1,6 +1,6 @@
 // The listing of a sheet.
 ghost use mathlib.Core.Path.{_≡_};
-ghost use Rattle.lister.specs.Listing.{listOf};
+ghost use Rattle.listing.specs.Listing.{listOf};
 ghost use Rattle.capi.specs.Said.{said};
 ghost use Rattle.capi.specs.Calls.{ofListing};
 
@@ -14,7 +14,7 @@ pub extern "C" fn weimrukas_list(
 ) -> u8
     ensures { λ r. ⌜ (said r (now (row .exit)) (now (column .exit)), now (length .exit), now (text .exit)) ≡ ofListing (listOf (now (sheet .entry)) (now (text .entry))) (now (row .entry)) (now (column .entry)) ⌝ }
 {
-    let listed = lister::list(sheet, text);
+    let listed = listing::list(sheet, text);
     *length = listed.count;
     let answer = listed.answer;
     crate::answers::number_of(answer, row, column)

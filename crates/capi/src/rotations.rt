@@ -32,7 +32,7 @@ pub extern "C" fn weimrukas_parameters(
     ensures { λ _. ⌜ (now (turn .exit), now (t .exit), now (c .exit), now (s .exit)) ≡ ofParameters (ofPair a d b) ⌝ }
 {
     let found = rotation::of_pair(a, d, b);
-    let record = records::of_parameters(found);
+    let record = step_records::of_parameters(found);
     *turn = turns(found);
     *t = crate::answers::canonical(record.t);
     *c = crate::answers::canonical(record.c);

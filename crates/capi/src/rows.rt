@@ -7,7 +7,7 @@ ghost use Rattle.refusal.specs.Refusal.{given};
 ghost use Rattle.ordering.specs.Pairs.{noOrder};
 ghost use Rattle.capi.specs.Said.{said};
 ghost use Rattle.capi.specs.Calls.{recordsLeft, ofRecords};
-use records::Record;
+use step_records::Record;
 use refusal::Answer;
 
 #[no_mangle]
@@ -21,7 +21,7 @@ pub extern "C" fn weimrukas_records(
 ) -> u8
     ensures { λ r. ⌜ (said r (now (row .exit)) (now (column .exit)), now (values .exit)) ≡ ofRecords n (now (matrix .entry)) step (now (values .entry)) (now (row .entry)) (now (column .entry)) ⌝ }
 {
-    match records::verdict(n, matrix, values.len() / 3) {
+    match step_records::verdict(n, matrix, values.len() / 3) {
         Answer::Accepted => {
             put_records(n, matrix, step, values);
             0
@@ -38,7 +38,7 @@ fn put_records(n: usize, matrix: &[f64], step: usize, values: &mut [f64])
     let listed = ordering::pairs(n, step);
     let registers = listed.registers;
     for k in 0..n / 2 {
-        let fields = records::of_processor(n, matrix, registers, k);
+        let fields = step_records::of_processor(n, matrix, registers, k);
         put_record(fields, k * 3, values);
     }
 }

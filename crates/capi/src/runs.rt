@@ -1,10 +1,10 @@
 // The plain run and the array's whole run.
 ghost use mathlib.Core.Path.{_≡_};
-ghost use Rattle.plain.specs.Run.{runOf};
-ghost use Rattle.whole.specs.Whole.{wholeOf};
+ghost use Rattle.plain_run.specs.Run.{runOf};
+ghost use Rattle.array_run.specs.Whole.{wholeOf};
 ghost use Rattle.capi.specs.Said.{said};
 ghost use Rattle.capi.specs.Calls.{ofRun, ofWhole};
-use whole::Completion;
+use array_run::Completion;
 
 #[no_mangle]
 pub extern "C" fn weimrukas_plain_run(
@@ -18,7 +18,7 @@ pub extern "C" fn weimrukas_plain_run(
 ) -> u8
     ensures { λ r. ⌜ (said r (now (row .exit)) (now (column .exit)), now (result .exit), now (vectors .exit)) ≡ ofRun (runOf n sweeps (now (matrix .entry)) (now (result .entry)) (now (vectors .entry))) (now (row .entry)) (now (column .entry)) ⌝ }
 {
-    let answer = plain::run(n, sweeps, matrix, result, vectors);
+    let answer = plain_run::run(n, sweeps, matrix, result, vectors);
     crate::answers::number_of(answer, row, column)
 }
 
@@ -35,7 +35,7 @@ pub extern "C" fn weimrukas_array_run(
 ) -> u8
     ensures { λ r. ⌜ (said r (now (row .exit)) (now (column .exit)), now (ticks .exit), now (result .exit), now (vectors .exit)) ≡ ofWhole (wholeOf n sweeps (now (matrix .entry)) (now (result .entry)) (now (vectors .entry))) (now (ticks .entry)) (now (row .entry)) (now (column .entry)) ⌝ }
 {
-    match whole::run(n, sweeps, matrix, result, vectors) {
+    match array_run::run(n, sweeps, matrix, result, vectors) {
         Completion::Completed(made) => {
             *ticks = made;
             0

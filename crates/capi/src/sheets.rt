@@ -1,10 +1,10 @@
 // The reader and the writer of sheets.
 ghost use mathlib.Core.Path.{_≡_};
-ghost use Rattle.reader.specs.Reader.{readOf};
-ghost use Rattle.writer.specs.Writer.{writeOf};
+ghost use Rattle.sheet_reader.specs.Reader.{readOf};
+ghost use Rattle.sheet_writer.specs.Writer.{writeOf};
 ghost use Rattle.capi.specs.Said.{said};
 ghost use Rattle.capi.specs.Calls.{ofReading, ofWriting};
-use reader::Reading;
+use sheet_reader::Reading;
 
 #[no_mangle]
 pub extern "C" fn weimrukas_read_sheet(
@@ -18,7 +18,7 @@ pub extern "C" fn weimrukas_read_sheet(
 ) -> u8
     ensures { λ r. ⌜ (said r (now (row .exit)) (now (column .exit)), (now (n .exit), now (sweeps .exit)), now (codes .exit), now (matrix .exit)) ≡ ofReading (readOf (now (sheet .entry)) (now (codes .entry)) (now (matrix .entry))) (now (n .entry)) (now (sweeps .entry)) (now (row .entry)) (now (column .entry)) ⌝ }
 {
-    match reader::read(sheet, codes, matrix) {
+    match sheet_reader::read(sheet, codes, matrix) {
         Reading::Read(order, count) => {
             *n = order;
             *sweeps = count;
@@ -40,6 +40,6 @@ pub extern "C" fn weimrukas_write_sheet(
 ) -> u8
     ensures { λ r. ⌜ (said r (now (row .exit)) (now (column .exit)), now (sheet .exit)) ≡ ofWriting (writeOf n sweeps (now (codes .entry)) (now (matrix .entry)) (now (sheet .entry))) (now (row .entry)) (now (column .entry)) ⌝ }
 {
-    let answer = writer::write(n, sweeps, codes, matrix, sheet);
+    let answer = sheet_writer::write(n, sweeps, codes, matrix, sheet);
     crate::answers::number_of(answer, row, column)
 }

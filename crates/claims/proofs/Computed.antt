@@ -10,10 +10,10 @@ use Rattle.ordering.specs.Pairs.{noOrder, registersAt}
 use Rattle.rotation.specs.Rotation.{tangent, ofAngle, ofTangent, ofPair}
 use Rattle.matrix.specs.Matrix.{at, flat}
 use Rattle.matrix.specs.Entries.{first, notFiniteAt, notMirroredAt, entriesOf}
-use Rattle.turns.specs.Turns.{turnedAt, rowTurn, columnTurn, columnTurnAll}
-use Rattle.pair.specs.Pair.{withEntry, pairTurned, pairStep}
-use Rattle.plain.specs.State.{identity, pairsStep, after, notFinite, spoiled}
-use Rattle.plain.specs.Run.{beforeRun, startOf, ranOf, runOf}
+use Rattle.matrix_turns.specs.Turns.{turnedAt, rowTurn, columnTurn, columnTurnAll}
+use Rattle.plain_pair.specs.Pair.{withEntry, pairTurned, pairStep}
+use Rattle.plain_run.specs.State.{identity, pairsStep, after, notFinite, spoiled}
+use Rattle.plain_run.specs.Run.{beforeRun, startOf, ranOf, runOf}
 use Rattle.claims.specs.Examples.{All, examples}
 
 pub examples-hold : All examples

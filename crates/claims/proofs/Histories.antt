@@ -3,12 +3,12 @@ use Prim.Native.Nat.{ℕ}
 use mathlib.Core.Path.{_≡_, sym, ap, _∙_}
 use Rattle.refusal.specs.Refusal.{Told, given, refused}
 use Rattle.ordering.proofs.Meetings as ordering
-use Rattle.plain.specs.Run.{Outcome, runOf}
-use Rattle.schedule.specs.Answers.{ticksOf}
-use Rattle.whole.specs.Whole.{tellingIn}
-use Rattle.agreement.proofs.Agreement as agreement
-use Rattle.agreement.proofs.Hand as hand
-use Rattle.agreement.proofs.Neighbours as neighbours
+use Rattle.plain_run.specs.Run.{Outcome, runOf}
+use Rattle.tile_schedule.specs.Answers.{ticksOf}
+use Rattle.array_run.specs.Whole.{tellingIn}
+use Rattle.array_agreement.proofs.Agreement as agreement
+use Rattle.array_agreement.proofs.Hand as hand
+use Rattle.array_agreement.proofs.Neighbours as neighbours
 use Rattle.claims.specs.Histories.{WholeRunIsThePlainRun, TicksReported, OneHistory}
 
 whole-run : WholeRunIsThePlainRun

@@ -15,21 +15,21 @@ use Rattle.lists.specs.Over.{over}
 use Rattle.ordering.specs.Pairs.{noOrder, registersAt}
 use Rattle.matrix.specs.Matrix.{at}
 use Rattle.matrix.specs.Entries.{orElse, first, notFiniteAt, notMirroredAt, entriesOf}
-use Rattle.plain.specs.State.{spoiled}
-use Rattle.plain.specs.Run.{mostSweeps, stepsOf, startOf, zeros, beforeRun, Outcome, outcome, unlessRefused, ranOf, runOf}
-use Rattle.records.specs.declared.Record.{Record}
-use Rattle.records.specs.Records as records
+use Rattle.plain_run.specs.State.{spoiled}
+use Rattle.plain_run.specs.Run.{mostSweeps, stepsOf, startOf, zeros, beforeRun, Outcome, outcome, unlessRefused, ranOf, runOf}
+use Rattle.step_records.specs.declared.Record.{Record}
+use Rattle.step_records.specs.Records as records
 use Rattle.array.specs.declared.Array.{Array}
 use Rattle.array.specs.declared.Started.{Started}
 use Rattle.array.specs.declared.Ticked.{Ticked}
 use Rattle.array.specs.Arrays.{arrayOf, Ticks}
-use Rattle.schedule.specs.Answers.{Tick, made, stopped, toldProgress, ticksOf, progressOf}
+use Rattle.tile_schedule.specs.Answers.{Tick, made, stopped, toldProgress, ticksOf, progressOf}
 use Rattle.array.specs.Runs.{noArray, startedOf, Starts}
-use Rattle.whole.specs.Whole.{tellingIn, telling}
-use Rattle.agreement.proofs.Agreement.{whole-agrees}
+use Rattle.array_run.specs.Whole.{tellingIn, telling}
+use Rattle.array_agreement.proofs.Agreement.{whole-agrees}
 use Rattle.sheet.specs.Format.{sheetLength, sheetOf}
-use Rattle.reader.specs.Reader as reader
-use Rattle.writer.specs.Writer as writer
+use Rattle.sheet_reader.specs.Reader as reader
+use Rattle.sheet_writer.specs.Writer as writer
 use Rattle.claims.proofs.RoundTrip.{sheet-long}
 use Rattle.claims.specs.Refusals.{square, LeavesResults, RunsLeave, RecordsLeave, ReaderLeaves, WriterLeaves}
 

@@ -7,9 +7,9 @@ use lib.Dec.{eqb}
 use lib.Ieee.{Float}
 use Rattle.rotation.specs.declared.Parameters.{Parameters}
 use Rattle.rotation.specs.declared.Parameters.the-variants.{Still, Turn}
-use Rattle.turns.proofs.Still.{still-rows, still-columns, still-all-columns}
-use Rattle.turns.specs.Turns.{parametersOf, turnedAt, rowTurn, columnTurn, columnTurnAll}
-use Rattle.pair.specs.Pair.{State, withEntry, pairTurned, pairStep}
+use Rattle.matrix_turns.proofs.Still.{still-rows, still-columns, still-all-columns}
+use Rattle.matrix_turns.specs.Turns.{parametersOf, turnedAt, rowTurn, columnTurn, columnTurnAll}
+use Rattle.plain_pair.specs.Pair.{State, withEntry, pairTurned, pairStep}
 use Rattle.claims.specs.Report.{Other, ColumnsTurned, MatrixTurned, Cleared, PairByTheReport}
 
 both-equal : (i p j q : ℕ) → (eqb i p && eqb j q) ≡ true → (i ≡ p) × (j ≡ q)

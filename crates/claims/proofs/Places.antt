@@ -17,7 +17,7 @@ use Rattle.matrix.specs.Matrix.{at}
 use Rattle.matrix.specs.Entries.{orElse, first, notFiniteAt, notMirroredAt}
 use Rattle.matrix.proofs.Same.{Line}
 use Rattle.sheet.specs.Format.{orderIn, patternIn}
-use Rattle.reader.specs.Reader.{notFiniteIn, storedOf}
+use Rattle.sheet_reader.specs.Reader.{notFiniteIn, storedOf}
 use Rattle.claims.specs.Refusals.{finiteEntries, mirrorEntries, Before, Tested, all-good, first-bad, InSquare, AboveDiagonal, InTriangle, EntriesAreTested}
 
 -- ---- what is seen at one place, or in a search

@@ -26,12 +26,12 @@ use Rattle.sheet.specs.Codes.{badCodes}
 use Rattle.sheet.proofs.Words.{word-whole, word-small, byte-back}
 use Rattle.sheet.proofs.Triangle.{length-is, number-below, numbered, place-within, place-of-number}
 use Rattle.sheet.proofs.Used.{codes-alike}
-use Rattle.reader.specs.Reader.{notFiniteIn, storedOf, readTold, readOutcome, contentOf, readOf}
-use Rattle.reader.proofs.Stored.{is-finite, codes-count, code-at, all-read, read-accepted-as}
-use Rattle.reader.proofs.Tables.{read-5, Readable, readable}
-use Rattle.writer.specs.Writer.{writeTold, writeOutcome, writtenOver, writeOf}
-use Rattle.writer.proofs.Tables.{write-all, Writable, writable}
-use Rattle.writer.proofs.Written.{byte-0, byte-1, byte-code, byte-entry, write-accepted-as}
+use Rattle.sheet_reader.specs.Reader.{notFiniteIn, storedOf, readTold, readOutcome, contentOf, readOf}
+use Rattle.sheet_reader.proofs.Stored.{is-finite, codes-count, code-at, all-read, read-accepted-as}
+use Rattle.sheet_reader.proofs.Tables.{read-5, Readable, readable}
+use Rattle.sheet_writer.specs.Writer.{writeTold, writeOutcome, writtenOver, writeOf}
+use Rattle.sheet_writer.proofs.Tables.{write-all, Writable, writable}
+use Rattle.sheet_writer.proofs.Written.{byte-0, byte-1, byte-code, byte-entry, write-accepted-as}
 use Rattle.claims.specs.Sheets.{SameContent}
 
 -- ---- what stands in a sheet that was written

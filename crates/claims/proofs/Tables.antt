@@ -11,17 +11,17 @@ use Rattle.refusal.specs.declared.Refusal.the-variants.{Order, Sweeps, Length, 
 use Rattle.refusal.specs.Refusal.{Told, given, refused, told}
 use Rattle.ordering.specs.Pairs.{noOrder}
 use Rattle.matrix.specs.Entries.{orElse, entriesOf}
-use Rattle.plain.specs.State.{spoiled}
-use Rattle.plain.specs.Run.{mostSweeps, stepsOf, startOf, beforeRun, Outcome, outcome, unlessRefused, ranOf, runOf}
-use Rattle.records.specs.declared.Record.{Record}
-use Rattle.records.specs.Records as records
-use Rattle.schedule.specs.Answers.{Tick, made, stopped, ticksOf, progressOf}
+use Rattle.plain_run.specs.State.{spoiled}
+use Rattle.plain_run.specs.Run.{mostSweeps, stepsOf, startOf, beforeRun, Outcome, outcome, unlessRefused, ranOf, runOf}
+use Rattle.step_records.specs.declared.Record.{Record}
+use Rattle.step_records.specs.Records as records
+use Rattle.tile_schedule.specs.Answers.{Tick, made, stopped, ticksOf, progressOf}
 use Rattle.array.specs.Runs.{startTold}
-use Rattle.whole.specs.Whole.{tellingIn}
-use Rattle.agreement.proofs.Agreement.{whole-agrees}
+use Rattle.array_run.specs.Whole.{tellingIn}
+use Rattle.array_agreement.proofs.Agreement.{whole-agrees}
 use Rattle.sheet.specs.Format.{sheetLength, orderIn, sweepsIn}
-use Rattle.reader.specs.Reader as reader
-use Rattle.writer.specs.Writer as writer
+use Rattle.sheet_reader.specs.Reader as reader
+use Rattle.sheet_writer.specs.Writer as writer
 use Rattle.sheet.specs.Codes.{badCodes}
 use Rattle.claims.specs.Refusals.{table, row, order, sweep, square, finiteEntries, mirrorEntries, PlainRunAnswers, WholeRunAnswers, RecordsAnswer, ReaderAnswers, WriterAnswers}
 

@@ -9,7 +9,7 @@ use Rattle.refusal.specs.Refusal.{given}
 use Rattle.root.specs.Sqrt.{sqrtOf}
 use Rattle.ordering.specs.Pairs.{registersAt}
 use Rattle.ordering.specs.Registers.{most}
-use Rattle.plain.specs.Run.{outcome, runOf}
+use Rattle.plain_run.specs.Run.{outcome, runOf}
 
 pub data Example : Type 0 where
   -- the value with the first pattern has the root with the second

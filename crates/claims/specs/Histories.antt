@@ -10,15 +10,15 @@ use Rattle.refusal.specs.Refusal.{given}
 use Rattle.systolic.specs.Slots.{count}
 use Rattle.ordering.specs.declared.Listed.{Listed}
 use Rattle.ordering.specs.Pairs.{noOrder, Lists, meetInList}
-use Rattle.plain.specs.Run.{runOf}
+use Rattle.plain_run.specs.Run.{runOf}
 use Rattle.array.specs.declared.Array.{Array}
 use Rattle.array.specs.declared.Started.{Started}
 use Rattle.array.specs.declared.Ticked.{Ticked}
 use Rattle.array.specs.Arrays.{tileAt, Ticks}
 use Rattle.array.specs.Runs.{startTold}
-use Rattle.whole.specs.Whole.{wholeOf, telling}
-use Rattle.agreement.specs.Hand.{ByHand, ClaimedByHand}
-use Rattle.agreement.specs.Neighbours.{Agree}
+use Rattle.array_run.specs.Whole.{wholeOf, telling}
+use Rattle.array_agreement.specs.Hand.{ByHand, ClaimedByHand}
+use Rattle.array_agreement.specs.Neighbours.{Agree}
 
 -- Every value is one of binary64, as the values of a lent slice are.
 abbrev pub Binary64 : List Float → Type 0

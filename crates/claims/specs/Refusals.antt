@@ -17,21 +17,21 @@ use Rattle.ordering.specs.declared.Listed.{Listed}
 use Rattle.ordering.specs.Pairs.{noOrder, noRegisters, Lists}
 use Rattle.matrix.specs.Matrix.{at}
 use Rattle.matrix.specs.Entries.{orElse, firstPlace, notFiniteAt, notMirroredAt}
-use Rattle.plain.specs.State.{spoiled}
-use Rattle.plain.specs.Run.{mostSweeps, stepsOf, startOf, zeros, Outcome, runOf}
-use Rattle.records.specs.declared.Record.{Record}
-use Rattle.records.specs.Records.{recordsOf}
+use Rattle.plain_run.specs.State.{spoiled}
+use Rattle.plain_run.specs.Run.{mostSweeps, stepsOf, startOf, zeros, Outcome, runOf}
+use Rattle.step_records.specs.declared.Record.{Record}
+use Rattle.step_records.specs.Records.{recordsOf}
 use Rattle.array.specs.declared.Array.{Array}
 use Rattle.array.specs.declared.Started.{Started}
 use Rattle.array.specs.declared.Ticked.{Ticked}
 use Rattle.array.specs.Arrays.{Ticks}
-use Rattle.schedule.specs.Answers.{made, stopped, toldProgress, ticksOf}
+use Rattle.tile_schedule.specs.Answers.{made, stopped, toldProgress, ticksOf}
 use Rattle.array.specs.Runs.{noArray, Starts}
-use Rattle.whole.specs.Whole.{tellingIn, wholeOf}
+use Rattle.array_run.specs.Whole.{tellingIn, wholeOf}
 use Rattle.sheet.specs.Format.{sheetLength, orderIn, sweepsIn, patternIn}
 use Rattle.sheet.specs.Codes.{badCodes}
-use Rattle.reader.specs.Reader.{storedOf, readOf}
-use Rattle.writer.specs.Writer.{writeOf}
+use Rattle.sheet_reader.specs.Reader.{storedOf, readOf}
+use Rattle.sheet_writer.specs.Writer.{writeOf}
 use Rattle.claims.specs.Histories.{Binary64}
 
 -- ---- tables

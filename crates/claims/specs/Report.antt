@@ -11,8 +11,8 @@ use Rattle.refusal.specs.Refusal.{given}
 use Rattle.root.specs.Sqrt.{sqrtOf}
 use Rattle.rotation.specs.declared.Parameters.the-variants.{Still, Turn}
 use Rattle.rotation.specs.Rotation.{two, rootOf, signum, ofPair}
-use Rattle.turns.specs.Turns.{parametersOf}
-use Rattle.pair.specs.Pair.{State, pairStep}
+use Rattle.matrix_turns.specs.Turns.{parametersOf}
+use Rattle.plain_pair.specs.Pair.{State, pairStep}
 use Rattle.ordering.specs.declared.Listed.{Listed}
 use Rattle.ordering.specs.Pairs.{noOrder, standsIn, Lists}
 

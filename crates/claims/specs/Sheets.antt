@@ -7,8 +7,8 @@ use lib.Ieee.{Float}
 use Rattle.refusal.specs.Refusal.{given}
 use Rattle.matrix.specs.Matrix.{at, flat}
 use Rattle.sheet.specs.Format.{sheetLength, sheetOf, orderIn, sweepsIn, codesIn, entryIn}
-use Rattle.reader.specs.Reader.{readTold, readOutcome, readOf}
-use Rattle.writer.specs.Writer.{writeTold, writeOutcome, writeOf}
+use Rattle.sheet_reader.specs.Reader.{readTold, readOutcome, readOf}
+use Rattle.sheet_writer.specs.Writer.{writeTold, writeOutcome, writeOf}
 use Rattle.claims.specs.Histories.{Binary64}
 
 -- Every number is a byte's, as those of a lent slice are.

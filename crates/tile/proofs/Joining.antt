@@ -8,9 +8,9 @@ use lib.Dec.{eqb, ltb}
 use Rattle.systolic.specs.Slots.{Side, left, right, slot}
 use Rattle.systolic.specs.Blocks.{cell}
 use Rattle.systolic.specs.Tiles.{joined}
-use Rattle.lines.specs.declared.Part.{Part}
-use Rattle.lines.specs.Lines.{cornerOf, incomingQuad, incomingPart}
-use Rattle.plain.specs.Cells.{Cell}
+use Rattle.tile_wires.specs.declared.Part.{Part}
+use Rattle.tile_wires.specs.Lines.{cornerOf, incomingQuad, incomingPart}
+use Rattle.plain_run.specs.Cells.{Cell}
 use Rattle.tile.specs.Tiles.{blockOf, broughtTo}
 
 abbrev pub sideBy : Bool → Side

@@ -5,8 +5,8 @@ use mathlib.Core.Bool.{Bool, _||_}
 use lib.Ieee.{Float}
 use Rattle.systolic.specs.Tiles as theory
 use Rattle.systolic.specs.Tiles.{phaseIn, turnedTile, settledTile}
-use Rattle.lines.specs.declared.Part.{Part}
-use Rattle.lines.specs.Lines.{partLines}
+use Rattle.tile_wires.specs.declared.Part.{Part}
+use Rattle.tile_wires.specs.Lines.{partLines}
 use Rattle.rotation.specs.declared.Angle.{Angle}
 use Rattle.rotation.specs.Rotation.{angleOf}
 use Rattle.tile.specs.declared.Tile.{Tile}

@@ -9,10 +9,10 @@ use lib.Ieee.{Float}
 use Rattle.systolic.specs.Slots.{Side, left, right, flip}
 use Rattle.systolic.specs.Blocks.{Block, cell, tab}
 use Rattle.systolic.specs.Tiles.{Action, idle, first, rotate, second, third, final, carried, phaseOf, phaseIn, newLines}
-use Rattle.lines.specs.declared.Quad.{Quad}
-use Rattle.lines.specs.declared.Part.{Part}
-use Rattle.lines.specs.Lines.{quad, acrossOf, interchanged, edgeOf, orderOf, setIn0, setIn1, setIn2, setOf, linesOf, partLines}
-use Rattle.plain.specs.Cells.{Cell}
+use Rattle.tile_wires.specs.declared.Quad.{Quad}
+use Rattle.tile_wires.specs.declared.Part.{Part}
+use Rattle.tile_wires.specs.Lines.{quad, acrossOf, interchanged, edgeOf, orderOf, setIn0, setIn1, setIn2, setOf, linesOf, partLines}
+use Rattle.plain_run.specs.Cells.{Cell}
 use Rattle.tile.specs.Tiles.{blockOf}
 
 -- ---- by four tests: in the first row or column, in the last, above the diagonal, below it

@@ -9,10 +9,10 @@ use Rattle.float64.specs.Values.{finite}
 use Rattle.systolic.specs.Blocks.{cell, tab}
 use Rattle.systolic.specs.Sequential.{turnBlockRows, turnBlockColumns, anyFails, operationsOf}
 use Rattle.systolic.specs.Tiles.{Action, idle, first, rotate, second, third, final, turnTile, newCells, newParameter}
-use Rattle.lines.specs.declared.Part.{Part}
+use Rattle.tile_wires.specs.declared.Part.{Part}
 use Rattle.rotation.specs.declared.Angle.{Angle}
 use Rattle.rotation.specs.Rotation.{angleOf, ofTangent}
-use Rattle.plain.specs.Cells.{blockTurned, rules}
+use Rattle.plain_run.specs.Cells.{blockTurned, rules}
 use Rattle.tile.specs.Tiles.{blockOf, operations}
 use Rattle.tile.specs.Turned.{rowsTurned, columnsTurned, bothTurned, offDiagonalOf, onDiagonalOf, rotatedOf, takenOf, workedOf, quadNotFinite, someNotFinite}
 

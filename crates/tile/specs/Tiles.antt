@@ -8,8 +8,8 @@ use Rattle.systolic.specs.Synchronous.{Operations}
 use Rattle.systolic.specs.Sequential.{operationsOf}
 use Rattle.systolic.specs.Tiles as theory
 use Rattle.systolic.specs.Tiles.{joined}
-use Rattle.lines.specs.declared.Part.{Part}
-use Rattle.plain.specs.Cells.{Cell, cell, rules}
+use Rattle.tile_wires.specs.declared.Part.{Part}
+use Rattle.plain_run.specs.Cells.{Cell, cell, rules}
 use Rattle.tile.specs.declared.Tile.{Tile}
 
 unfoldable pub blockOf : Part → Block Cell

@@ -6,8 +6,8 @@ use lib.Ieee.{Float}
 use Rattle.float64.specs.Values.{plusZero, finite}
 use Rattle.systolic.specs.Tiles.{Action}
 use Rattle.systolic.specs.Traffic.{rotates, readsCells}
-use Rattle.lines.specs.declared.Quad.{Quad}
-use Rattle.lines.specs.declared.Part.{Part}
+use Rattle.tile_wires.specs.declared.Quad.{Quad}
+use Rattle.tile_wires.specs.declared.Part.{Part}
 use Rattle.rotation.specs.declared.Angle.{Angle}
 use Rattle.rotation.specs.declared.Parameters.{Parameters}
 use Rattle.rotation.specs.Rotation.{ofAngle, ofPair, sent, diagonalOf, turnOf}

@@ -1,13 +1,13 @@
 // The cells of a tile: taken in, rotated, tested.
 ghost use mathlib.Core.Path.{_≡_};
 ghost use mathlib.Core.Bool.{_||_};
-ghost use Rattle.schedule.specs.Schedule.{theAction};
+ghost use Rattle.tile_schedule.specs.Schedule.{theAction};
 ghost use Rattle.tile.specs.Turned.{rowsTurned, columnsTurned, bothTurned, offDiagonalOf, onDiagonalOf, rotatedOf, takenOf, workedOf, someNotFinite, quadNotFinite};
-use lines::Part;
-use lines::Quad;
+use tile_wires::Part;
+use tile_wires::Quad;
 use rotation::Angle;
 use rotation::Parameters;
-use schedule::Action;
+use tile_schedule::Action;
 
 // The cells of a tile after its work, and what its parameter lines carry.
 pub struct Work {
@@ -20,7 +20,7 @@ pub struct Work {
 pub fn taken(action: Action, cells: Part, brought: Part) -> Part
     ensures { λ r. ⌜ r ≡ takenOf (theAction action) cells brought ⌝ }
 {
-    if schedule::reads(action) {
+    if tile_schedule::reads(action) {
         return brought;
     }
     cells
@@ -38,7 +38,7 @@ pub fn worked(
 ) -> Work
     ensures { λ r. ⌜ r ≡ workedOf (theAction action) cells i j row column «old_row» «old_column» ⌝ }
 {
-    if schedule::rotates(action) {
+    if tile_schedule::rotates(action) {
         return rotated(cells, i, j, row, column);
     }
     Work {

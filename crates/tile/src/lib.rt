@@ -1,10 +1,10 @@
 // One tile of the array in one tick (document 01, "The array").
 ghost use mathlib.Core.Path.{_≡_};
 ghost use Rattle.systolic.specs.Tiles.{distance, actionAt, settledTile};
-ghost use Rattle.lines.specs.Lines.{incomingPart};
+ghost use Rattle.tile_wires.specs.Lines.{incomingPart};
 ghost use Rattle.tile.specs.Tiles.{theTile, operations};
 ghost use Rattle.tile.specs.Turned.{turnedOf};
-use lines::Part;
+use tile_wires::Part;
 use rotation::Angle;
 
 mod cells;
@@ -34,7 +34,7 @@ impl Tile {
     ) -> Tile
         ensures { λ r. ⌜ r ≡ turnedOf (actionAt steps (distance i j) tick) self brought i j row column ⌝ }
     {
-        let action = schedule::action_at(steps, i, j, tick);
+        let action = tile_schedule::action_at(steps, i, j, tick);
         let own = self.cells;
         let lines = self.lines;
         let cells = cells::taken(action, own, brought);
@@ -53,10 +53,10 @@ impl Tile {
     pub fn after(self, last: usize, steps: usize, tick: usize, i: usize, j: usize) -> Tile
         ensures { λ r. ⌜ theTile r ≡ settledTile operations last i j (actionAt steps (distance i j) tick) (theTile self) ⌝ }
     {
-        let phase = schedule::phase_in(schedule::action_at(steps, i, j, tick));
+        let phase = tile_schedule::phase_in(tile_schedule::action_at(steps, i, j, tick));
         let cells = self.cells;
         let lines = self.lines;
-        let out = lines::after(phase, last, i, j, cells, lines);
+        let out = tile_wires::after(phase, last, i, j, cells, lines);
         let mark = cells::is_marked(self.mark, cells);
         Tile {
             cells: cells,
@@ -85,5 +85,5 @@ pub fn brought(
     let by_beta = beta.lines;
     let by_gamma = gamma.lines;
     let by_delta = delta.lines;
-    lines::incoming(by_alpha, by_beta, by_gamma, by_delta, last, i, j)
+    tile_wires::incoming(by_alpha, by_beta, by_gamma, by_delta, last, i, j)
 }

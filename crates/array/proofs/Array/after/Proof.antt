@@ -6,7 +6,7 @@ use borrow.Author.Tests.{not-true, not-false}
 use lib.ListN.{length, length-map}
 use Rattle.lists.proofs.Replaced.{Replaced, replaced-none, replaced-next, replaced-skip}
 use Rattle.ordering.specs.Registers.{most}
-use Rattle.schedule.proofs.Answers.{Bounds, bounds}
+use Rattle.tile_schedule.proofs.Answers.{Bounds, bounds}
 use Rattle.array.specs.Angles.{Known}
 use Rattle.array.specs.Arrays.{noQuad, noPart, noTile}
 use Rattle.array.proofs.Made.{Spot, spot-inside, in-use, column-unused, turnedAt, turned-unused, not-turned, turned-in, settledAt, settled-in, settled-unused, tick-made}

@@ -4,7 +4,7 @@ use mathlib.Core.Path.{refl}
 use native.Mathlib.Omega.{arith}
 use Rattle.lists.proofs.Filled.{Filled, filled-none, filled-next, filled-all}
 use Rattle.ordering.specs.Registers.{most}
-use Rattle.beginning.specs.Beginning.{startTile}
+use Rattle.tile_start.specs.Beginning.{startTile}
 use Rattle.array.specs.Arrays.{noTile}
 use Rattle.array.proofs.Starting.{start-is}
 use Rattle.array.proofs.Array.of_matrix.Statement.{statement}

@@ -1,5 +1,5 @@
 use mathlib.Core.Path.{sym, ap, _∙_}
-use Rattle.schedule.specs.Answers.{toldProgress}
+use Rattle.tile_schedule.specs.Answers.{toldProgress}
 use Rattle.array.proofs.Handed.{stopped-stays, refused-stays, made-moves, one-more}
 use borrow.Author.Needs.{needs}
 use Rattle.array.proofs.Array.tick.Statement.{statement}

@@ -1,0 +1,58 @@
+-- The end of a whole run: marks, and cells written to their rows and columns. Assumes nothing.
+use Prim.Native.Nat.{ℕ, _+_, _-_, _*_, _/_, _%_, _<_}
+use mathlib.Core.Path.{_≡_, sym}
+use mathlib.Core.Bool.{Bool, true, false}
+use mathlib.Core.List.{List}
+use native.Mathlib.Omega.{arith}
+use lib.Dec.{eqb}
+use lib.Ieee.{Float, nan}
+use Rattle.refusal.specs.Refusal.{given, told}
+use Rattle.refusal.specs.declared.Refusal.the-variants.{Spoiled}
+use Rattle.lists.proofs.Filled.{Filled, filled-all}
+use Rattle.systolic.specs.Slots.{any}
+use Rattle.systolic.proofs.Bounded.{any-hit}
+use Rattle.tile_wires.specs.declared.Quad.{Quad}
+use Rattle.tile_wires.specs.Lines.{cornerOf}
+use Rattle.matrix.specs.Matrix.{flat}
+use Rattle.plain_run.specs.Run.{Outcome, outcome, zeros}
+use Rattle.tile.specs.declared.Tile.{Tile}
+use Rattle.array.specs.declared.Array.{Array}
+use Rattle.array.specs.Arrays.{tileAt}
+use Rattle.array_run.specs.Results.{joinedAt, matrixIn, vectorsIn, someMarked, handedOver}
+
+-- ---- marks
+-- a tile of row i before column j is marked, and one of the rows before i
+abbrev pub markedInRow : ℕ → List Tile → ℕ → Bool
+markedInRow j l i = any j (λ j. tileAt l i j .mark)
+
+abbrev pub markedBefore : ℕ → List Tile → ℕ → Bool
+markedBefore N l i = any i (markedInRow N l)
+
+module _ (N : ℕ) (l : List Tile) where
+  pub one-marked : (i j : ℕ) → i < N → j < N → tileAt l i j .mark ≡ true → true ≡ someMarked N l
+  unfolding someMarked
+  one-marked i j hi hj e = sym (any-hit N (markedInRow N l) i hi (any-hit N _ j hj e))
+
+  pub none-marked : (i : ℕ) → markedBefore N l i ≡ false → i ≡ N → false ≡ someMarked N l
+  unfolding someMarked
+  none-marked i e z = sym (rw z at e)
+
+-- ---- cells
+pub joined-at : (f : ℕ → ℕ → Quad) (i j : ℕ) → cornerOf (eqb (i % 2) 1) (eqb (j % 2) 1) (f (i / 2) (j / 2)) ≡ joinedAt f (i + 1) (j + 1)
+unfolding joinedAt
+joined-at f i j = let a : i + 1 - 1 ≡ i = omega arith in let b : j + 1 - 1 ≡ j = omega arith in rw (a, b)
+
+pub flat-filled : (n k : ℕ) (A : ℕ → ℕ → Float) (l : List Float) → Filled nan (λ i. A (i / n + 1) (i % n + 1)) (n * n) k l → k ≡ n * n → l ≡ flat n A
+unfolding flat
+flat-filled n k A l h e = filled-all k l h (omega arith)
+
+-- ---- what is handed over
+module _ (x : Array) where
+  pub spoiled-over : someMarked (x .n / 2) (x .tiles) ≡ true → {o : Outcome ℕ} → o ≡ outcome (told Spoiled) (zeros (x .n)) (zeros (x .n)) → o ≡ handedOver x
+  unfolding handedOver
+  spoiled-over e f = rw e f
+
+  pub cells-over : {r v : List Float} → someMarked (x .n / 2) (x .tiles) ≡ false → r ≡ flat (x .n) (matrixIn (x .tiles)) → v ≡ flat (x .n) (vectorsIn (x .tiles))
+      → outcome (given (x .tick)) r v ≡ handedOver x
+  unfolding handedOver
+  cells-over e f g = rw (e, f, g)

@@ -1,0 +1,50 @@
+use mathlib.Core.Path.{sym, ap, _∙_}
+use Rattle.refusal.specs.Refusal.{toldAnswer}
+use Rattle.array_run.proofs.Whole.{whole-refused, whole-accepted}
+use borrow.Author.Needs.{needs}
+use Rattle.array_run.proofs.run.Statement.{statement}
+use Rattle.array_run.proofs.run.Tie as tie
+
+verdict-requires : tie.Need-verdict-requires
+verdict-requires c κs = search needs
+
+enum-told : tie.Need-enum-told
+enum-told c = search needs
+
+run-accepted-requires : tie.Need-run-accepted-requires
+run-accepted-requires c κs =
+    let k = c .before .before in
+    sym (ap toldAnswer (sym (k .enum-told .given .1)) ∙ k .before .before .verdict .ensures)
+
+enum-known-refused : tie.Need-enum-known-refused
+enum-known-refused c = search needs
+
+same-length : tie.Need-same-length
+same-length c = search needs
+
+same-length-2 : tie.Need-same-length-2
+same-length-2 c = search needs
+
+returns : tie.Need-returns
+returns c =
+    let s = c .before .before .before .before in
+    let k = s .before .before .before in
+    whole-accepted _ _ _ _ _ (ap toldAnswer (sym (k .enum-told .given .1)) ∙ k .before .before .verdict .ensures) (s .run-accepted .ensures)
+
+returns-2 : tie.Need-returns-2
+returns-2 c =
+    let k = c .before in
+    whole-refused _ _ _ _ _ (ap toldAnswer (sym (k .refused .given .1)) ∙ k .before .before .verdict .ensures)
+
+pub run-spec : {M : Type 1} → statement M
+run-spec =
+    tie.close
+    (tie.spec
+    verdict-requires
+    enum-told
+    run-accepted-requires
+    enum-known-refused
+    same-length
+    same-length-2
+    returns
+    returns-2)

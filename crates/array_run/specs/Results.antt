@@ -1,0 +1,37 @@
+-- Document 01, "The array": what a whole run makes of its array at the end. Definitions only.
+use Prim.Native.Nat.{ℕ, _-_, _/_, _%_}
+use mathlib.Core.Bool.{Bool, cond}
+use mathlib.Core.List.{List}
+use lib.Dec.{eqb}
+use lib.Ieee.{Float}
+use Rattle.refusal.specs.Refusal.{given, told}
+use Rattle.refusal.specs.declared.Refusal.the-variants.{Spoiled}
+use Rattle.systolic.specs.Slots.{any}
+use Rattle.tile_wires.specs.declared.Quad.{Quad}
+use Rattle.tile_wires.specs.Lines.{cornerOf}
+use Rattle.matrix.specs.Matrix.{flat}
+use Rattle.plain_run.specs.Run.{Outcome, outcome, zeros}
+use Rattle.tile.specs.declared.Tile.{Tile}
+use Rattle.array.specs.declared.Array.{Array}
+use Rattle.array.specs.Arrays.{tileAt}
+
+-- The entry in row r and column c, both from 1, of the matrix whose parts are given by the tiles' rows and columns.
+unfoldable pub joinedAt : (ℕ → ℕ → Quad) → ℕ → ℕ → Float
+joinedAt f r c = cornerOf (eqb ((r - 1) % 2) 1) (eqb ((c - 1) % 2) 1) (f ((r - 1) / 2) ((c - 1) / 2))
+
+-- The matrix and the eigenvectors in the cells of the tiles.
+abbrev pub matrixIn : List Tile → ℕ → ℕ → Float
+matrixIn l = joinedAt (λ i j. tileAt l i j .cells .matrix)
+
+abbrev pub vectorsIn : List Tile → ℕ → ℕ → Float
+vectorsIn l = joinedAt (λ i j. tileAt l i j .cells .vectors)
+
+-- A tile in use is marked.
+unfoldable pub someMarked : ℕ → List Tile → Bool
+someMarked N l = any N (λ i. any N (λ j. tileAt l i j .mark))
+
+-- What a whole run makes of its array at the end: 8 if a tile is marked, otherwise the tick and the cells.
+unfoldable pub handedOver : Array → Outcome ℕ
+handedOver x =
+    cond (someMarked (x .n / 2) (x .tiles)) (outcome (told Spoiled) (zeros (x .n)) (zeros (x .n)))
+    (outcome (given (x .tick)) (flat (x .n) (matrixIn (x .tiles))) (flat (x .n) (vectorsIn (x .tiles))))

@@ -1,0 +1,53 @@
+// The whole run on the array (document 01, "The array").
+ghost use mathlib.Core.Path.{_≡_};
+ghost use lib.ListN.{length};
+ghost use Rattle.refusal.specs.Refusal.{given};
+ghost use Rattle.plain_run.specs.Run.{beforeRun, outcome};
+ghost use Rattle.tile_schedule.specs.Answers.{ticksOf};
+ghost use Rattle.array.specs.Runs.{startArray, ticked};
+ghost use Rattle.array_run.specs.Results.{handedOver};
+ghost use Rattle.array_run.specs.Whole.{toldCompletion, wholeOf};
+use array::Array;
+use refusal::Answer;
+use refusal::Refusal;
+
+mod ending;
+
+// What a whole run answers: the number of ticks that it made, or a refusal.
+pub enum Completion {
+    Completed(usize),
+    Refused(Refusal),
+}
+
+// Runs a number of sweeps on a matrix of order n by the array, and leaves the last matrix and the eigenvectors in the two results.
+pub fn run(
+    n: usize,
+    sweeps: usize,
+    matrix: &[f64],
+    result: &mut [f64],
+    vectors: &mut [f64],
+) -> Completion
+    ensures { λ r. ⌜ outcome (toldCompletion r) (now (result .exit)) (now (vectors .exit)) ≡ wholeOf n sweeps (now (matrix .entry)) (now (result .entry)) (now (vectors .entry)) ⌝ }
+{
+    match plain_run::verdict(n, sweeps, matrix, result.len(), vectors.len()) {
+        Answer::Accepted => run_accepted(n, sweeps, matrix, result, vectors),
+        Answer::Refused(refused) => Completion::Refused(refused),
+    }
+}
+
+// A run that is not refused before it.
+fn run_accepted(
+    n: usize,
+    sweeps: usize,
+    matrix: &[f64],
+    result: &mut [f64],
+    vectors: &mut [f64],
+) -> Completion
+    requires { ⌜ beforeRun n sweeps (now matrix) (length (now result)) (length (now vectors)) ≡ given tt ⌝ }
+    ensures { λ r. ⌜ outcome (toldCompletion r) (now (result .exit)) (now (vectors .exit)) ≡ handedOver (ticked (ticksOf n sweeps) (startArray n sweeps (now (matrix .entry)))) ⌝ }
+{
+    let started = Array::start(n, sweeps, matrix);
+    let start = started.array;
+    let end = start.ticks(3 * (sweeps * (n - 1)) + n / 2);
+    ending::hand_over(end, result, vectors)
+}

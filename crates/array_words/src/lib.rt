@@ -1,0 +1,141 @@
+// The record of an array as words in a lent buffer.
+ghost use mathlib.Core.Path.{_≡_};
+ghost use Prim.Native.Nat.{_+_, _≤_};
+ghost use lib.Dec.{eqb};
+ghost use lib.ListN.{length, getD};
+ghost use Rattle.array_words.specs.Words.{tileWords, arrayWords, quadWord, partWord, tileWord, writtenAt, valueAt, quadIn, partIn, tileIn, arrayIn, storedIn};
+use array::Array;
+use tile_wires::Part;
+use tile_wires::Quad;
+use tile::Tile;
+
+// The words of a tile.
+const TILE: usize = 19;
+
+// The words of an array: 3, and those of 256 tiles.
+const ARRAY: usize = 4867;
+
+// Whether so many words are those of an array.
+pub fn is_array(length: usize) -> bool
+    ensures { λ r. ⌜ r ≡ eqb length arrayWords ⌝ }
+{
+    length == ARRAY
+}
+
+// The array in the words. A word beyond their end counts as 0.
+pub fn load(words: &[u64]) -> Array
+    ensures { λ r. ⌜ r ≡ arrayIn (now (words .entry)) ⌝ }
+{
+    let mut tiles = [tile_in(words, 3); 256];
+    for i in 0..256 {
+        tiles[i] = tile_in(words, 3 + i * TILE);
+    }
+    Array {
+        n: word_at(words, 0) as usize,
+        sweeps: word_at(words, 1) as usize,
+        tick: word_at(words, 2) as usize,
+        tiles: tiles,
+    }
+}
+
+// The tile in the words from `at` on.
+fn tile_in(words: &[u64], at: usize) -> Tile
+    requires { ⌜ at + tileWords ≤ arrayWords ⌝ }
+    ensures { λ r. ⌜ r ≡ tileIn (now (words .entry)) at ⌝ }
+{
+    Tile {
+        cells: part_in(words, at),
+        lines: part_in(words, at + 8),
+        row: value_at(words, at + 16),
+        column: value_at(words, at + 17),
+        mark: word_at(words, at + 18) != 0,
+    }
+}
+
+fn part_in(words: &[u64], at: usize) -> Part
+    requires { ⌜ at + 8 ≤ arrayWords ⌝ }
+    ensures { λ r. ⌜ r ≡ partIn (now (words .entry)) at ⌝ }
+{
+    Part {
+        matrix: quad_in(words, at),
+        vectors: quad_in(words, at + 4),
+    }
+}
+
+fn quad_in(words: &[u64], at: usize) -> Quad
+    requires { ⌜ at + 4 ≤ arrayWords ⌝ }
+    ensures { λ r. ⌜ r ≡ quadIn (now (words .entry)) at ⌝ }
+{
+    Quad {
+        alpha: value_at(words, at),
+        beta: value_at(words, at + 1),
+        gamma: value_at(words, at + 2),
+        delta: value_at(words, at + 3),
+    }
+}
+
+fn value_at(words: &[u64], k: usize) -> f64
+    ensures { λ r. ⌜ r ≡ valueAt (now (words .entry)) k ⌝ }
+{
+    float64::from_bits(word_at(words, k))
+}
+
+// The word at k, and 0 beyond the end.
+fn word_at(words: &[u64], k: usize) -> u64
+    ensures { λ r. ⌜ r ≡ getD (now (words .entry)) k 0 ⌝ }
+{
+    if k < words.len() {
+        return words[k];
+    }
+    0
+}
+
+// Writes the words of an array. A slice of another length stays as it is.
+pub fn store(array: Array, words: &mut [u64])
+    ensures { λ _. ⌜ now (words .exit) ≡ storedIn array (now (words .entry)) ⌝ }
+{
+    if words.len() != ARRAY {
+        return;
+    }
+    words[0] = array.n as u64;
+    words[1] = array.sweeps as u64;
+    words[2] = array.tick as u64;
+    for i in 0..256 {
+        let tile = array.tiles[i];
+        store_tile(tile, 3 + i * TILE, words);
+    }
+}
+
+// Writes the words of a tile from `at` on.
+fn store_tile(tile: Tile, at: usize, words: &mut [u64])
+    requires { ⌜ at + tileWords ≤ length (now words) ⌝ }
+    ensures { λ _. ⌜ now (words .exit) ≡ writtenAt at tileWords (tileWord tile) (now (words .entry)) ⌝ }
+{
+    let cells = tile.cells;
+    let lines = tile.lines;
+    store_part(cells, at, words);
+    store_part(lines, at + 8, words);
+    words[at + 16] = float64::to_bits(tile.row);
+    words[at + 17] = float64::to_bits(tile.column);
+    words[at + 18] = tile.mark as u64;
+}
+
+fn store_part(part: Part, at: usize, words: &mut [u64])
+    requires { ⌜ at + 8 ≤ length (now words) ⌝ }
+    ensures { λ _. ⌜ now (words .exit) ≡ writtenAt at 8 (partWord part) (now (words .entry)) ⌝ }
+{
+    let matrix = part.matrix;
+    let vectors = part.vectors;
+    store_quad(matrix, at, words);
+    store_quad(vectors, at + 4, words);
+}
+
+fn store_quad(quad: Quad, at: usize, words: &mut [u64])
+    requires { ⌜ at + 4 ≤ length (now words) ⌝ }
+    ensures { λ _. ⌜ now (words .exit) ≡ writtenAt at 4 (quadWord quad) (now (words .entry)) ⌝ }
+{
+    words[at] = float64::to_bits(quad.alpha);
+    words[at + 1] = float64::to_bits(quad.beta);
+    words[at + 2] = float64::to_bits(quad.gamma);
+    words[at + 3] = float64::to_bits(quad.delta);
+}

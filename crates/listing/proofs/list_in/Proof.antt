@@ -1,0 +1,75 @@
+use Rattle.listing.proofs.Joined.{was-read, within-limit, sheet-listed, sheet-refused}
+use borrow.Author.Needs.{needs}
+use Rattle.listing.proofs.list_in.Statement.{statement}
+use Rattle.listing.proofs.list_in.Tie as tie
+
+read-requires : tie.Need-read-requires
+read-requires c κs = search needs
+
+enum-known-n : tie.Need-enum-known-n
+enum-known-n c = search needs
+
+run-requires : tie.Need-run-requires
+run-requires c κs = let q = was-read _ _ _ _ (c .before .before .before .before .before .before .before .before .before .before .before .before .read .ensures) _ _ (c .before .before .before .before .before .before .n .given .1) in within-limit _ _ _ _ (q .0) (q .1 .as-order)
+
+enum-known-refused : tie.Need-enum-known-refused
+enum-known-refused c = search needs
+
+refuse-requires : tie.Need-refuse-requires
+refuse-requires c κs = search needs
+
+same-length : tie.Need-same-length
+same-length c = search needs
+
+same-length-2 : tie.Need-same-length-2
+same-length-2 c = search needs
+
+same-length-3 : tie.Need-same-length-3
+same-length-3 c = search needs
+
+same-length-4 : tie.Need-same-length-4
+same-length-4 c = search needs
+
+same-length-5 : tie.Need-same-length-5
+same-length-5 c = search needs
+
+returns : tie.Need-returns
+returns c =
+    let s = c .before .before .before .before .before .before .before .before .before .before .before .before .before .before .before .before .before .before .before .before .before .before .before .before .before .before .before .before in
+    let d = c .before .before .before .before .before .before .before .before .before .before .before .before .before .before .before .before .before .before .before in
+    let q = was-read _ _ _ _ (d .read .ensures) _ _ (c .before .before .before .before .before .before .before .before .before .before .before .before .before .n .given .1) in
+    sheet-listed _ (s .args .codes .now) (s .args .matrix .now) _ (λ e. (s .pre e .0, s .pre e .1)) _ _ _ _ (λ e. (s .pre e .2, s .pre e .3)) (q .0) (q .1) (c .before .before .before .before .before .before .run .ensures)
+
+same-length-6 : tie.Need-same-length-6
+same-length-6 c = search needs
+
+same-length-7 : tie.Need-same-length-7
+same-length-7 c = search needs
+
+same-length-8 : tie.Need-same-length-8
+same-length-8 c = search needs
+
+returns-2 : tie.Need-returns-2
+returns-2 c =
+    let s = c .before .before .before .before .before .before .before .before .before .before .before .before .before .before .before .before .before .before .before .before in
+    sheet-refused _ (s .args .codes .now) (s .args .matrix .now) _ (λ e. (s .pre e .0, s .pre e .1)) _ _ (c .before .before .before .before .before .before .before .before .before .before .before .read .ensures) (c .before .before .before .before .before .refused .given .1) (c .before .before .refuse .ensures)
+
+pub list-in-spec : {M : Type 1} → statement M
+list-in-spec =
+    tie.close
+    (tie.spec
+    read-requires
+    enum-known-n
+    run-requires
+    enum-known-refused
+    refuse-requires
+    same-length
+    same-length-2
+    same-length-3
+    same-length-4
+    same-length-5
+    returns
+    same-length-6
+    same-length-7
+    same-length-8
+    returns-2)

@@ -1,0 +1,117 @@
+// The listing of a sheet: read, run by the array and printed (document 01, "The printed sheet").
+ghost use mathlib.Core.Path.{_≡_};
+ghost use mathlib.Core.Bool.{false, cond};
+ghost use Prim.Native.Nat.{_*_, _≤_};
+ghost use lib.Dec.{ltb};
+ghost use lib.ListN.{length};
+ghost use Rattle.refusal.specs.Refusal.{told, toldAnswer, entryOf};
+ghost use Rattle.ordering.specs.Pairs.{noOrder, limit};
+ghost use Rattle.array_run.specs.Whole.{wholeOf};
+ghost use Rattle.sheet.specs.Format.{orderIn};
+ghost use Rattle.listing_text.specs.Printed.{printing, refusedLine};
+ghost use Rattle.listing.specs.Listing.{listed, roomThenRun, listOf};
+use sheet_reader::Reading;
+use refusal::Answer;
+use refusal::Refusal;
+use array_run::Completion;
+
+const LIMIT: usize = 32;
+
+const ENTRIES: usize = 1024;
+
+// What a listing answers, and how many bytes it prints.
+pub struct Listed {
+    pub answer: Answer,
+    pub count: usize,
+}
+
+// Lists a sheet into lent bytes. The buffers have the sizes that the sheet asks for; an order above LIMIT is refused before any is used.
+pub fn list(sheet: &[u8], text: &mut [u8]) -> Listed
+    ensures { λ r. ⌜ listed (toldAnswer (r .answer)) (printing (r .count) (now (text .exit))) ≡ listOf (now (sheet .entry)) (now (text .entry)) ⌝ }
+{
+    let n = order(sheet);
+    let entries = n * n;
+    let mut codes = [0u8; LIMIT];
+    let mut matrix = [0.0; ENTRIES];
+    let mut result = [0.0; ENTRIES];
+    let mut vectors = [0.0; ENTRIES];
+    list_in(
+        sheet,
+        &mut codes[..n],
+        &mut matrix[..entries],
+        &mut result[..entries],
+        &mut vectors[..entries],
+        text,
+    )
+}
+
+// The order in a sheet, 0 where there is none up to LIMIT.
+fn order(sheet: &[u8]) -> usize
+    ensures { λ r. ⌜ r ≡ cond (ltb limit (orderIn (now (sheet .entry)))) 0 (orderIn (now (sheet .entry))) ⌝ }
+{
+    if sheet.len() == 0 {
+        return 0;
+    }
+    let n = sheet[0] as usize;
+    if n > LIMIT {
+        return 0;
+    }
+    n
+}
+
+// Lists a sheet by way of buffers of these sizes.
+fn list_in(
+    sheet: &[u8],
+    codes: &mut [u8],
+    matrix: &mut [f64],
+    result: &mut [f64],
+    vectors: &mut [f64],
+    text: &mut [u8],
+) -> Listed
+    requires { ⌜ (noOrder (orderIn (now sheet)) ≡ false → (length (now codes) ≡ orderIn (now sheet)) × (length (now matrix) ≡ orderIn (now sheet) * orderIn (now sheet)) × (length (now result) ≡ orderIn (now sheet) * orderIn (now sheet)) × (length (now vectors) ≡ orderIn (now sheet) * orderIn (now sheet))) ⌝ }
+    ensures { λ r. ⌜ listed (toldAnswer (r .answer)) (printing (r .count) (now (text .exit))) ≡ listOf (now (sheet .entry)) (now (text .entry)) ⌝ }
+{
+    match sheet_reader::read(sheet, codes, matrix) {
+        Reading::Read(n, sweeps) => run(n, sweeps, codes, matrix, result, vectors, text),
+        Reading::Refused(refused) => refuse(refused, text),
+    }
+}
+
+// Refusal 7, and then the run.
+fn run(
+    n: usize,
+    sweeps: usize,
+    codes: &[u8],
+    matrix: &[f64],
+    result: &mut [f64],
+    vectors: &mut [f64],
+    text: &mut [u8],
+) -> Listed
+    requires { ⌜ n ≤ limit ⌝ }
+    ensures { λ r. ⌜ listed (toldAnswer (r .answer)) (printing (r .count) (now (text .exit))) ≡ roomThenRun n sweeps (now (codes .entry)) (wholeOf n sweeps (now (matrix .entry)) (now (result .entry)) (now (vectors .entry))) (now (text .entry)) ⌝ }
+{
+    if text.len() < 15 + 566 * n {
+        return Listed {
+            answer: Answer::Refused(Refusal::TooShort),
+            count: 0,
+        };
+    }
+    match array_run::run(n, sweeps, matrix, result, vectors) {
+        Completion::Completed(ticks) => Listed {
+            answer: Answer::Accepted,
+            count: listing_text::print(n, sweeps, ticks, codes, result, vectors, text),
+        },
+        Completion::Refused(refused) => refuse(refused, text),
+    }
+}
+
+// The line of a refusal.
+fn refuse(refused: Refusal, text: &mut [u8]) -> Listed
+    ensures { λ r. ⌜ listed (toldAnswer (r .answer)) (printing (r .count) (now (text .exit))) ≡ listed (told refused) (refusedLine (entryOf refused .0) (now (text .entry))) ⌝ }
+{
+    let count = listing_text::print_refusal(refused, text);
+    Listed {
+        answer: Answer::Refused(refused),
+        count: count,
+    }
+}

@@ -1,0 +1,47 @@
+use native.Mathlib.Omega.{arith}
+use Rattle.listing_text.proofs.Pieces.{refusal-not-printed, refusal-printed}
+use borrow.Author.Needs.{needs}
+use Rattle.listing_text.proofs.print_refusal.Statement.{statement}
+use Rattle.listing_text.proofs.print_refusal.Tie as tie
+
+returns : tie.Need-returns
+returns c = refusal-not-printed _ _ (omega arith)
+
+put-word-requires : tie.Need-put-word-requires
+put-word-requires c κs = search needs
+
+number-requires : tie.Need-number-requires
+number-requires c κs = search needs
+
+cast-put-decimal : tie.Need-cast-put-decimal
+cast-put-decimal c = search needs
+
+put-decimal-requires : tie.Need-put-decimal-requires
+put-decimal-requires c κs = search needs
+
+put-requires : tie.Need-put-requires
+put-requires c κs = search needs
+
+same-length : tie.Need-same-length
+same-length c = search needs
+
+returns-2 : tie.Need-returns-2
+returns-2 c =
+    let s = c .before .before in
+    let q = s .before .before .before .before in
+    let k = q .before .before in
+    let p = k .before .before .before in
+    refusal-printed _ _ (omega arith) (k .number .ensures) (p .put-word .ensures .0) (q .put-decimal .ensures .0) (s .put .ensures)
+
+pub print-refusal-spec : {M : Type 1} → statement M
+print-refusal-spec =
+    tie.close
+    (tie.spec
+    returns
+    put-word-requires
+    number-requires
+    cast-put-decimal
+    put-decimal-requires
+    put-requires
+    same-length
+    returns-2)

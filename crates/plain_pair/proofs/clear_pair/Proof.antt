@@ -1,0 +1,39 @@
+use mathlib.Core.Path.{ap, _∙_}
+use native.Mathlib.Omega.{arith}
+use borrow.Author.Needs.{needs}
+use lib.ListN.{length}
+use Rattle.matrix.proofs.Flat.{flat-length}
+use Rattle.matrix_turns.proofs.Two.{are-two}
+use Rattle.plain_pair.proofs.Turning.{cleared}
+use Rattle.plain_pair.proofs.clear_pair.Statement.{statement}
+use Rattle.plain_pair.proofs.clear_pair.Tie as tie
+
+set-entry-requires : tie.Need-set-entry-requires
+set-entry-requires c κs =
+    let t = are-two _ _ _ _ (c .before .before .pre) in
+    let a = t .first-above in
+    let b = t .first-within in
+    let d = t .second-above in
+    let e = t .second-within in
+    (t .long, omega arith, omega arith, omega arith, omega arith)
+
+set-entry-requires-2 : tie.Need-set-entry-requires-2
+set-entry-requires-2 c κs =
+    let s = c .before .before .before in
+    let t = are-two _ _ _ _ (s .before .before .before .pre) in
+    let a = t .first-above in
+    let b = t .first-within in
+    let d = t .second-above in
+    let e = t .second-within in
+    (ap length (s .set-entry .ensures) ∙ flat-length _ _, omega arith, omega arith, omega arith, omega arith)
+
+same-length : tie.Need-same-length
+same-length c = search needs
+
+returns : tie.Need-returns
+returns c =
+    let s = c .before .before in
+    cleared _ _ _ _ _ _ (s .before .before .before .before .set-entry .ensures) (s .set-entry2 .ensures)
+
+pub clear-pair-spec : {M : Type 1} → statement M
+clear-pair-spec = tie.close (tie.spec set-entry-requires set-entry-requires-2 same-length returns)

@@ -1,0 +1,77 @@
+use Prim.Native.Nat.{_-_, _/_, _≤_}
+use mathlib.Core.Path.{refl}
+use native.Mathlib.Omega.{arith}
+use borrow.Author.Needs.{needs}
+use lib.Ieee.{nan}
+use lib.ListN.{getD}
+use Rattle.lists.proofs.Filled.{Filled, filled-none, filled-next}
+use Rattle.ordering.specs.Registers.{most}
+use Rattle.ordering.specs.Pairs.{limit}
+use Rattle.matrix.specs.Matrix.{entryOf}
+use Rattle.matrix_turns.specs.Turns.{pairTangent}
+use Rattle.plain_run.proofs.tangents_of.Statement.{statement}
+use Rattle.plain_run.proofs.tangents_of.Tie as tie
+
+abbrev Inv-loop : tie.InvT-loop
+Inv-loop n a lefts rights tangents₀ k₀ k-end tangents k =
+    (k ≤ n / 2) × (n ≤ limit) × Filled nan (λ i. pairTangent (getD lefts i 0) (getD rights i 0) (entryOf n a)) most k tangents
+
+abbrev μ-loop : tie.MeasureT-loop
+μ-loop n a lefts rights tangents₀ k₀ k-end tangents k = n / 2 - k
+
+loop-holds : tie.Need-loop-holds Inv-loop μ-loop
+loop-holds c = (omega arith, omega arith, filled-none _ refl)
+
+mul-tangent : tie.Need-mul-tangent Inv-loop μ-loop
+mul-tangent c = omega arith
+
+array-read-tangent : tie.Need-array-read-tangent Inv-loop μ-loop
+array-read-tangent c = omega arith
+
+mul-tangent-2 : tie.Need-mul-tangent-2 Inv-loop μ-loop
+mul-tangent-2 c = omega arith
+
+array-read-tangent-2 : tie.Need-array-read-tangent-2 Inv-loop μ-loop
+array-read-tangent-2 c = omega arith
+
+tangent-requires : tie.Need-tangent-requires Inv-loop μ-loop
+tangent-requires c κs = search needs
+
+mul-tangents : tie.Need-mul-tangents Inv-loop μ-loop
+mul-tangents c = omega arith
+
+array-write-tangents : tie.Need-array-write-tangents Inv-loop μ-loop
+array-write-tangents c = omega arith
+
+add-k : tie.Need-add-k Inv-loop μ-loop
+add-k c = omega arith
+
+loop-less : tie.Need-loop-less Inv-loop μ-loop
+loop-less c = omega arith
+
+loop-again : tie.Need-loop-again Inv-loop μ-loop
+loop-again c =
+    let k = c .before .before .loop in
+    (omega arith, k .inv .1, filled-next _ _ _ (k .inv .2) (omega arith) (c .tangent .ensures))
+
+returns : tie.Need-returns Inv-loop μ-loop
+returns c i h = c .before .loop .inv .2 .filled i (omega arith)
+
+pub tangents-of-spec : {M : Type 1} → statement M
+tangents-of-spec =
+    tie.close
+    (tie.spec
+    Inv-loop
+    μ-loop
+    loop-holds
+    mul-tangent
+    array-read-tangent
+    mul-tangent-2
+    array-read-tangent-2
+    tangent-requires
+    mul-tangents
+    array-write-tangents
+    add-k
+    loop-less
+    loop-again
+    returns)

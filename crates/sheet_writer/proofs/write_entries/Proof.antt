@@ -1,0 +1,139 @@
+use borrow.Author.Needs.{needs}
+use Prim.Native.Nat.{ℕ, _+_, _-_, _*_, _≤_}
+use mathlib.Core.Path.{_≡_, refl, _∙_}
+use mathlib.Core.List.{List}
+use native.Mathlib.Omega.{arith}
+use lib.ListN.{length}
+use Rattle.matrix.specs.Matrix.{at}
+use Rattle.matrix.proofs.Within.{entry-in}
+use Rattle.sheet.specs.Format.{sheetLength, entriesFrom, entriesTo}
+use Rattle.sheet.proofs.Triangle.{length-is, rows-below, few-entries}
+use Rattle.sheet_writer.specs.Steps.{withEntries}
+use Rattle.sheet_writer.proofs.Written.{entries-none, entries-next, row-none, row-all, offset-start, offset-row, bytes-long}
+use Rattle.sheet_writer.proofs.write_entries.Statement.{statement}
+use Rattle.sheet_writer.proofs.write_entries.Tie as tie
+
+abbrev Inv-loop2 : tie.InvT-loop2
+Inv-loop2 n matrix sheet₀ offset₀ i j₀ j-end sheet offset j =
+    (j ≤ i + 1) × (length sheet ≡ length sheet₀) × (offset ≡ offset₀ + 8 * j)
+    × ((b : List ℕ) → sheet₀ ≡ withEntries n (at n matrix) (entriesTo i) b → sheet ≡ withEntries n (at n matrix) (entriesTo i + j) b)
+
+abbrev μ-loop2 : tie.MeasureT-loop2
+μ-loop2 n matrix sheet₀ offset₀ i j₀ j-end sheet offset j = i + 1 - j
+
+abbrev Inv-loop : tie.InvT-loop
+Inv-loop n matrix sheet₀ offset₀ i₀ sheet offset i =
+    (i ≤ n) × (length sheet ≡ length sheet₀) × (offset ≡ entriesFrom n + 8 * entriesTo i) × (sheet ≡ withEntries n (at n matrix) (entriesTo i) sheet₀)
+
+abbrev μ-loop : tie.MeasureT-loop
+μ-loop n matrix sheet₀ offset₀ i₀ sheet offset i = n - i
+
+-- there is room for the entry
+room : (c : tie.In-loop2 Inv-loop2 μ-loop2 Inv-loop μ-loop) → c .before .loop2 .offset + 8 ≤ sheetLength (c .before .before .before .before .before .before .args .n)
+room c =
+    let n = c .before .before .before .before .before .before .args .n in
+    let u = c .before .loop2 .inv in
+    let v = c .before .before .before .loop .inv in
+    let w = rows-below (c .before .before .before .loop .i) n (omega arith) in
+    let l = length-is n in
+    omega arith
+
+add-offset : tie.Need-add-offset Inv-loop2 μ-loop2 Inv-loop μ-loop
+add-offset c = omega arith
+
+loop-holds : tie.Need-loop-holds Inv-loop2 μ-loop2 Inv-loop μ-loop
+loop-holds c = (omega arith, refl, offset-start _, entries-none _ _ _)
+
+add-j-end : tie.Need-add-j-end Inv-loop2 μ-loop2 Inv-loop μ-loop
+add-j-end c = omega arith
+
+loop2-holds : tie.Need-loop2-holds Inv-loop2 μ-loop2 Inv-loop μ-loop
+loop2-holds c = (omega arith, refl, omega arith, λ b e. row-none _ _ b _ e)
+
+add-entry : tie.Need-add-entry Inv-loop2 μ-loop2 Inv-loop μ-loop
+add-entry c = omega arith
+
+add-entry-2 : tie.Need-add-entry-2 Inv-loop2 μ-loop2 Inv-loop μ-loop
+add-entry-2 c = omega arith
+
+entry-requires : tie.Need-entry-requires Inv-loop2 μ-loop2 Inv-loop μ-loop
+entry-requires c κs = search needs
+
+to-bits-requires : tie.Need-to-bits-requires Inv-loop2 μ-loop2 Inv-loop μ-loop
+to-bits-requires c κs = search needs
+
+put-word-requires : tie.Need-put-word-requires Inv-loop2 μ-loop2 Inv-loop μ-loop
+put-word-requires c κs =
+    let k = c .before .before .before in
+    let u = k .before .loop2 .inv in
+    let v = k .before .before .before .loop .inv in
+    omega (arith, room k)
+
+add-offset-2 : tie.Need-add-offset-2 Inv-loop2 μ-loop2 Inv-loop μ-loop
+add-offset-2 c =
+    let k = c .before .before .before .before .before .before in
+    let s = k .before .before .before .before .before .before in
+    omega (arith, room k, few-entries (s .args .n) (s .pre .0) .2)
+
+add-j : tie.Need-add-j Inv-loop2 μ-loop2 Inv-loop μ-loop
+add-j c = omega arith
+
+loop2-less : tie.Need-loop2-less Inv-loop2 μ-loop2 Inv-loop μ-loop
+loop2-less c = omega arith
+
+loop2-again : tie.Need-loop2-again Inv-loop2 μ-loop2 Inv-loop μ-loop
+loop2-again c =
+    let p = c .before .before in
+    let k = p .before .before .before .before in
+    let u = k .before .loop2 .inv in (
+      omega arith,
+      bytes-long _ _ _ _ (p .put-word .ensures) ∙ u .1,
+      omega arith,
+      λ b e. entries-next _ _ b _ _ (omega arith) (u .3 b e) (p .before .before .before .entry .ensures ∙ entry-in _ _ _ _ (k .before .before .before .before .before .before .pre .1) (omega arith) (omega arith)) (p .before .before .to-bits .ensures) (omega arith) (p .put-word .ensures),
+    )
+
+add-i : tie.Need-add-i Inv-loop2 μ-loop2 Inv-loop μ-loop
+add-i c = omega arith
+
+loop-less : tie.Need-loop-less Inv-loop2 μ-loop2 Inv-loop μ-loop
+loop-less c = omega arith
+
+loop-again : tie.Need-loop-again Inv-loop2 μ-loop2 Inv-loop μ-loop
+loop-again c =
+    let u = c .before .loop2 .inv in
+    let v = c .before .before .before .loop .inv in
+    let e : c .before .loop2 .j ≡ c .before .before .before .loop .i + 1 = omega arith in
+    (omega arith, u .1 ∙ v .1, offset-row _ _ (v .2) (rw e at (u .2)), row-all _ _ _ _ (rw e at (u .3 _ (v .3))))
+
+same-length : tie.Need-same-length Inv-loop2 μ-loop2 Inv-loop μ-loop
+same-length c = omega arith
+
+returns : tie.Need-returns Inv-loop2 μ-loop2 Inv-loop μ-loop
+returns c = let e : c .before .loop .i ≡ c .before .before .before .before .args .n = omega arith in rw e at (c .before .loop .inv .3)
+
+pub write-entries-spec : {M : Type 1} → statement M
+write-entries-spec =
+    tie.close
+    (tie.spec
+    Inv-loop2
+    μ-loop2
+    Inv-loop
+    μ-loop
+    add-offset
+    loop-holds
+    add-j-end
+    loop2-holds
+    add-entry
+    add-entry-2
+    entry-requires
+    to-bits-requires
+    put-word-requires
+    add-offset-2
+    add-j
+    loop2-less
+    loop2-again
+    add-i
+    loop-less
+    loop-again
+    same-length
+    returns)

@@ -1,0 +1,120 @@
+// The records of a step (document 01, "One rotation", last paragraph).
+ghost use mathlib.Core.Path.{_≡_};
+ghost use mathlib.Core.Bool.{cond};
+ghost use Prim.Native.Nat.{_/_};
+ghost use lib.Dec.{ltb};
+ghost use Rattle.refusal.specs.Refusal.{told, given, toldAnswer};
+ghost use Rattle.refusal.specs.declared.Refusal.the-variants.{TooShort};
+ghost use Rattle.ordering.specs.Pairs.{orNone, registersAt};
+ghost use Rattle.step_records.specs.Records.{recordOf, recordAt, beforeRecords, rowOutcome, recordsOf, written};
+use ordering::Registers;
+use refusal::Answer;
+use refusal::Refusal;
+use rotation::Parameters;
+
+// Tangent, cosine and sine of a pair.
+pub struct Record {
+    pub t: f64,
+    pub c: f64,
+    pub s: f64,
+}
+
+// An answer, and the row beside it.
+pub struct Recorded {
+    pub answer: Answer,
+    pub row: [Record; 16],
+}
+
+// Writes the records of a step's N pairs to the front of a lent row.
+pub fn of_step(n: usize, matrix: &[f64], step: usize, row: &mut [Record]) -> Answer
+    ensures { λ r. ⌜ rowOutcome (toldAnswer r) (now (row .exit)) ≡ recordsOf n (now (matrix .entry)) step (now (row .entry)) ⌝ }
+{
+    let answer = verdict(n, matrix, row.len());
+    let count = count(n, answer);
+    let registers = registers(n, step);
+    let mut k = 0;
+    while k < count {
+        row[k] = of_processor(n, matrix, registers, k);
+        k = k + 1;
+    }
+    answer
+}
+
+// The same for a row that is handed over and given back.
+pub fn in_row(n: usize, matrix: &[f64], step: usize, row: [Record; 16]) -> Recorded
+    ensures { λ r. ⌜ rowOutcome (toldAnswer (r .answer)) (r .row) ≡ recordsOf n (now (matrix .entry)) step row ⌝ }
+{
+    let mut written = row;
+    let answer = of_step(n, matrix, step, &mut written);
+    Recorded {
+        answer: answer,
+        row: written,
+    }
+}
+
+// Refusals 1, 3, 5, 6 and 7 of a call that is lent a row of `room` records.
+pub fn verdict(n: usize, matrix: &[f64], room: usize) -> Answer
+    ensures { λ r. ⌜ toldAnswer r ≡ beforeRecords n (now (matrix .entry)) room ⌝ }
+{
+    if ordering::is_no_order(n) {
+        return Answer::Refused(Refusal::Order);
+    }
+    match matrix::tested(n, matrix) {
+        Answer::Accepted => with_room(n, room),
+        Answer::Refused(refused) => Answer::Refused(refused),
+    }
+}
+
+// Refusal 7.
+fn with_room(n: usize, room: usize) -> Answer
+    ensures { λ r. ⌜ toldAnswer r ≡ cond (ltb room (n / 2)) (told TooShort) (given tt) ⌝ }
+{
+    if room < n / 2 {
+        return Answer::Refused(Refusal::TooShort);
+    }
+    Answer::Accepted
+}
+
+// How many records are written.
+fn count(n: usize, answer: Answer) -> usize
+    ensures { λ r. ⌜ r ≡ written n (toldAnswer answer) ⌝ }
+{
+    match answer {
+        Answer::Accepted => n / 2,
+        Answer::Refused(_) => 0,
+    }
+}
+
+// The registers at a step, zeros only where the order is refused.
+fn registers(n: usize, step: usize) -> Registers
+    ensures { λ r. ⌜ r ≡ orNone n (registersAt n step) ⌝ }
+{
+    let listed = ordering::pairs(n, step);
+    listed.registers
+}
+
+// The record of the pair of processor k, from 0.
+pub fn of_processor(n: usize, matrix: &[f64], registers: Registers, k: usize) -> Record
+    ensures { λ r. ⌜ r ≡ recordAt n (now (matrix .entry)) registers k ⌝ }
+{
+    let lefts = registers.left;
+    let rights = registers.right;
+    if k < 16 {
+        return of_parameters(matrix_turns::parameters(n, lefts[k], rights[k], matrix));
+    }
+    of_parameters(matrix_turns::parameters(n, 0, 0, matrix))
+}
+
+// The record of a pair.
+pub fn of_parameters(parameters: Parameters) -> Record
+    ensures { λ r. ⌜ r ≡ recordOf parameters ⌝ }
+{
+    match parameters {
+        Parameters::Still => Record {
+            t: 0.0,
+            c: 1.0,
+            s: 0.0,
+        },
+        Parameters::Turn(t, c, s) => Record { t: t, c: c, s: s },
+    }
+}

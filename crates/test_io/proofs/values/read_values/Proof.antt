@@ -1,0 +1,76 @@
+-- The index stays within the slice, which keeps its length. The measure is what is left of it. Assumes nothing.
+use Prim.Native.Nat.{_-_, _≤_}
+use mathlib.Core.Path.{_≡_}
+use borrow.Author.Needs.{needs}
+use lib.ListN.{length}
+use Rattle.test_io.proofs.values.read_values.Statement.{statement}
+use Rattle.test_io.proofs.values.read_values.Tie as tie
+
+abbrev Inv-loop : tie.InvT-loop
+Inv-loop a₀ k₀ k-end a k = (k ≤ length a₀) × (length a ≡ length a₀)
+
+abbrev μ-loop : tie.MeasureT-loop
+μ-loop a₀ k₀ k-end a k = length a₀ - k
+
+loop-holds : tie.Need-loop-holds Inv-loop μ-loop
+loop-holds c = search needs
+
+read-word-requires : tie.Need-read-word-requires Inv-loop μ-loop
+read-word-requires c κs = search needs
+
+enum-known-word : tie.Need-enum-known-word Inv-loop μ-loop
+enum-known-word c = search needs
+
+enum-told : tie.Need-enum-told Inv-loop μ-loop
+enum-told c = search needs
+
+same-length : tie.Need-same-length Inv-loop μ-loop
+same-length c = search needs
+
+returns : tie.Need-returns Inv-loop μ-loop
+returns c = search needs
+
+from-bits-requires : tie.Need-from-bits-requires Inv-loop μ-loop
+from-bits-requires c κs = search needs
+
+mul-a : tie.Need-mul-a Inv-loop μ-loop
+mul-a c = search needs
+
+slice-write-a : tie.Need-slice-write-a Inv-loop μ-loop
+slice-write-a c = search needs
+
+add-k : tie.Need-add-k Inv-loop μ-loop
+add-k c = search needs
+
+loop-less : tie.Need-loop-less Inv-loop μ-loop
+loop-less c = search needs
+
+loop-again : tie.Need-loop-again Inv-loop μ-loop
+loop-again c = search needs
+
+same-length-2 : tie.Need-same-length-2 Inv-loop μ-loop
+same-length-2 c = search needs
+
+returns-2 : tie.Need-returns-2 Inv-loop μ-loop
+returns-2 c = search needs
+
+pub read-values-spec : {M : Type 1} → statement M
+read-values-spec =
+    tie.close
+    (tie.spec
+    Inv-loop
+    μ-loop
+    loop-holds
+    read-word-requires
+    enum-known-word
+    enum-told
+    same-length
+    returns
+    from-bits-requires
+    mul-a
+    slice-write-a
+    add-k
+    loop-less
+    loop-again
+    same-length-2
+    returns-2)

@@ -1,0 +1,61 @@
+-- The lines that the crate reads and writes, as lists of ASCII codes. Definitions only.
+use mathlib.Core.Path.{_≡_}
+use mathlib.Core.Bool.{cond}
+use mathlib.Core.List.{List, [], _∷_, _++_}
+use Prim.Native.Nat.{ℕ, zero, suc, _+_, _-_, _*_, _/_, _%_}
+use lib.Dec.{ltb, leb, eqb}
+use lib.ListN.{length, take, getD}
+use Rattle.io.specs.Digits.{digits, Fewest}
+use Rattle.test_io.specs.declared.Line.{Line}
+use Rattle.test_io.specs.declared.Line.the-variants.{Word, End}
+
+-- The code of a digit below 16: `0` to `9`, then `A` to `F`.
+abbrev pub codeOf : ℕ → ℕ
+codeOf d = cond (ltb d 10) (48 + d) (55 + d)
+
+-- The digit that b is the code of, and 16 where it is none's.
+unfoldable pub digitOf : ℕ → ℕ
+digitOf b = cond (ltb b 48) 16 (cond (leb b 57) (b - 48) (cond (ltb b 65) 16 (cond (leb b 70) (b - 55) 16)))
+
+-- The last k hexadecimal digits of n, the highest first.
+unfoldable pub hexOf : ℕ → ℕ → List ℕ
+hexOf zero n = []
+hexOf (suc k) n = hexOf k (n / 16) ++ (codeOf (n % 16) ∷ [])
+
+-- The line of n: 16 digits and a newline.
+unfoldable pub lineOf : ℕ → List ℕ
+unfolding hexOf
+lineOf n = hexOf 16 n ++ (10 ∷ [])
+
+-- What is read so far, and the digit after it.
+unfoldable pub then : Line → ℕ → Line
+then End d = End
+then (Word n) d = cond (ltb d 16) (Word (n * 16 + d)) End
+
+-- What the first k bytes of a line spell.
+unfoldable pub spelt : ℕ → List ℕ → Line
+unfolding then digitOf
+spelt zero s = Word 0
+spelt (suc k) s = then (spelt k s) (digitOf (getD s k 0))
+
+-- What is read, where the byte b is the last of its line.
+unfoldable pub ended : Line → ℕ → Line
+ended End b = End
+ended (Word n) b = cond (eqb b 10) (Word n) End
+
+-- What stands in a line: 16 digits and a newline, or nothing that can be read.
+unfoldable pub wordOf : List ℕ → Line
+unfolding spelt ended
+wordOf s = ended (spelt 16 s) (getD s 16 0)
+
+-- What a line is after a text is put into it from at on, and where the text ends.
+pub record Extended (line : List ℕ) (at : ℕ) (text after : List ℕ) (end : ℕ) : Type 0 where
+  pub ends : end ≡ at + length text
+  pub begins : take end after ≡ take at line ++ text
+  pub as-long : length after ≡ length line
+
+-- A word, a space, n in decimal and a newline.
+pub record Numbered (word : List ℕ) (n : ℕ) (text : List ℕ) : Type 0 where
+  pub count : ℕ
+  pub fewest : Fewest 10 1 n count
+  pub is : text ≡ word ++ (32 ∷ (digits 10 count n ++ (10 ∷ [])))

@@ -1,0 +1,133 @@
+// Lines of text for test programs: u64 words as 16 hexadecimal digits in capital letters, read from
+// standard input and written to standard output, and decimal numbers after a word. The modules have
+// what such programs read and write in these lines: values, refusals, and the heads of runs.
+ghost use mathlib.Core.Path.{_≡_};
+ghost use Prim.Native.Nat.{_+_, _<_, _≤_};
+ghost use lib.ListN.{length, take};
+ghost use Rattle.io.specs.Counts.{Counts};
+ghost use Rattle.test_io.specs.Lines.{codeOf, digitOf, lineOf, wordOf, Extended, Numbered};
+use libc::STDIN_FILENO;
+use libc::STDOUT_FILENO;
+
+pub mod refusals;
+pub mod runs;
+pub mod values;
+
+pub enum Line {
+    Word(u64),
+    End,
+}
+
+// Reads a line of standard input. Its end, and a line that is not 16 digits and a newline, are End.
+pub fn read_word() -> Line {
+    let mut line = [0u8; 17];
+    let n = io::read_full(STDIN_FILENO, &mut line);
+    if n < 17 {
+        return Line::End;
+    }
+    parse(&line)
+}
+
+// Writes n as a line of 16 digits, and answers as io::write_all does.
+pub fn print_word(n: u64) -> bool {
+    let line = spell(n);
+    io::write_all(STDOUT_FILENO, &line)
+}
+
+// Writes word, a space, n in decimal and a newline, and answers as io::write_all does. A word of
+// more than 32 bytes is not written, and the answer is false.
+pub fn print_number(word: &[u8], n: u64) -> bool {
+    if word.len() > 32 {
+        return false;
+    }
+    let mut line = [0u8; 54];
+    let k = number(word, n, &mut line);
+    io::write_all(STDOUT_FILENO, &line[..k])
+}
+
+// What stands in a line, which is a word or else End.
+fn parse(line: &[u8; 17]) -> Line
+    ensures { λ r. ⌜ r ≡ wordOf (now (line .entry)) ⌝ }
+{
+    let mut n: u64 = 0;
+    let mut i = 0;
+    while i < 16 {
+        let d = digit(line[i]);
+        if d > 15 {
+            return Line::End;
+        }
+        n = n * 16 + d;
+        i += 1;
+    }
+    if line[16] == b'\n' {
+        return Line::Word(n);
+    }
+    Line::End
+}
+
+// The line of n: 16 digits and a newline.
+fn spell(n: u64) -> [u8; 17]
+    ensures { λ r. ⌜ r ≡ lineOf n ⌝ }
+{
+    let mut line = [b'\n'; 17];
+    let mut rest = n;
+    let mut i = 16;
+    while i > 0 {
+        i -= 1;
+        line[i] = code(rest % 16);
+        rest /= 16;
+    }
+    line
+}
+
+// Puts word, a space, n in decimal and a newline at the start of line, and answers their length.
+fn number(word: &[u8], n: u64, line: &mut [u8]) -> usize
+    requires { ⌜ length (now word) + 22 ≤ length (now line) ⌝ }
+    ensures { λ r. ⌜ Counts r (now (line .exit)) ⌝ }
+    ensures { λ r. ⌜ Numbered (now (word .entry)) n (take r (now (line .exit))) ⌝ }
+{
+    let mut digits = [0u8; 20];
+    let k = io::decimal(n, &mut digits);
+    let mut at = put(line, 0, word);
+    at = put(line, at, b" ");
+    at = put(line, at, &digits[..k]);
+    put(line, at, b"\n")
+}
+
+// Puts text into line from at on, and answers where it ends.
+fn put(line: &mut [u8], at: usize, text: &[u8]) -> usize
+    requires { ⌜ at + length (now text) ≤ length (now line) ⌝ }
+    ensures { λ r. ⌜ Extended (now (line .entry)) at (now (text .entry)) (now (line .exit)) r ⌝ }
+{
+    at + bytes::copy(text, &mut line[at..])
+}
+
+// The digit that b is the code of, and 16 where it is none's.
+fn digit(b: u8) -> u64
+    ensures { λ r. ⌜ r ≡ digitOf b ⌝ }
+{
+    if b < b'0' {
+        return 16;
+    }
+    if b <= b'9' {
+        return (b - b'0') as u64;
+    }
+    if b < b'A' {
+        return 16;
+    }
+    if b <= b'F' {
+        return (b - b'A' + 10) as u64;
+    }
+    16
+}
+
+// The code of the digit d.
+fn code(d: u64) -> u8
+    requires { ⌜ d < 16 ⌝ }
+    ensures { λ r. ⌜ r ≡ codeOf d ⌝ }
+{
+    if d < 10 {
+        return b'0' + d as u8;
+    }
+    b'A' - 10 + d as u8
+}

@@ -1,0 +1,82 @@
+// Reads calls for the records of a step, one word to a line: the order, the length of the matrix, the step, the length of a lent row, the
+// word that the row is filled with, and the matrix. Writes for each the refusal of a row of that length, if it is
+// refused, the refusal of a row of 16 records, and the words of these.
+// tools/records_vectors.py writes the input and the expected output.
+use test_io::Line;
+use test_io::refusals;
+use test_io::runs::LIMIT;
+use test_io::values;
+use step_records::Record;
+
+// A proved loop has to end, so it counts its turns down, from a number that no input uses up.
+fn main() {
+    let mut turns = u64::MAX;
+    while turns > 0 && answer_call() {
+        turns -= 1;
+    }
+}
+
+fn answer_call() -> bool {
+    let Line::Word(n) = test_io::read_word() else {
+        return false;
+    };
+    let Line::Word(length) = test_io::read_word() else {
+        return false;
+    };
+    let Line::Word(step) = test_io::read_word() else {
+        return false;
+    };
+    let Line::Word(room) = test_io::read_word() else {
+        return false;
+    };
+    let Line::Word(fill) = test_io::read_word() else {
+        return false;
+    };
+    lend(
+        n as usize,
+        length as usize,
+        step as usize,
+        room as usize,
+        float64::from_bits(fill),
+    )
+}
+
+// Lends a call a part of its own buffer. A length above LIMIT ends the program.
+fn lend(n: usize, length: usize, step: usize, room: usize, fill: f64) -> bool {
+    if length > LIMIT {
+        return false;
+    }
+    let mut matrix = [0.0; LIMIT];
+    answer(n, step, room, fill, &mut matrix[..length])
+}
+
+// Reads the matrix, asks for the records and writes them.
+fn answer(n: usize, step: usize, room: usize, fill: f64, matrix: &mut [f64]) -> bool {
+    if !values::read_values(matrix) {
+        return false;
+    }
+    let verdict = step_records::verdict(n, matrix, room);
+    let filled = Record {
+        t: fill,
+        c: fill,
+        s: fill,
+    };
+    let recorded = step_records::in_row(n, matrix, step, [filled; 16]);
+    let told = recorded.answer;
+    let row = recorded.row;
+    refusals::print_answer(verdict) && refusals::print_answer(told) && print_row(row)
+}
+
+fn print_row(row: [Record; 16]) -> bool {
+    for k in 0..16 {
+        let record = row[k];
+        if !print_record(record) {
+            return false;
+        }
+    }
+    true
+}
+
+fn print_record(record: Record) -> bool {
+    values::print_value(record.t) && values::print_value(record.c) && values::print_value(record.s)
+}

@@ -1,0 +1,45 @@
+// Reads the bit patterns of a = a_pp, d = a_qq and b = a_pq of each pair, one to a line, and writes
+// its parameters: still, or the bits of the tangent, the cosine and the sine, one to a line.
+// tools/rotation_vectors.py writes the input and the expected output.
+use test_io::Line;
+use test_io::values;
+use libc::STDOUT_FILENO;
+use rotation::Parameters;
+
+// A proved loop has to end, so it counts its turns down, from a number that no run uses up.
+fn main() {
+    let mut turns = u64::MAX;
+    while turns > 0 && answer_pair() {
+        turns -= 1;
+    }
+}
+
+// Answers one pair, and says whether there may be another.
+fn answer_pair() -> bool {
+    let Line::Word(a) = test_io::read_word() else {
+        return false;
+    };
+    let Line::Word(d) = test_io::read_word() else {
+        return false;
+    };
+    let Line::Word(b) = test_io::read_word() else {
+        return false;
+    };
+    answer(
+        float64::from_bits(a),
+        float64::from_bits(d),
+        float64::from_bits(b),
+    )
+}
+
+// Writes the parameters of a pair.
+fn answer(a: f64, d: f64, b: f64) -> bool {
+    match rotation::of_pair(a, d, b) {
+        Parameters::Still => io::write_all(STDOUT_FILENO, b"still\n"),
+        Parameters::Turn(t, c, s) => print_turn(t, c, s),
+    }
+}
+
+fn print_turn(t: f64, c: f64, s: f64) -> bool {
+    values::print_value(t) && values::print_value(c) && values::print_value(s)
+}

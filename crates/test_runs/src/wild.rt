@@ -1,0 +1,73 @@
+// Ticks of wild records: the order, the sweeps, the tick, and the word that every cell and line of all tiles
+// holds. The answer is what the tick answered, the number of the refusal if it is refused, and the record.
+use crate::record;
+use array::Array;
+use test_io::Line;
+use tile_wires::Part;
+use tile_wires::Quad;
+use tile_schedule::Progress;
+use tile::Tile;
+
+pub fn answer_tick() -> bool {
+    let Line::Word(n) = test_io::read_word() else {
+        return false;
+    };
+    let Line::Word(sweeps) = test_io::read_word() else {
+        return false;
+    };
+    let Line::Word(tick) = test_io::read_word() else {
+        return false;
+    };
+    let Line::Word(word) = test_io::read_word() else {
+        return false;
+    };
+    let value = float64::from_bits(word);
+    let array = filled(n as usize, sweeps as usize, tick as usize, value);
+    answer(array)
+}
+
+// The record with one value in every cell and line, no tile marked.
+fn filled(n: usize, sweeps: usize, tick: usize, value: f64) -> Array {
+    let quad = Quad {
+        alpha: value,
+        beta: value,
+        gamma: value,
+        delta: value,
+    };
+    let part = Part {
+        matrix: quad,
+        vectors: quad,
+    };
+    let tile = Tile {
+        cells: part,
+        lines: part,
+        row: value,
+        column: value,
+        mark: false,
+    };
+    Array {
+        n: n,
+        sweeps: sweeps,
+        tick: tick,
+        tiles: [tile; 256],
+    }
+}
+
+// Makes a tick and writes what it answers and gives back.
+fn answer(array: Array) -> bool {
+    let ticked = array.tick();
+    let progress = ticked.answer;
+    let next = ticked.array;
+    print_progress(progress) && record::print_sample(next)
+}
+
+// Writes what a tick answered and, if it is refused, the number of the refusal.
+fn print_progress(progress: Progress) -> bool {
+    if !test_io::print_word(record::number_of(progress)) {
+        return false;
+    }
+    match progress {
+        Progress::Refused(refused) => test_io::print_word(refusal::number(refused) as u64),
+        _ => true,
+    }
+}

@@ -1,0 +1,37 @@
+// The buffers that calls are lent parts of.
+use crate::calls;
+use crate::calls::Call;
+use test_io::runs::LIMIT;
+
+const SHEET: usize = 4800;
+
+const CODES: usize = 40;
+
+// Lends a call the first parts of filled buffers. A length above that of its buffer ends the program.
+pub fn lend(
+    call: Call,
+    sheet_size: usize,
+    codes_size: usize,
+    matrix_size: usize,
+    byte: u8,
+    value: f64,
+) -> bool {
+    if sheet_size > SHEET {
+        return false;
+    }
+    if codes_size > CODES {
+        return false;
+    }
+    if matrix_size > LIMIT {
+        return false;
+    }
+    let mut sheet = [byte; SHEET];
+    let mut codes = [byte; CODES];
+    let mut matrix = [value; LIMIT];
+    calls::answer(
+        call,
+        &mut sheet[..sheet_size],
+        &mut codes[..codes_size],
+        &mut matrix[..matrix_size],
+    )
+}

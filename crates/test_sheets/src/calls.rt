@@ -1,0 +1,55 @@
+// The calls: what they take is read into the lent buffers, and then what they answer and give is written.
+use crate::packed;
+use test_io::refusals;
+use test_io::values;
+use sheet_reader::Reading;
+
+// Of a writing the order and the sweeps.
+pub enum Call {
+    Read,
+    Write(usize, usize),
+}
+
+pub fn answer(call: Call, sheet: &mut [u8], codes: &mut [u8], matrix: &mut [f64]) -> bool {
+    match call {
+        Call::Read => answer_read(sheet, codes, matrix),
+        Call::Write(n, sweeps) => answer_write(n, sweeps, codes, matrix, sheet),
+    }
+}
+
+// Reads a sheet, and writes the order and the sweeps, or the refusal, and in both cases the codes and the
+// matrix.
+fn answer_read(sheet: &mut [u8], codes: &mut [u8], matrix: &mut [f64]) -> bool {
+    if !packed::read_bytes(sheet) {
+        return false;
+    }
+    let reading = sheet_reader::read(sheet, codes, matrix);
+    print_reading(reading) && packed::print_bytes(codes) && values::print_values(matrix)
+}
+
+fn print_reading(reading: Reading) -> bool {
+    match reading {
+        Reading::Read(n, sweeps) => {
+            test_io::print_word(n as u64) && test_io::print_word(sweeps as u64)
+        }
+        Reading::Refused(refused) => refusals::print_refusal(refused),
+    }
+}
+
+// Reads codes and a matrix, and writes the refusal, if there is one, and in both cases the sheet.
+fn answer_write(
+    n: usize,
+    sweeps: usize,
+    codes: &mut [u8],
+    matrix: &mut [f64],
+    sheet: &mut [u8],
+) -> bool {
+    if !packed::read_bytes(codes) {
+        return false;
+    }
+    if !values::read_values(matrix) {
+        return false;
+    }
+    let answer = sheet_writer::write(n, sweeps, codes, matrix, sheet);
+    refusals::print_answer(answer) && packed::print_bytes(sheet)
+}

@@ -1,0 +1,87 @@
+// Reads cases of sheets, one word to a line, and writes what comes of each. A case begins with the number of
+// its kind: 0 is a reading and 1 a writing.
+// tools/sheet_vectors.py writes the input and the expected output.
+use calls::Call;
+use test_io::Line;
+
+mod buffers;
+mod calls;
+mod packed;
+
+// A proved loop has to end, so it counts its turns down, from a number that no run uses up.
+fn main() {
+    let mut turns = u64::MAX;
+    while turns > 0 && answer_case() {
+        turns -= 1;
+    }
+}
+
+// Answers one case, and says whether there may be another.
+fn answer_case() -> bool {
+    let Line::Word(kind) = test_io::read_word() else {
+        return false;
+    };
+    match kind {
+        0 => answer_reading(),
+        1 => answer_writing(),
+        _ => false,
+    }
+}
+
+// Reads the lengths of the sheet, of the codes and of the matrix, and what the last two are filled with.
+fn answer_reading() -> bool {
+    let Line::Word(sheet) = test_io::read_word() else {
+        return false;
+    };
+    let Line::Word(codes) = test_io::read_word() else {
+        return false;
+    };
+    let Line::Word(matrix) = test_io::read_word() else {
+        return false;
+    };
+    let Line::Word(byte) = test_io::read_word() else {
+        return false;
+    };
+    let Line::Word(pattern) = test_io::read_word() else {
+        return false;
+    };
+    buffers::lend(
+        Call::Read,
+        sheet as usize,
+        codes as usize,
+        matrix as usize,
+        (byte % 256) as u8,
+        float64::from_bits(pattern),
+    )
+}
+
+// Reads the order, the sweeps, the lengths of the codes, of the matrix and of the sheet, and what the last is
+// filled with.
+fn answer_writing() -> bool {
+    let Line::Word(n) = test_io::read_word() else {
+        return false;
+    };
+    let Line::Word(sweeps) = test_io::read_word() else {
+        return false;
+    };
+    let Line::Word(codes) = test_io::read_word() else {
+        return false;
+    };
+    let Line::Word(matrix) = test_io::read_word() else {
+        return false;
+    };
+    let Line::Word(sheet) = test_io::read_word() else {
+        return false;
+    };
+    let Line::Word(byte) = test_io::read_word() else {
+        return false;
+    };
+    buffers::lend(
+        Call::Write(n as usize, sweeps as usize),
+        sheet as usize,
+        codes as usize,
+        matrix as usize,
+        (byte % 256) as u8,
+        0.0,
+    )
+}
