@@ -1,7 +1,7 @@
-pub mod Starting
-pub mod Running
-pub mod Nearby
-pub mod Made
-pub mod Handed
-pub mod Staying
-pub mod Recalling
+pub mod ArrayStart
+pub mod TicksInARow
+pub mod TileNeighbours
+pub mod TickedTiles
+pub mod TickedArray
+pub mod ArrayEnd
+pub mod AngleTable

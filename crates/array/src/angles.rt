@@ -2,9 +2,11 @@
 ghost use mathlib.Core.Path.{_≡_};
 ghost use Prim.Native.Nat.{_*_, _<_};
 ghost use Rattle.rotation.specs.Rotation.{angleOf};
-ghost use Rattle.ordering.specs.Registers.{most};
+ghost use Rattle.sizes.specs.Sizes.{mostProcessors};
 ghost use Rattle.array.specs.Angles.{Known};
 use rotation::Angle;
+use sizes::MOST_PROCESSORS;
+use sizes::MOST_TILES;
 
 // The angle of the tangent t that passes along the row or column `line` and reaches the tile where it crosses `other`. It is looked up in two
 // arrays of known tangents and cosines, and kept there. A tile on the diagonal has no use for it.
@@ -13,8 +15,8 @@ pub fn known(
     tick: usize,
     line: usize,
     other: usize,
-    tangents: &mut [f64; 256],
-    cosines: &mut [f64; 256],
+    tangents: &mut [f64; MOST_TILES],
+    cosines: &mut [f64; MOST_TILES],
 ) -> Angle
     requires { ⌜ Known (now tangents) (now cosines) ⌝ }
     ensures { λ r. ⌜ (¬ (line ≡ other) → r ≡ angleOf t) × Known (now (tangents .exit)) (now (cosines .exit)) ⌝ }
@@ -49,11 +51,11 @@ fn recalled(t: f64, old: Angle) -> Angle
 
 // Where an angle is kept: a tangent moves by one tile a tick, so T - Δ is the same for all tiles that it reaches.
 fn place(tick: usize, line: usize, other: usize) -> usize
-    ensures { λ r. ⌜ r < most * most ⌝ }
+    ensures { λ r. ⌜ r < mostProcessors * mostProcessors ⌝ }
 {
     let away = tile_schedule::distance(line, other);
     if tick < away {
         return 0;
     }
-    line % 16 * 16 + (tick - away) % 16
+    line % MOST_PROCESSORS * MOST_PROCESSORS + (tick - away) % MOST_PROCESSORS
 }

@@ -4,18 +4,20 @@ ghost use Rattle.array.specs.Arrays.{Ticks};
 ghost use Rattle.array.specs.Runs.{startArray, noArray, Starts, GoesOn, ticked};
 use refusal::Answer;
 use rotation::Angle;
-use tile_schedule::Progress;
+use sizes::MOST_PROCESSORS;
+use sizes::MOST_TILES;
 use tile::Tile;
+use tile_schedule::Progress;
 
 mod angles;
 mod wiring;
 
-// The order, the sweeps, the number of the next tick and the tiles: that in row i and column j, from 0, is at 16 i + j.
+// The order, the sweeps, the number of the next tick and the tiles: that in row i and column j, from 0, is at i * MOST_PROCESSORS + j.
 pub struct Array {
     pub n: usize,
     pub sweeps: usize,
     pub tick: usize,
-    pub tiles: [Tile; 256],
+    pub tiles: [Tile; MOST_TILES],
 }
 
 // What a start answers, and the array beside it.
@@ -35,7 +37,7 @@ impl Array {
     pub fn start(n: usize, sweeps: usize, matrix: &[f64]) -> Started
         ensures { λ r. ⌜ Starts n sweeps (now (matrix .entry)) r ⌝ }
     {
-        match plain_run::verdict(n, sweeps, matrix, matrix.len(), matrix.len()) {
+        match runs::verdict(n, sweeps, matrix, matrix.len(), matrix.len()) {
             Answer::Accepted => Started {
                 answer: Answer::Accepted,
                 array: Array::of_matrix(n, sweeps, matrix),
@@ -48,12 +50,12 @@ impl Array {
     }
 
     // Cells from a matrix of order n and from the identity, lines at +0.
-    fn of_matrix(n: usize, sweeps: usize, matrix: &[f64]) -> Array
+    pub fn of_matrix(n: usize, sweeps: usize, matrix: &[f64]) -> Array
         ensures { λ r. ⌜ r ≡ startArray n sweeps (now (matrix .entry)) ⌝ }
     {
-        let mut tiles = [tile_start::zero_tile(); 256];
-        for k in 0..256 {
-            tiles[k] = tile_start::tile_at(n, k / 16, k % 16, matrix);
+        let mut tiles = [tile_start::zero_tile(); MOST_TILES];
+        for k in 0..MOST_TILES {
+            tiles[k] = tile_start::tile_at(n, k / MOST_PROCESSORS, k % MOST_PROCESSORS, matrix);
         }
         Array {
             n: n,
@@ -71,7 +73,7 @@ impl Array {
             n: 0,
             sweeps: 0,
             tick: 0,
-            tiles: [tile_start::zero_tile(); 256],
+            tiles: [tile_start::zero_tile(); MOST_TILES],
         }
     }
 
@@ -123,18 +125,18 @@ impl Array {
         ensures { λ r. ⌜ r ≡ ticked count self ⌝ }
     {
         let n = self.n;
-        let processors = n / 2;
+        let processors = sizes::processors_of(n);
         let last = processors - 1;
-        let steps = self.sweeps * (n - 1);
+        let steps = sizes::steps_of(n, self.sweeps);
         let first = self.tick;
         let mut array = self;
         let zero = Angle::of_tangent(0.0);
-        let mut tangents = [zero.tangent; 256];
-        let mut cosines = [zero.cosine; 256];
+        let mut tangents = [zero.tangent; MOST_TILES];
+        let mut cosines = [zero.cosine; MOST_TILES];
         for tick in first..first + count {
-            for k in 0..16 * processors {
-                let i = k / 16;
-                let j = k % 16;
+            for k in 0..MOST_PROCESSORS * processors {
+                let i = k / MOST_PROCESSORS;
+                let j = k % MOST_PROCESSORS;
                 if j >= processors {
                     continue;
                 }
@@ -161,9 +163,9 @@ impl Array {
                 let turned = tile.turned(brought, row, column, steps, tick, i, j);
                 array.tiles[k] = turned;
             }
-            for k in 0..16 * processors {
-                let i = k / 16;
-                let j = k % 16;
+            for k in 0..MOST_PROCESSORS * processors {
+                let i = k / MOST_PROCESSORS;
+                let j = k % MOST_PROCESSORS;
                 if j >= processors {
                     continue;
                 }

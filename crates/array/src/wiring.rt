@@ -1,8 +1,9 @@
 // Which tiles the lines of a tile come from.
 ghost use mathlib.Core.Path.{_≡_};
 ghost use Prim.Native.Nat.{_-_, _<_, _≤_};
-ghost use Rattle.ordering.specs.Registers.{most};
-ghost use Rattle.array.specs.Arrays.{nearOf, Inside, downOf, towardOf};
+ghost use Rattle.sizes.specs.Sizes.{mostProcessors};
+ghost use Rattle.array.specs.Arrays.{nearOf, Inside, downOf, nearerOf};
+use sizes::MOST_PROCESSORS;
 
 // Where the tiles stand whose lines come in by each corner, along the row and along the column.
 pub struct Near {
@@ -15,7 +16,7 @@ pub struct Near {
 }
 
 pub fn sources(last: usize, i: usize, j: usize) -> Near
-    requires { ⌜ (i ≤ last) × (j ≤ last) × (last < most) ⌝ }
+    requires { ⌜ (i ≤ last) × (j ≤ last) × (last < mostProcessors) ⌝ }
     ensures { λ r. ⌜ (r ≡ nearOf last i j) × Inside r ⌝ }
 {
     let above = up(i);
@@ -23,12 +24,12 @@ pub fn sources(last: usize, i: usize, j: usize) -> Near
     let below = down(last, i);
     let beyond = down(last, j);
     Near {
-        alpha: above * 16 + before,
-        beta: above * 16 + beyond,
-        gamma: below * 16 + before,
-        delta: below * 16 + beyond,
-        row: i * 16 + toward(i, j),
-        column: toward(j, i) * 16 + j,
+        alpha: above * MOST_PROCESSORS + before,
+        beta: above * MOST_PROCESSORS + beyond,
+        gamma: below * MOST_PROCESSORS + before,
+        delta: below * MOST_PROCESSORS + beyond,
+        row: i * MOST_PROCESSORS + nearer(i, j),
+        column: nearer(j, i) * MOST_PROCESSORS + j,
     }
 }
 
@@ -54,9 +55,9 @@ fn down(last: usize, i: usize) -> usize
 }
 
 // One nearer to i than j, and j itself where it is i.
-fn toward(i: usize, j: usize) -> usize
-    requires { ⌜ (i < most) × (j < most) ⌝ }
-    ensures { λ r. ⌜ r ≡ towardOf i j ⌝ }
+fn nearer(i: usize, j: usize) -> usize
+    requires { ⌜ (i < mostProcessors) × (j < mostProcessors) ⌝ }
+    ensures { λ r. ⌜ r ≡ nearerOf i j ⌝ }
 {
     if i < j {
         return j - 1;

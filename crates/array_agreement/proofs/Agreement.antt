@@ -1,6 +1,6 @@
 -- The array's run is the plain run, in every bit. Assumes nothing.
 use Prim.Native.Nat.{ℕ, zero, suc, _+_, _-_, _*_, _/_, _%_, _<_, _≤_}
-use mathlib.Core.Path.{_≡_, refl, ap, _∙_}
+use mathlib.Core.Path.{_≡_, refl, sym, ap, _∙_}
 use mathlib.Core.Bool.{Bool, true, false, cond}
 use mathlib.Core.List.{List}
 use native.Mathlib.Nat.{zero-add}
@@ -9,47 +9,48 @@ use borrow.Author.Tests.{lt-ltb, eqb-true, eqb-false}
 use lib.Dec.{T, eqb}
 use lib.ListN.{length, getD}
 use lib.Ieee.{Float, nan, binary64, fits}
-use Rattle.refusal.specs.Refusal.{Told, given, refused, told}
+use Rattle.refusal.specs.Answers.{Answered, given, refused, refusedBy, unlessRefused}
 use Rattle.refusal.specs.declared.Refusal.the-variants.{Spoiled}
 use Rattle.float64.specs.Values.{plusZero}
 use Rattle.lists.proofs.Tabulated.{getD-tabulate}
-use Rattle.systolic.specs.Slots.{Slot, slot, inOrderAt, inOrder, any}
+use Rattle.systolic.specs.Slots.{Slot, slot, inOrderAt, inOrder}
+use Rattle.lists.specs.Bounded.{any}
 use Rattle.systolic.specs.Blocks.{cell, tab, pick}
 use Rattle.systolic.specs.Synchronous.{Operations}
 use Rattle.systolic.specs.Sequential.{blockAt, operationsOf}
 use Rattle.systolic.specs.Tiles as theory
 use Rattle.systolic.specs.Arrays.{tick, arrayAfter}
-use Rattle.systolic.proofs.Bounded.{any-within}
+use Rattle.lists.proofs.Bounded.{any-within}
 use Rattle.systolic.proofs.Neighbourhood.{tick-same}
 use Rattle.systolic.proofs.Starts.{tick-any-start}
 use Rattle.systolic.proofs.Agreement.{agreement}
-use Rattle.ordering.specs.Registers.{most}
-use Rattle.ordering.specs.Pairs.{noOrder}
-use Rattle.ordering.proofs.Orders.{order-is, order-half, odd}
+use Rattle.sizes.specs.Sizes.{mostProcessors, mostSweeps, isOrder, processorsOf, firstLine, stepsOf, ticksOf}
+use Rattle.sizes.proofs.Orders.{order-is, order-half, order-twice, sweep-is}
 use Rattle.matrix.specs.Matrix.{at, flat, entryOf}
 use Rattle.matrix.proofs.Same.{Line, flat-same}
 use Rattle.matrix.proofs.Within.{entry-at, place-is}
-use Rattle.matrix.proofs.Accepted.{accepted-long}
-use Rattle.plain_pair.specs.Pair.{State}
-use Rattle.plain_run.specs.State.{identity, after, notFinite, spoiled}
-use Rattle.plain_run.specs.Run.{mostSweeps, stepsOf, beforeRun, outcome, startOf, zeros, ranOf, unlessRefused, runOf}
-use Rattle.plain_run.specs.Cells.{Cell, cell as cellWith, cellOf, rules}
-use Rattle.plain_run.proofs.Persists.{state-finite}
+use Rattle.matrix.proofs.AcceptedEntries.{accepted-long}
+use Rattle.runs.specs.State.{State, identity, startOf, zeros}
+use Rattle.plain_run.specs.State.{after, notFinite, spoiled}
+use Rattle.runs.specs.Outcome.{beforeRun, outcome, resultsKept, telling}
+use Rattle.plain_run.specs.Run.{ranOf, runOf}
+use Rattle.runs.specs.Cells.{Cell, cell as cellWith, cellOf, Setting, setting, rules}
+use Rattle.plain_run.proofs.SpoiledRuns.{state-finite}
 use Rattle.plain_run.proofs.Sequence.{plain-sequential, plain-fails, fails-are}
-use Rattle.plain_run.proofs.Outcomes.{Begins, begins, start-finite}
-use Rattle.tile_schedule.specs.Answers.{ticksOf}
+use Rattle.runs.proofs.Verdicts.{Begins, begins}
+use Rattle.plain_run.proofs.Outcomes.{start-finite}
 use Rattle.tile.specs.declared.Tile.{Tile}
-use Rattle.tile.proofs.Joining.{sideBy, corner-cell}
+use Rattle.tile.proofs.CellsBrought.{sideBy, corner-cell}
 use Rattle.tile.specs.Tiles.{blockOf, theTile, operations}
-use Rattle.tile_start.specs.Beginning.{zeroPart, tileWith, quadAt, partAt, startTile}
+use Rattle.tile_start.specs.Beginning.{zeroPart, startingTile, quadAt, partAt, startTile}
 use Rattle.array.specs.declared.Array.{Array}
 use Rattle.array.specs.Arrays.{noTile, tileAt, partOf, theArray, tilesAfter}
 use Rattle.array.specs.Runs.{startArray, ticked, GoesOn}
-use Rattle.array.proofs.Made.{the-tile-of}
-use Rattle.array.proofs.Staying.{ended-stays}
-use Rattle.array.proofs.Running.{tilesFrom, ticked-made}
+use Rattle.array.proofs.TickedTiles.{the-tile-of}
+use Rattle.array.proofs.ArrayEnd.{ended-stays}
+use Rattle.array.proofs.TicksInARow.{tilesFrom, ticked-made}
 use Rattle.array_run.specs.Results.{joinedAt, matrixIn, vectorsIn, someMarked, handedOver}
-use Rattle.array_run.specs.Whole.{wholeOf, telling}
+use Rattle.array_run.specs.Whole.{wholeOf}
 use Rattle.array_agreement.proofs.Neighbours.{tile-after}
 
 -- the slot of a line
@@ -74,12 +75,12 @@ module _ (l : List Tile) (r c : ℕ) where
   vectors-cell = ap (λ (x : Cell). x .vector) (corner-cell (tileAt l ((r - 1) / 2) ((c - 1) / 2) .cells) _ _)
 
 -- ---- a run
-module _ (n sweeps : ℕ) (l : List Float) (order : noOrder n ≡ false) (few : sweeps ≤ mostSweeps) (long : length l ≡ n * n) where
+module _ (n sweeps : ℕ) (l : List Float) (order : isOrder n ≡ true) (few : sweeps ≤ mostSweeps) (long : length l ≡ n * n) where
   abbrev N : ℕ
-  N = n / 2
+  N = processorsOf n
 
   abbrev m : ℕ
-  m = n / 2 - 1
+  m = processorsOf n - 1
 
   abbrev K : ℕ
   K = stepsOf n sweeps
@@ -87,14 +88,20 @@ module _ (n sweeps : ℕ) (l : List Float) (order : noOrder n ≡ false) (few : 
   abbrev X : State
   X = startOf n l
 
+  abbrev s : Setting
+  s = setting n
+
   abbrev S : Operations Cell Float Float
-  S = operationsOf rules (inOrder 1) (cellOf X) (cellWith plusZero plusZero) plusZero plusZero
+  S = operationsOf (rules s) (inOrder (firstLine n)) (cellOf X) (cellWith plusZero plusZero) plusZero plusZero
+
+  first : firstLine n ≡ 1
+  first = let o = order-is n order in omega arith
 
   -- the tiles after t ticks
   unfoldable pub tilesBy : ℕ → List Tile
-  tilesBy t = tilesFrom N K 0 t (startArray n sweeps l .tiles)
+  tilesBy t = tilesFrom s N K 0 t (startArray n sweeps l .tiles)
 
-  tiles-step : (t : ℕ) → tilesBy (suc t) ≡ tilesAfter N K t (tilesBy t)
+  tiles-step : (t : ℕ) → tilesBy (suc t) ≡ tilesAfter s N K t (tilesBy t)
   unfolding tilesBy tilesFrom
   tiles-step t = rw zero-add
 
@@ -104,10 +111,11 @@ module _ (n sweeps : ℕ) (l : List Float) (order : noOrder n ≡ false) (few : 
   -- ---- the start
   entry-in : (r c : ℕ) → Line n r → Line n c → entryOf n l r c ≡ at n l r c
   entry-in r c hr hc =
-      entry-at n r c l (place-is n r c (length l) (record { row-above = hr .0; row-within = hr .1; column-above = hc .0; column-within = hc .1; square = long }))
+      entry-at n r c l (place-is n r c (length l)
+      (record { row-above = hr .0; row-within = hr .1; column-above = hc .0; column-within = hc .1; square = long }))
 
   lines : (i : ℕ) → i ≤ m → Line n (2 * i + 1) × Line n (2 * i + 1 + 1)
-  lines i h = let w = within i h in ((omega arith, omega arith), (omega arith, omega arith))
+  lines i h = let w = within i h in let e = order-twice n order in ((omega arith, omega arith), (omega arith, omega arith))
 
   quad-entries : (i j : ℕ) → i ≤ m → j ≤ m → quadAt (entryOf n l) i j ≡ quadAt (at n l) i j
   unfolding quadAt
@@ -116,15 +124,15 @@ module _ (n sweeps : ℕ) (l : List Float) (order : noOrder n ≡ false) (few : 
       let b = lines j hj in
       rw (entry-in _ _ (a .0) (b .0), entry-in _ _ (a .0) (b .1), entry-in _ _ (a .1) (b .0), entry-in _ _ (a .1) (b .1))
 
-  start-tile : (i j : ℕ) → i ≤ m → j ≤ m → tileAt (tilesBy 0) i j ≡ tileWith (partAt n l i j)
+  start-tile : (i j : ℕ) → i ≤ m → j ≤ m → tileAt (tilesBy 0) i j ≡ startingTile (partAt n l i j)
   unfolding tilesBy tilesFrom startArray tileAt startTile
   start-tile i j hi hj =
       let few = order-half n order .1 in
       let p = within i hi in
       let q = within j hj in
-      let r : (i * most + j) / most ≡ i = omega arith in
-      let c : (i * most + j) % most ≡ j = omega arith in
-      getD-tabulate (most * most) _ (i * most + j) noTile (omega arith) ∙ rw (r, c, lt-ltb i N p, lt-ltb j N q)
+      let r : (i * mostProcessors + j) / mostProcessors ≡ i = omega arith in
+      let c : (i * mostProcessors + j) % mostProcessors ≡ j = omega arith in
+      getD-tabulate (mostProcessors * mostProcessors) _ (i * mostProcessors + j) noTile (omega arith) ∙ rw (r, c, lt-ltb i N p, lt-ltb j N q)
 
   start-block : (i j : ℕ) → record { matrix = quadAt (at n l) i j; vectors = quadAt identity i j } ≡ partOf (blockAt (inOrder 1) (cellOf X) i j)
   unfolding quadAt partOf blockAt tab inOrder inOrderAt slot cellOf startOf
@@ -132,27 +140,29 @@ module _ (n sweeps : ℕ) (l : List Float) (order : noOrder n ≡ false) (few : 
 
   starts-as : (i j : ℕ) → i ≤ m → j ≤ m → theArray (tilesBy 0) i j ≡ arrayAfter S m K 0 i j
   unfolding theArray
-  starts-as i j hi hj = ap theTile (start-tile i j hi hj ∙ ap tileWith part-is) ∙ again
+  starts-as i j hi hj = ap theTile (start-tile i j hi hj ∙ ap startingTile part-is) ∙ again
     where
-      part-is : partAt n l i j ≡ partOf (blockAt (inOrder 1) (cellOf X) i j)
-      part-is = unfold partAt in (rw (quad-entries i j hi hj) (start-block i j))
+      part-is : partAt n l i j ≡ partOf (blockAt (inOrder (firstLine n)) (cellOf X) i j)
+      part-is = unfold partAt in (rw (quad-entries i j hi hj) (start-block i j)) ∙ ap (λ b. partOf (blockAt (inOrder b) (cellOf X) i j)) (sym first)
 
-      again : theTile (tileWith (partOf (blockAt (inOrder 1) (cellOf X) i j))) ≡ arrayAfter S m K 0 i j
-      again = unfold theTile tileWith partOf blockOf zeroPart arrayAfter operationsOf tab in refl
+      again : theTile (startingTile (partOf (blockAt (inOrder (firstLine n)) (cellOf X) i j))) ≡ arrayAfter S m K 0 i j
+      again = unfold theTile startingTile partOf blockOf zeroPart arrayAfter operationsOf tab in refl
 
   -- ---- the ticks
-  from-start : (t : ℕ) (A : ℕ → ℕ → theory.Tile Cell Float Float) (i j : ℕ) → tick operations m K t A i j ≡ tick S m K t A i j
+  from-start : (t : ℕ) (A : ℕ → ℕ → theory.Tile Cell Float Float) (i j : ℕ) → tick (operations s) m K t A i j ≡ tick S m K t A i j
   unfolding operations
   from-start t A i j =
-      tick-any-start rules (inOrder 1) (inOrder 1) (λ r c. cellWith plusZero plusZero) (cellOf X) (cellWith plusZero plusZero) (cellWith plusZero plusZero) plusZero plusZero plusZero plusZero m K t A i j
+      tick-any-start (rules s) (inOrder (firstLine n)) (inOrder (firstLine n)) (λ r c. cellWith plusZero plusZero) (cellOf X) (cellWith plusZero plusZero)
+      (cellWith plusZero plusZero) plusZero plusZero plusZero plusZero m K t A i j
 
   tiles-are : (t i j : ℕ) → i ≤ m → j ≤ m → theArray (tilesBy t) i j ≡ arrayAfter S m K t i j
   tiles-are zero i j hi hj = starts-as i j hi hj
   tiles-are (suc t) i j hi hj = next (tiles-are t)
     where
-      ticked-tile : theArray (tilesBy (suc t)) i j ≡ tick operations m K t (theArray (tilesBy t)) i j
+      ticked-tile : theArray (tilesBy (suc t)) i j ≡ tick (operations s) m K t (theArray (tilesBy t)) i j
       ticked-tile = unfold theArray in
-          (ap (λ (l : List Tile). theTile (tileAt l i j)) (tiles-step t) ∙ ap theTile (tile-after N K t (tilesBy t) i j (order-half n order .1) (within i hi) (within j hj)) ∙ the-tile-of _)
+          (ap (λ (l : List Tile). theTile (tileAt l i j)) (tiles-step t)
+          ∙ ap theTile (tile-after s N K t (tilesBy t) i j (order-half n order .1) (within i hi) (within j hj)) ∙ the-tile-of _)
 
       next : ((i j : ℕ) → i ≤ m → j ≤ m → theArray (tilesBy t) i j ≡ arrayAfter S m K t i j) → theArray (tilesBy (suc t)) i j ≡ arrayAfter S m K (suc t) i j
       next same =
@@ -179,7 +189,7 @@ module _ (n sweeps : ℕ) (l : List Float) (order : noOrder n ≡ false) (few : 
 
   -- ---- the end
   steps-odd : K ≡ sweeps * (2 * m + 1)
-  steps-odd = let o = order-is n order in rw (odd n (o .0) (o .1))
+  steps-odd = ap (λ k. sweeps * k) (sweep-is n order)
 
   last-tick : ticksOf n sweeps ≡ 3 * (sweeps * (2 * m + 1)) + suc m
   last-tick = let h = order-half n order .0 in let e : suc m ≡ N = omega arith in rw (e, ← steps-odd)
@@ -191,18 +201,22 @@ module _ (n sweeps : ℕ) (l : List Float) (order : noOrder n ≡ false) (few : 
       → theArray lastTiles i j ≡ arrayAfter S m (sweeps * (2 * m + 1)) (3 * (sweeps * (2 * m + 1)) + suc m) i j
   last-as i j hi hj = rw (← last-tick, ← steps-odd) (tiles-are (ticksOf n sweeps) i j hi hj)
 
-  cells-are : (u z : Slot) → u .processor ≤ m → z .processor ≤ m → pick (λ i j. theArray lastTiles i j .cells) u z ≡ cellOf (after n K X) (inOrder 1 u) (inOrder 1 z)
+  cells-are : (u z : Slot) → u .processor ≤ m → z .processor ≤ m
+      → pick (λ i j. theArray lastTiles i j .cells) u z ≡ cellOf (after n K X) (inOrder (firstLine n) u) (inOrder (firstLine n) z)
   cells-are u z p q =
       unfold pick in (ap (λ (x : theory.Tile Cell Float Float). cell (u .side) (z .side) (x .cells)) (last-as (u .processor) (z .processor) p q))
-      ∙ agreement rules 1 m (cellOf X) (cellWith plusZero plusZero) plusZero plusZero sweeps .cells u z p q
-      ∙ rw (← steps-odd) (ap (λ (f : ℕ → ℕ → Cell). f (inOrder 1 u) (inOrder 1 z)) (plain-sequential n order X K))
+      ∙ agreement (rules s) (firstLine n) m (cellOf X) (cellWith plusZero plusZero) plusZero plusZero sweeps .cells u z p q
+      ∙ rw (← steps-odd) (ap (λ (f : ℕ → ℕ → Cell). f (inOrder (firstLine n) u) (inOrder (firstLine n) z)) (plain-sequential s n order X K))
+
+  line-at : (r : ℕ) → Line n r → inOrder (firstLine n) (slotOf r) ≡ r
+  line-at r h = ap (λ b. inOrder b (slotOf r)) first ∙ slot-line r (h .0)
 
   line-slot : (r : ℕ) → Line n r → slotOf r .processor ≤ m
   unfolding slot
   line-slot r h = let o = order-is n order in omega arith
 
   pub last-cell : (r c : ℕ) → Line n r → Line n c → pick (λ i j. theArray lastTiles i j .cells) (slotOf r) (slotOf c) ≡ cellOf (after n K X) r c
-  last-cell r c hr hc = rw (slot-line r (hr .0), slot-line c (hc .0)) at (cells-are (slotOf r) (slotOf c) (line-slot r hr) (line-slot c hc))
+  last-cell r c hr hc = rw (line-at r hr, line-at c hc) at (cells-are (slotOf r) (slotOf c) (line-slot r hr) (line-slot c hc))
 
   pub last-matrix : (r c : ℕ) → Line n r → Line n c → matrixIn lastTiles r c ≡ after n K X .matrix r c
   last-matrix r c hr hc = matrix-cell lastTiles r c ∙ ap (λ (x : Cell). x .entry) (last-cell r c hr hc) ∙ unfold cellOf in refl
@@ -214,13 +228,14 @@ module _ (n sweeps : ℕ) (l : List Float) (order : noOrder n ≡ false) (few : 
   pub last-marked : notFinite n X ≡ false → someMarked N lastTiles ≡ spoiled n K X
   last-marked f =
       unfold someMarked in (marks-same)
-      ∙ agreement rules 1 m (cellOf X) (cellWith plusZero plusZero) plusZero plusZero sweeps .mark (rw whole (fails-are n order X X ∙ f))
-      ∙ rw (whole, ← steps-odd) (plain-fails n order X K)
+      ∙ agreement (rules s) (firstLine n) m (cellOf X) (cellWith plusZero plusZero) plusZero plusZero sweeps .mark (rw whole (fails-are s n order X X ∙ f))
+      ∙ rw (whole, ← steps-odd) (plain-fails s n order X K)
     where
       whole : 2 * suc m ≡ n
-      whole = let o = order-is n order in omega arith
+      whole = let e = order-twice n order in let h = order-half n order .0 in omega arith
 
-      mark-same : (i j : ℕ) → i < suc m → j < suc m → tileAt lastTiles i j .mark ≡ arrayAfter S m (sweeps * (2 * m + 1)) (3 * (sweeps * (2 * m + 1)) + suc m) i j .mark
+      mark-same : (i j : ℕ) → i < suc m → j < suc m
+          → tileAt lastTiles i j .mark ≡ arrayAfter S m (sweeps * (2 * m + 1)) (3 * (sweeps * (2 * m + 1)) + suc m) i j .mark
       mark-same i j hi hj = unfold theArray theTile in (ap (λ (x : theory.Tile Cell Float Float). x .mark) (last-as i j (omega arith) (omega arith)))
 
       marks-same : any N (λ i. any N (λ j. tileAt lastTiles i j .mark))
@@ -232,7 +247,8 @@ module _ (n sweeps : ℕ) (l : List Float) (order : noOrder n ≡ false) (few : 
 
   -- ---- the whole run
   pub handed-is : notFinite n X ≡ false → handedOver (ticked (ticksOf n sweeps) (startArray n sweeps l)) ≡ telling (ticksOf n sweeps) (ranOf n sweeps l)
-  handed-is f = ap handedOver (ticked-is (ticksOf n sweeps) (omega arith)) ∙ unfold handedOver recordBy ranOf in (rw (last-marked f, matrix-flat, vectors-flat) (go (spoiled n K X)))
+  handed-is f = ap handedOver (ticked-is (ticksOf n sweeps) (omega arith)) ∙ unfold handedOver recordBy ranOf in
+      (rw (last-marked f, matrix-flat, vectors-flat) (go (spoiled n K X)))
     where
       matrix-flat : flat n (matrixIn lastTiles) ≡ flat n (after n K X .matrix)
       matrix-flat = flat-same n _ _ last-matrix
@@ -240,24 +256,31 @@ module _ (n sweeps : ℕ) (l : List Float) (order : noOrder n ≡ false) (few : 
       vectors-flat : flat n (vectorsIn lastTiles) ≡ flat n (after n K X .vectors)
       vectors-flat = flat-same n _ _ last-vectors
 
-      go : (b : Bool) → cond b (outcome (told Spoiled) (zeros n) (zeros n)) (outcome (given (ticksOf n sweeps)) (flat n (after n K X .matrix)) (flat n (after n K X .vectors)))
-          ≡ telling (ticksOf n sweeps) (cond b (outcome (told Spoiled) (zeros n) (zeros n)) (outcome (given tt) (flat n (after n K X .matrix)) (flat n (after n K X .vectors))))
+      go : (b : Bool)
+          → cond b (outcome {A = ℕ} (refusedBy Spoiled) (zeros n) (zeros n))
+          (outcome (given (ticksOf n sweeps)) (flat n (after n K X .matrix)) (flat n (after n K X .vectors)))
+          ≡ telling {A = Unit} (ticksOf n sweeps)
+          (cond b (outcome (refusedBy Spoiled) (zeros n) (zeros n)) (outcome (given tt) (flat n (after n K X .matrix)) (flat n (after n K X .vectors))))
       go true = refl
       go false = refl
 
 -- the start of an accepted run is finite
-pub start-clean : (n sweeps : ℕ) (l : List Float) (lr lv : ℕ) → ((k : ℕ) → T (fits binary64 (getD l k nan))) → Begins n sweeps l lr lv → notFinite n (startOf n l) ≡ false
+pub start-clean : (n sweeps : ℕ) (l : List Float) (lr lv : ℕ) → ((k : ℕ) → T (fits binary64 (getD l k nan))) → Begins n sweeps l lr lv
+    → notFinite n (startOf n l) ≡ false
 start-clean n sweeps l lr lv fitting b = state-finite n (startOf n l) (start-finite n sweeps l fitting lr lv b)
 
 -- For every input: the whole run answers and leaves what the plain run does, and where it is not refused it has made 3 K + N ticks.
-pub whole-agrees : (n sweeps : ℕ) (l r v : List Float) → ((k : ℕ) → T (fits binary64 (getD l k nan))) → wholeOf n sweeps l r v ≡ telling (ticksOf n sweeps) (runOf n sweeps l r v)
+pub whole-agrees : (n sweeps : ℕ) (l r v : List Float) → ((k : ℕ) → T (fits binary64 (getD l k nan)))
+    → wholeOf n sweeps l r v ≡ telling (ticksOf n sweeps) (runOf n sweeps l r v)
 unfolding wholeOf runOf
 whole-agrees n sweeps l r v fitting = go (beforeRun n sweeps l (length r) (length v)) refl
   where
-    accepted : Begins n sweeps l (length r) (length v) → handedOver (ticked (ticksOf n sweeps) (startArray n sweeps l)) ≡ telling (ticksOf n sweeps) (ranOf n sweeps l)
+    accepted : Begins n sweeps l (length r) (length v)
+        → handedOver (ticked (ticksOf n sweeps) (startArray n sweeps l)) ≡ telling (ticksOf n sweeps) (ranOf n sweeps l)
     accepted b = handed-is n sweeps l (b .order) (b .few) (accepted-long n l fitting (b .entries)) (start-clean n sweeps l _ _ fitting b)
 
-    go : (t : Told Unit) → beforeRun n sweeps l (length r) (length v) ≡ t
-        → unlessRefused t (handedOver (ticked (ticksOf n sweeps) (startArray n sweeps l))) r v ≡ telling (ticksOf n sweeps) (unlessRefused t (ranOf n sweeps l) r v)
+    go : (a : Answered Unit) → beforeRun n sweeps l (length r) (length v) ≡ a
+        → unlessRefused a (handedOver (ticked (ticksOf n sweeps) (startArray n sweeps l))) (resultsKept r v)
+        ≡ telling (ticksOf n sweeps) (unlessRefused a (ranOf n sweeps l) (resultsKept r v))
     go (given x) e = accepted (begins n sweeps l _ _ e)
     go (refused k values) e = refl

@@ -8,24 +8,26 @@ use borrow.Author.Tests.{ltb-true, ltb-false}
 use lib.Dec.{T, ltb}
 use lib.ListN.{length, getD}
 use lib.Ieee.{Float, nan, binary64, fits}
-use Rattle.refusal.specs.Refusal.{Told, given, refused, told}
+use Rattle.refusal.specs.Answers.{Answered, given, refused, refusedBy}
 use Rattle.refusal.specs.declared.Refusal.the-variants.{Order}
-use Rattle.ordering.specs.Pairs.{noOrder}
+use Rattle.sizes.specs.Sizes.{isOrder, mostSweeps, stepsOf, ticksOf}
 use Rattle.plain_run.specs.State.{notFinite, spoiled}
-use Rattle.plain_run.specs.Run.{mostSweeps, stepsOf, startOf}
-use Rattle.plain_run.proofs.Outcomes.{Begins, begins}
-use Rattle.tile_schedule.specs.Answers.{Tick, made, stopped, ticksOf, progressOf}
-use Rattle.tile_schedule.proofs.Answers.{refused-1, is-made, is-stopped}
+use Rattle.runs.specs.State.{startOf}
+use Rattle.runs.proofs.Verdicts.{Begins, begins}
+use Rattle.tile_schedule.specs.Answers.{Tick, made, stopped, progressOf}
+use Rattle.tile_schedule.proofs.Answers.{tick-refused, is-made, is-stopped}
+use Rattle.sizes.proofs.Orders.{refused-1}
 use Rattle.array.specs.declared.Array.{Array}
 use Rattle.array.specs.declared.Started.{Started}
 use Rattle.array.specs.declared.Ticked.{Ticked}
-use Rattle.array.specs.Runs.{startArray, noArray, startTold, startedOf, nextArray, ticked}
-use Rattle.array_agreement.specs.Hand.{lastArray, Follow, ByHand, answersOf, counted, RefusedByHand, firstMade, Agrees, Ended, AcceptedByHand, ClaimedByHand}
+use Rattle.array.specs.Runs.{startArray, noArray, startAnswer, startedOf, nextArray, ticked}
+use Rattle.array_agreement.specs.Hand.{lastArray, Follow, ByHand, answersOf, counted}
+use Rattle.array_agreement.specs.Hand.{RefusedByHand, firstMade, Agrees, Ended, AcceptedByHand, ClaimedByHand}
 use Rattle.array_agreement.proofs.Agreement.{recordBy, ticked-is, ticked-stays, last-matrix, last-vectors, last-marked, start-clean}
 
 -- ---- any list of calls
 -- what a tick of a record answers
-abbrev answerTo : Array → Told Tick
+abbrev answerTo : Array → Answered Tick
 answerTo x = progressOf (x .n) (x .sweeps) (x .tick)
 
 module _ (s : Started) where
@@ -38,14 +40,14 @@ module _ (s : Started) where
   answers-are [] f = refl
   answers-are (r ∷ rs) f = rw (f .1 .answers, last-is rs (f .0), answers-are rs (f .0))
 
-counted-same : (f g : ℕ → Told Tick) → ((t : ℕ) → f t ≡ g t) → (k : ℕ) → counted f k ≡ counted g k
+counted-same : (f g : ℕ → Answered Tick) → ((t : ℕ) → f t ≡ g t) → (k : ℕ) → counted f k ≡ counted g k
 counted-same f g e zero = refl
 counted-same f g e (suc k) = rw (e k, counted-same f g e k)
 
 -- ---- a refused start
-none-refused : told Order ≡ answerTo noArray
+none-refused : refusedBy Order ≡ answerTo noArray
 unfolding noArray
-none-refused = refused-1 0 0 0 (unfold noOrder in refl)
+none-refused = tick-refused 0 0 0 (refused-1 0 0 (unfold isOrder in refl))
 
 none-stays : (k : ℕ) → ticked k noArray ≡ noArray
 unfolding ticked nextArray
@@ -60,7 +62,7 @@ refused-by-hand s rs e f =
     }
 
 -- ---- an accepted start
-module _ (n sweeps : ℕ) (l : List Float) (order : noOrder n ≡ false) (few : sweeps ≤ mostSweeps) (long : length l ≡ n * n) where
+module _ (n sweeps : ℕ) (l : List Float) (order : isOrder n ≡ true) (few : sweeps ≤ mostSweeps) (long : length l ≡ n * n) where
   abbrev last : ℕ
   last = ticksOf n sweeps
 
@@ -95,7 +97,8 @@ module _ (n sweeps : ℕ) (l : List Float) (order : noOrder n ≡ false) (few : 
             none-marked = last-marked n sweeps l order few long clean ∙ e;
           })
 
-  accepted-by-hand : (s : Started) (rs : List Ticked) → notFinite n (startOf n l) ≡ false → s .array ≡ startArray n sweeps l → Follow s rs → AcceptedByHand n sweeps l s rs
+  accepted-by-hand : (s : Started) (rs : List Ticked) → notFinite n (startOf n l) ≡ false → s .array ≡ startArray n sweeps l → Follow s rs
+      → AcceptedByHand n sweeps l s rs
   accepted-by-hand s rs clean e f =
       record {
         made-then-stopped = answers-are s rs f ∙ counted-same _ _ (λ t. rw e (answer-is t)) (length rs);
@@ -104,12 +107,12 @@ module _ (n sweeps : ℕ) (l : List Float) (order : noOrder n ≡ false) (few : 
 
 -- one claim over every list of calls
 pub by-hand : (n sweeps : ℕ) (l : List Float) → ((k : ℕ) → T (fits binary64 (getD l k nan))) → (s : Started) (rs : List Ticked) → ByHand n sweeps l s rs
-    → ClaimedByHand (startTold n sweeps l) n sweeps l s rs
-by-hand n sweeps l fitting s rs h = go (startTold n sweeps l) refl (h .starts .hands-back)
+    → ClaimedByHand (startAnswer n sweeps l) n sweeps l s rs
+by-hand n sweeps l fitting s rs h = go (startAnswer n sweeps l) refl (h .starts .hands-back)
   where
     accepted : Begins n sweeps l (length l) (length l) → s .array ≡ startArray n sweeps l → AcceptedByHand n sweeps l s rs
     accepted b e = accepted-by-hand n sweeps l (b .order) (b .few) (b .result-long) s rs (start-clean n sweeps l _ _ fitting b) e (h .ticks)
 
-    go : (t : Told Unit) → startTold n sweeps l ≡ t → s .array ≡ startedOf t n sweeps l → ClaimedByHand t n sweeps l s rs
+    go : (t : Answered Unit) → startAnswer n sweeps l ≡ t → s .array ≡ startedOf t n sweeps l → ClaimedByHand t n sweeps l s rs
     go (given x) e a = accepted (begins n sweeps l _ _ e) a
     go (refused k values) e a = refused-by-hand s rs a (h .ticks)

@@ -5,14 +5,14 @@ use mathlib.Core.Path.{_≡_, refl, sym, ap, _∙_}
 use mathlib.Core.List.{List}
 use native.Mathlib.Omega.{arith}
 use borrow.Author.Tests.{lt-ltb}
-use Rattle.refusal.specs.Refusal.{Told, given, refused}
+use Rattle.refusal.specs.Answers.{Answered, given, refused}
 use Rattle.lists.proofs.Tabulated.{getD-tabulate}
 use Rattle.systolic.specs.Arrays.{tick}
 use Rattle.systolic.proofs.Neighbourhood.{Alike, neighbourhood}
-use Rattle.ordering.specs.Registers.{most}
-use Rattle.ordering.proofs.Orders.{order-half}
-use Rattle.plain_run.specs.Run.{stepsOf}
+use Rattle.sizes.specs.Sizes.{mostProcessors, processorsOf, stepsOf}
+use Rattle.sizes.proofs.Orders.{order-half}
 use Rattle.tile_schedule.proofs.Answers.{made-means}
+use Rattle.runs.specs.Cells.{Setting, setting}
 use Rattle.tile_schedule.specs.Answers.{Tick, made, stopped, progressOf}
 use Rattle.tile.specs.declared.Tile.{Tile}
 use Rattle.tile.specs.Tiles.{theTile, operations}
@@ -22,12 +22,13 @@ use Rattle.array.specs.Arrays.{noTile, tileAt, tileOf, theArray, tilesAfter, ar
 use Rattle.array_agreement.specs.Neighbours.{Agree}
 
 -- the tile in row i and column j after a tick
-pub tile-after : (N K t : ℕ) (l : List Tile) (i j : ℕ) → N ≤ most → i < N → j < N → tileAt (tilesAfter N K t l) i j ≡ tileOf (tick operations (N - 1) K t (theArray l) i j)
+pub tile-after : (s : Setting) (N K t : ℕ) (l : List Tile) (i j : ℕ) → N ≤ mostProcessors → i < N → j < N
+    → tileAt (tilesAfter s N K t l) i j ≡ tileOf (tick (operations s) (N - 1) K t (theArray l) i j)
 unfolding tileAt tilesAfter
-tile-after N K t l i j few hi hj =
-    let r : (i * most + j) / most ≡ i = omega arith in
-    let c : (i * most + j) % most ≡ j = omega arith in
-    getD-tabulate (most * most) _ (i * most + j) noTile (omega arith) ∙ rw (r, c, lt-ltb i N hi, lt-ltb j N hj)
+tile-after s N K t l i j few hi hj =
+    let r : (i * mostProcessors + j) / mostProcessors ≡ i = omega arith in
+    let c : (i * mostProcessors + j) % mostProcessors ≡ j = omega arith in
+    getD-tabulate (mostProcessors * mostProcessors) _ (i * mostProcessors + j) noTile (omega arith) ∙ rw (r, c, lt-ltb i N hi, lt-ltb j N hj)
 
 module _ (x y : Array) (n-same : x .n ≡ y .n) (sweeps-same : x .sweeps ≡ y .sweeps) (tick-same : x .tick ≡ y .tick) (i j : ℕ) where
   alike : (N : ℕ) → Agree N (x .tiles) (y .tiles) i j → Alike (N - 1) (theArray (x .tiles)) (theArray (y .tiles)) i j
@@ -40,28 +41,37 @@ module _ (x y : Array) (n-same : x .n ≡ y .n) (sweeps-same : x .sweeps ≡ y .
         column = λ n. unfold theTile in (a .column n);
       }
 
-  after-made : x .n / 2 ≤ most → i < x .n / 2 → j < x .n / 2 → Agree (x .n / 2) (x .tiles) (y .tiles) i j
+  abbrev N : ℕ
+  N = processorsOf (x .n)
+
+  abbrev K : ℕ
+  K = stepsOf (x .n) (x .sweeps)
+
+  abbrev s : Setting
+  s = setting (x .n)
+
+  after-made : N ≤ mostProcessors → i < N → j < N → Agree N (x .tiles) (y .tiles) i j
       → tileAt (arrayOf (given made) x .tiles) i j ≡ tileAt (arrayOf (given made) y .tiles) i j
   after-made few hi hj a =
       rw (← n-same, ← sweeps-same, ← tick-same)
-      (tile-after (x .n / 2) (stepsOf (x .n) (x .sweeps)) (x .tick) (x .tiles) i j few hi hj
-      ∙ ap tileOf (neighbourhood operations (x .n / 2 - 1) (stepsOf (x .n) (x .sweeps)) (x .tick) (theArray (x .tiles)) (theArray (y .tiles)) i j (alike (x .n / 2) a))
-      ∙ sym (tile-after (x .n / 2) (stepsOf (x .n) (x .sweeps)) (x .tick) (y .tiles) i j few hi hj))
+      (tile-after s N K (x .tick) (x .tiles) i j few hi hj
+      ∙ ap tileOf (neighbourhood (operations s) (N - 1) K (x .tick) (theArray (x .tiles)) (theArray (y .tiles)) i j (alike N a))
+      ∙ sym (tile-after s N K (x .tick) (y .tiles) i j few hi hj))
 
   same-answer : progressOf (x .n) (x .sweeps) (x .tick) ≡ progressOf (y .n) (y .sweeps) (y .tick)
   same-answer = rw (n-same, sweeps-same, tick-same)
 
-  by-answer : (t : Told Tick) → t ≡ progressOf (x .n) (x .sweeps) (x .tick) → i < x .n / 2 → j < x .n / 2 → Agree (x .n / 2) (x .tiles) (y .tiles) i j
+  by-answer : (t : Answered Tick) → t ≡ progressOf (x .n) (x .sweeps) (x .tick) → i < N → j < N → Agree N (x .tiles) (y .tiles) i j
       → tileAt (arrayOf t x .tiles) i j ≡ tileAt (arrayOf t y .tiles) i j
   by-answer (given made) e hi hj a = after-made (order-half (x .n) (made-means (x .n) (x .sweeps) (x .tick) e .order) .1) hi hj a
   by-answer (given stopped) e hi hj a = a .tile
   by-answer (refused k values) e hi hj a = a .tile
 
   -- on any two records whatever
-  pub array-neighbourhood : {r s : Ticked} → Ticks x r → Ticks y s → i < x .n / 2 → j < x .n / 2 → Agree (x .n / 2) (x .tiles) (y .tiles) i j
+  pub array-neighbourhood : {r s : Ticked} → Ticks x r → Ticks y s → i < N → j < N → Agree N (x .tiles) (y .tiles) i j
       → tileAt (r .array .tiles) i j ≡ tileAt (s .array .tiles) i j
   array-neighbourhood p q hi hj a =
       ap (λ (z : Array). tileAt (z .tiles) i j) (p .hands-back)
       ∙ by-answer (progressOf (x .n) (x .sweeps) (x .tick)) refl hi hj a
-      ∙ ap (λ (t : Told Tick). tileAt (arrayOf t y .tiles) i j) same-answer
+      ∙ ap (λ (t : Answered Tick). tileAt (arrayOf t y .tiles) i j) same-answer
       ∙ sym (ap (λ (z : Array). tileAt (z .tiles) i j) (q .hands-back))

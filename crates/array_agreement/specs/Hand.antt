@@ -6,11 +6,12 @@ use mathlib.Core.List.{List, [], _∷_}
 use lib.Dec.{ltb}
 use lib.ListN.{length}
 use lib.Ieee.{Float}
-use Rattle.refusal.specs.Refusal.{Told, given, refused, told}
+use Rattle.refusal.specs.Answers.{Answered, given, refused, refusedBy}
 use Rattle.refusal.specs.declared.Refusal.the-variants.{Order}
 use Rattle.plain_run.specs.State.{after, spoiled}
-use Rattle.plain_run.specs.Run.{stepsOf, startOf}
-use Rattle.tile_schedule.specs.Answers.{Tick, made, stopped, toldProgress, ticksOf}
+use Rattle.sizes.specs.Sizes.{stepsOf, processorsOf, ticksOf}
+use Rattle.runs.specs.State.{startOf}
+use Rattle.tile_schedule.specs.Answers.{Tick, made, stopped, progressAnswered}
 use Rattle.array.specs.declared.Array.{Array}
 use Rattle.array.specs.declared.Started.{Started}
 use Rattle.array.specs.declared.Ticked.{Ticked}
@@ -33,22 +34,22 @@ pub record ByHand (n sweeps : ℕ) (l : List Float) (s : Started) (rs : List Tic
   pub ticks : Follow s rs
 
 -- What the ticks answered.
-abbrev pub answersOf : List Ticked → List (Told Tick)
+abbrev pub answersOf : List Ticked → List (Answered Tick)
 answersOf [] = []
-answersOf (r ∷ rs) = toldProgress (r .answer) ∷ answersOf rs
+answersOf (r ∷ rs) = progressAnswered (r .answer) ∷ answersOf rs
 
 -- f 0 to f (k - 1), the last first.
-abbrev pub counted : (ℕ → Told Tick) → ℕ → List (Told Tick)
+abbrev pub counted : (ℕ → Answered Tick) → ℕ → List (Answered Tick)
 counted f zero = []
 counted f (suc k) = f k ∷ counted f k
 
 -- After a refused start every tick is refused by 1 and gives the zeros back.
 pub record RefusedByHand (s : Started) (rs : List Ticked) : Type 0 where
-  pub all-refused : answersOf rs ≡ counted (λ t. told Order) (length rs)
+  pub all-refused : answersOf rs ≡ counted (λ t. refusedBy Order) (length rs)
   pub zeros-back : lastArray s rs ≡ noArray
 
 -- The first 3 K + N ticks are made and the rest are stopped.
-unfoldable pub firstMade : ℕ → ℕ → Told Tick
+unfoldable pub firstMade : ℕ → ℕ → Answered Tick
 firstMade last t = cond (ltb t last) (given made) (given stopped)
 
 -- r is a line of a matrix of order n.
@@ -59,18 +60,18 @@ LineOf n r = (1 ≤ r) × (r ≤ n)
 pub record Agrees (n sweeps : ℕ) (l : List Float) (x : Array) : Type 0 where
   pub matrix-agrees : (r c : ℕ) → LineOf n r → LineOf n c → matrixIn (x .tiles) r c ≡ after n (stepsOf n sweeps) (startOf n l) .matrix r c
   pub vectors-agree : (r c : ℕ) → LineOf n r → LineOf n c → vectorsIn (x .tiles) r c ≡ after n (stepsOf n sweeps) (startOf n l) .vectors r c
-  pub none-marked : someMarked (n / 2) (x .tiles) ≡ false
+  pub none-marked : someMarked (processorsOf n) (x .tiles) ≡ false
 
 -- Once all ticks are made.
 pub record Ended (n sweeps : ℕ) (l : List Float) (x : Array) : Type 0 where
   pub stays : x ≡ ticked (ticksOf n sweeps) (startArray n sweeps l)
   pub finite-agrees : spoiled n (stepsOf n sweeps) (startOf n l) ≡ false → Agrees n sweeps l x
-  pub spoiled-marked : spoiled n (stepsOf n sweeps) (startOf n l) ≡ true → someMarked (n / 2) (x .tiles) ≡ true
+  pub spoiled-marked : spoiled n (stepsOf n sweeps) (startOf n l) ≡ true → someMarked (processorsOf n) (x .tiles) ≡ true
 
 pub record AcceptedByHand (n sweeps : ℕ) (l : List Float) (s : Started) (rs : List Ticked) : Type 0 where
   pub made-then-stopped : answersOf rs ≡ counted (firstMade (ticksOf n sweeps)) (length rs)
   pub ends : ticksOf n sweeps ≤ length rs → Ended n sweeps l (lastArray s rs)
 
-abbrev pub ClaimedByHand : Told Unit → ℕ → ℕ → List Float → Started → List Ticked → Type 0
+abbrev pub ClaimedByHand : Answered Unit → ℕ → ℕ → List Float → Started → List Ticked → Type 0
 ClaimedByHand (given x) n sweeps l s rs = AcceptedByHand n sweeps l s rs
 ClaimedByHand (refused k values) n sweeps l s rs = RefusedByHand s rs

@@ -6,19 +6,21 @@ use mathlib.Core.List.{List}
 use native.Mathlib.Omega.{arith}
 use lib.Dec.{eqb}
 use lib.Ieee.{Float, nan}
-use Rattle.refusal.specs.Refusal.{given, told}
+use Rattle.refusal.specs.Answers.{given, refusedBy}
 use Rattle.refusal.specs.declared.Refusal.the-variants.{Spoiled}
 use Rattle.lists.proofs.Filled.{Filled, filled-all}
-use Rattle.systolic.specs.Slots.{any}
-use Rattle.systolic.proofs.Bounded.{any-hit}
+use Rattle.lists.specs.Bounded.{any}
+use Rattle.lists.proofs.Bounded.{any-hit}
 use Rattle.tile_wires.specs.declared.Quad.{Quad}
 use Rattle.tile_wires.specs.Lines.{cornerOf}
 use Rattle.matrix.specs.Matrix.{flat}
-use Rattle.plain_run.specs.Run.{Outcome, outcome, zeros}
+use Rattle.runs.specs.Outcome.{Outcome, outcome}
+use Rattle.runs.specs.State.{zeros}
 use Rattle.tile.specs.declared.Tile.{Tile}
 use Rattle.array.specs.declared.Array.{Array}
 use Rattle.array.specs.Arrays.{tileAt}
 use Rattle.array_run.specs.Results.{joinedAt, matrixIn, vectorsIn, someMarked, handedOver}
+use Rattle.sizes.specs.Sizes.{processorsOf}
 
 -- ---- marks
 -- a tile of row i before column j is marked, and one of the rows before i
@@ -48,11 +50,12 @@ flat-filled n k A l h e = filled-all k l h (omega arith)
 
 -- ---- what is handed over
 module _ (x : Array) where
-  pub spoiled-over : someMarked (x .n / 2) (x .tiles) ≡ true → {o : Outcome ℕ} → o ≡ outcome (told Spoiled) (zeros (x .n)) (zeros (x .n)) → o ≡ handedOver x
+  pub spoiled-over : someMarked (processorsOf (x .n)) (x .tiles) ≡ true → {o : Outcome ℕ}
+      → o ≡ outcome (refusedBy Spoiled) (zeros (x .n)) (zeros (x .n)) → o ≡ handedOver x
   unfolding handedOver
   spoiled-over e f = rw e f
 
-  pub cells-over : {r v : List Float} → someMarked (x .n / 2) (x .tiles) ≡ false → r ≡ flat (x .n) (matrixIn (x .tiles)) → v ≡ flat (x .n) (vectorsIn (x .tiles))
-      → outcome (given (x .tick)) r v ≡ handedOver x
+  pub cells-over : {r v : List Float} → someMarked (processorsOf (x .n)) (x .tiles) ≡ false → r ≡ flat (x .n) (matrixIn (x .tiles))
+      → v ≡ flat (x .n) (vectorsIn (x .tiles)) → outcome (given (x .tick)) r v ≡ handedOver x
   unfolding handedOver
   cells-over e f g = rw (e, f, g)

@@ -4,16 +4,18 @@ use mathlib.Core.Bool.{Bool, cond}
 use mathlib.Core.List.{List}
 use lib.Dec.{eqb}
 use lib.Ieee.{Float}
-use Rattle.refusal.specs.Refusal.{given, told}
+use Rattle.refusal.specs.Answers.{given, refusedBy}
 use Rattle.refusal.specs.declared.Refusal.the-variants.{Spoiled}
-use Rattle.systolic.specs.Slots.{any}
+use Rattle.lists.specs.Bounded.{any}
 use Rattle.tile_wires.specs.declared.Quad.{Quad}
 use Rattle.tile_wires.specs.Lines.{cornerOf}
 use Rattle.matrix.specs.Matrix.{flat}
-use Rattle.plain_run.specs.Run.{Outcome, outcome, zeros}
+use Rattle.runs.specs.Outcome.{Outcome, outcome}
+use Rattle.runs.specs.State.{zeros}
 use Rattle.tile.specs.declared.Tile.{Tile}
 use Rattle.array.specs.declared.Array.{Array}
 use Rattle.array.specs.Arrays.{tileAt}
+use Rattle.sizes.specs.Sizes.{processorsOf}
 
 -- The entry in row r and column c, both from 1, of the matrix whose parts are given by the tiles' rows and columns.
 unfoldable pub joinedAt : (ℕ → ℕ → Quad) → ℕ → ℕ → Float
@@ -33,5 +35,5 @@ someMarked N l = any N (λ i. any N (λ j. tileAt l i j .mark))
 -- What a whole run makes of its array at the end: 8 if a tile is marked, otherwise the tick and the cells.
 unfoldable pub handedOver : Array → Outcome ℕ
 handedOver x =
-    cond (someMarked (x .n / 2) (x .tiles)) (outcome (told Spoiled) (zeros (x .n)) (zeros (x .n)))
+    cond (someMarked (processorsOf (x .n)) (x .tiles)) (outcome (refusedBy Spoiled) (zeros (x .n)) (zeros (x .n)))
     (outcome (given (x .tick)) (flat (x .n) (matrixIn (x .tiles))) (flat (x .n) (vectorsIn (x .tiles))))

@@ -1,20 +1,21 @@
 // What a whole run makes of its array at the end.
 ghost use mathlib.Core.Path.{_≡_};
-ghost use Prim.Native.Nat.{_+_, _*_, _/_, _≤_};
+ghost use Prim.Native.Nat.{_*_, _≤_};
 ghost use lib.ListN.{length};
-ghost use Rattle.ordering.specs.Pairs.{limit};
+ghost use Rattle.sizes.specs.Sizes.{largestOrder, processorsOf};
 ghost use Rattle.matrix.specs.Matrix.{flat};
-ghost use Rattle.plain_run.specs.Run.{outcome};
+ghost use Rattle.runs.specs.Outcome.{outcome};
 ghost use Rattle.array_run.specs.Results.{someMarked, matrixIn, vectorsIn, handedOver};
-ghost use Rattle.array_run.specs.Whole.{toldCompletion};
+ghost use Rattle.array_run.specs.Whole.{completionAnswered};
 use crate::Completion;
 use array::Array;
 use refusal::Refusal;
+use sizes::MOST_PROCESSORS;
 
 // Refusal 8 and +0 everywhere if a tile is marked, otherwise the number of ticks and the cells.
 pub fn hand_over(array: Array, result: &mut [f64], vectors: &mut [f64]) -> Completion
-    requires { ⌜ (array .n ≤ limit) × (length (now result) ≡ array .n * array .n) × (length (now vectors) ≡ array .n * array .n) ⌝ }
-    ensures { λ r. ⌜ outcome (toldCompletion r) (now (result .exit)) (now (vectors .exit)) ≡ handedOver array ⌝ }
+    requires { ⌜ (array .n ≤ largestOrder) × (length (now result) ≡ array .n * array .n) × (length (now vectors) ≡ array .n * array .n) ⌝ }
+    ensures { λ r. ⌜ outcome (completionAnswered r) (now (result .exit)) (now (vectors .exit)) ≡ handedOver array ⌝ }
 {
     if is_marked(array) {
         matrix::clear(result);
@@ -27,13 +28,13 @@ pub fn hand_over(array: Array, result: &mut [f64], vectors: &mut [f64]) -> Compl
 
 // Whether a tile in use is marked.
 fn is_marked(array: Array) -> bool
-    requires { ⌜ array .n ≤ limit ⌝ }
-    ensures { λ r. ⌜ r ≡ someMarked (array .n / 2) (array .tiles) ⌝ }
+    requires { ⌜ array .n ≤ largestOrder ⌝ }
+    ensures { λ r. ⌜ r ≡ someMarked (processorsOf (array .n)) (array .tiles) ⌝ }
 {
-    let processors = array.n / 2;
+    let processors = sizes::processors_of(array.n);
     for i in 0..processors {
         for j in 0..processors {
-            if array.tiles[i * 16 + j].mark {
+            if array.tiles[i * MOST_PROCESSORS + j].mark {
                 return true;
             }
         }
@@ -43,14 +44,14 @@ fn is_marked(array: Array) -> bool
 
 // Writes each cell to its row and column.
 fn write_cells(array: Array, result: &mut [f64], vectors: &mut [f64])
-    requires { ⌜ (array .n ≤ limit) × (length (now result) ≡ array .n * array .n) × (length (now vectors) ≡ array .n * array .n) ⌝ }
+    requires { ⌜ (array .n ≤ largestOrder) × (length (now result) ≡ array .n * array .n) × (length (now vectors) ≡ array .n * array .n) ⌝ }
     ensures { λ _. ⌜ (now (result .exit) ≡ flat (array .n) (matrixIn (array .tiles))) × (now (vectors .exit) ≡ flat (array .n) (vectorsIn (array .tiles))) ⌝ }
 {
     let n = array.n;
     for k in 0..result.len() {
         let i = k / n;
         let j = k % n;
-        let tile = array.tiles[i / 2 * 16 + j / 2];
+        let tile = array.tiles[i / 2 * MOST_PROCESSORS + j / 2];
         let cells = tile.cells;
         let entries = cells.matrix;
         let parts = cells.vectors;

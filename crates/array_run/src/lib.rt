@@ -1,12 +1,12 @@
 // The whole run on the array (document 01, "The array").
 ghost use mathlib.Core.Path.{_≡_};
 ghost use lib.ListN.{length};
-ghost use Rattle.refusal.specs.Refusal.{given};
-ghost use Rattle.plain_run.specs.Run.{beforeRun, outcome};
-ghost use Rattle.tile_schedule.specs.Answers.{ticksOf};
+ghost use Rattle.refusal.specs.Answers.{given};
+ghost use Rattle.runs.specs.Outcome.{beforeRun, outcome};
+ghost use Rattle.sizes.specs.Sizes.{ticksOf};
 ghost use Rattle.array.specs.Runs.{startArray, ticked};
 ghost use Rattle.array_run.specs.Results.{handedOver};
-ghost use Rattle.array_run.specs.Whole.{toldCompletion, wholeOf};
+ghost use Rattle.array_run.specs.Whole.{completionAnswered, wholeOf};
 use array::Array;
 use refusal::Answer;
 use refusal::Refusal;
@@ -27,9 +27,10 @@ pub fn run(
     result: &mut [f64],
     vectors: &mut [f64],
 ) -> Completion
-    ensures { λ r. ⌜ outcome (toldCompletion r) (now (result .exit)) (now (vectors .exit)) ≡ wholeOf n sweeps (now (matrix .entry)) (now (result .entry)) (now (vectors .entry)) ⌝ }
+    ensures { λ r. ⌜ outcome (completionAnswered r) (now (result .exit)) (now (vectors .exit))
+        ≡ wholeOf n sweeps (now (matrix .entry)) (now (result .entry)) (now (vectors .entry)) ⌝ }
 {
-    match plain_run::verdict(n, sweeps, matrix, result.len(), vectors.len()) {
+    match runs::verdict(n, sweeps, matrix, result.len(), vectors.len()) {
         Answer::Accepted => run_accepted(n, sweeps, matrix, result, vectors),
         Answer::Refused(refused) => Completion::Refused(refused),
     }
@@ -44,10 +45,10 @@ fn run_accepted(
     vectors: &mut [f64],
 ) -> Completion
     requires { ⌜ beforeRun n sweeps (now matrix) (length (now result)) (length (now vectors)) ≡ given tt ⌝ }
-    ensures { λ r. ⌜ outcome (toldCompletion r) (now (result .exit)) (now (vectors .exit)) ≡ handedOver (ticked (ticksOf n sweeps) (startArray n sweeps (now (matrix .entry)))) ⌝ }
+    ensures { λ r. ⌜ outcome (completionAnswered r) (now (result .exit)) (now (vectors .exit))
+        ≡ handedOver (ticked (ticksOf n sweeps) (startArray n sweeps (now (matrix .entry)))) ⌝ }
 {
-    let started = Array::start(n, sweeps, matrix);
-    let start = started.array;
-    let end = start.ticks(3 * (sweeps * (n - 1)) + n / 2);
+    let start = Array::of_matrix(n, sweeps, matrix);
+    let end = start.ticks(sizes::ticks_of(n, sweeps));
     ending::hand_over(end, result, vectors)
 }

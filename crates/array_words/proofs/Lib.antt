@@ -1,3 +1,3 @@
-pub mod Written
-pub mod Loaded
-pub mod Kept
+pub mod WordsWritten
+pub mod ArrayRead
+pub mod WordsBack

@@ -8,7 +8,7 @@ use lib.Dec.{T, eqb, ltb}
 use lib.ListN.{length, getD, set}
 use lib.Ieee.{Float, binary64, fits, toBits, ofBits}
 use Rattle.lists.specs.Tabulate.{tabulate}
-use Rattle.ordering.specs.Registers.{most}
+use Rattle.sizes.specs.Sizes.{mostProcessors}
 use Rattle.tile_wires.specs.declared.Quad.{Quad}
 use Rattle.tile_wires.specs.declared.Part.{Part}
 use Rattle.tile.specs.declared.Tile.{Tile}
@@ -20,7 +20,7 @@ abbrev pub tileWords : ℕ
 tileWords = 19
 
 abbrev pub arrayWords : ℕ
-arrayWords = 3 + most * most * tileWords
+arrayWords = 3 + mostProcessors * mostProcessors * tileWords
 
 -- ---- the words of an array
 -- α β / γ δ, row by row
@@ -79,7 +79,7 @@ arrayIn l =
       n = getD l 0 0;
       sweeps = getD l 1 0;
       tick = getD l 2 0;
-      tiles = tabulate (most * most) (λ i. tileIn l (3 + i * tileWords));
+      tiles = tabulate (mostProcessors * mostProcessors) (λ i. tileIn l (3 + i * tileWords));
     }
 
 -- What a list of words holds after an array is stored in it: a list of another length stays as it was.
@@ -104,5 +104,5 @@ pub record Binary64Tile (x : Tile) : Type 0 where
   pub column-fits : T (fits binary64 (x .column))
 
 pub record Binary64Array (x : Array) : Type 0 where
-  pub tiles-many : length (x .tiles) ≡ most * most
-  pub tiles-fit : (i : ℕ) → i < most * most → Binary64Tile (getD (x .tiles) i noTile)
+  pub tiles-many : length (x .tiles) ≡ mostProcessors * mostProcessors
+  pub tiles-fit : (i : ℕ) → i < mostProcessors * mostProcessors → Binary64Tile (getD (x .tiles) i noTile)

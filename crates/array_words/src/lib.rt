@@ -3,17 +3,19 @@ ghost use mathlib.Core.Path.{_≡_};
 ghost use Prim.Native.Nat.{_+_, _≤_};
 ghost use lib.Dec.{eqb};
 ghost use lib.ListN.{length, getD};
-ghost use Rattle.array_words.specs.Words.{tileWords, arrayWords, quadWord, partWord, tileWord, writtenAt, valueAt, quadIn, partIn, tileIn, arrayIn, storedIn};
+ghost use Rattle.array_words.specs.Words.{tileWords, arrayWords, quadWord, partWord, tileWord, writtenAt};
+ghost use Rattle.array_words.specs.Words.{valueAt, quadIn, partIn, tileIn, arrayIn, storedIn};
 use array::Array;
+use sizes::MOST_TILES;
+use tile::Tile;
 use tile_wires::Part;
 use tile_wires::Quad;
-use tile::Tile;
 
 // The words of a tile.
-const TILE: usize = 19;
+pub const TILE: usize = 19;
 
-// The words of an array: 3, and those of 256 tiles.
-const ARRAY: usize = 4867;
+// The words of an array: 3, and those of its tiles.
+pub const ARRAY: usize = 3 + MOST_TILES * TILE;
 
 // Whether so many words are those of an array.
 pub fn is_array(length: usize) -> bool
@@ -26,8 +28,8 @@ pub fn is_array(length: usize) -> bool
 pub fn load(words: &[u64]) -> Array
     ensures { λ r. ⌜ r ≡ arrayIn (now (words .entry)) ⌝ }
 {
-    let mut tiles = [tile_in(words, 3); 256];
-    for i in 0..256 {
+    let mut tiles = [tile_in(words, 3); MOST_TILES];
+    for i in 0..MOST_TILES {
         tiles[i] = tile_in(words, 3 + i * TILE);
     }
     Array {
@@ -100,7 +102,7 @@ pub fn store(array: Array, words: &mut [u64])
     words[0] = array.n as u64;
     words[1] = array.sweeps as u64;
     words[2] = array.tick as u64;
-    for i in 0..256 {
+    for i in 0..MOST_TILES {
         let tile = array.tiles[i];
         store_tile(tile, 3 + i * TILE, words);
     }

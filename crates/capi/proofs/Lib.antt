@@ -1,3 +1,3 @@
-pub mod Saying
+pub mod CAnswers
 pub mod Listing
-pub mod Keeping
+pub mod ArrayByHand

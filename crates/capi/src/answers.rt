@@ -1,13 +1,15 @@
 // The numbers and places of answers, and what crosses to C.
 ghost use mathlib.Core.Path.{_≡_};
-ghost use Rattle.refusal.specs.Refusal.{entryOf, toldAnswer};
-ghost use Rattle.capi.specs.Said.{said, placeOf, refusedAs, saidOf, numberTold};
+ghost use Rattle.refusal.specs.Refusal.{numberOf, valuesOf};
+ghost use Rattle.refusal.specs.Answers.{answered};
+ghost use Rattle.capi.specs.CAnswers.{cAnswer, placeOr, refusedAs, cAnswerOf, numberAnswered};
 use refusal::Answer;
+use refusal::Place;
 use refusal::Refusal;
 
 // The number of an answer, with the place of a refusal that has one.
 pub fn number_of(answer: Answer, row: &mut usize, column: &mut usize) -> u8
-    ensures { λ r. ⌜ said r (now (row .exit)) (now (column .exit)) ≡ saidOf (toldAnswer answer) (now (row .entry)) (now (column .entry)) ⌝ }
+    ensures { λ r. ⌜ cAnswer r (now (row .exit)) (now (column .exit)) ≡ cAnswerOf (answered answer) (now (row .entry)) (now (column .entry)) ⌝ }
 {
     match answer {
         Answer::Accepted => 0,
@@ -17,7 +19,7 @@ pub fn number_of(answer: Answer, row: &mut usize, column: &mut usize) -> u8
 
 // The number of an answer alone.
 pub fn number_alone(answer: Answer) -> u8
-    ensures { λ r. ⌜ r ≡ numberTold (toldAnswer answer) ⌝ }
+    ensures { λ r. ⌜ r ≡ numberAnswered (answered answer) ⌝ }
 {
     match answer {
         Answer::Accepted => 0,
@@ -27,31 +29,22 @@ pub fn number_alone(answer: Answer) -> u8
 
 // The number of a refusal, with its place if it has one.
 pub fn refuse(refused: Refusal, row: &mut usize, column: &mut usize) -> u8
-    ensures { λ r. ⌜ said r (now (row .exit)) (now (column .exit)) ≡ refusedAs (entryOf refused .0) (entryOf refused .1) (now (row .entry)) (now (column .entry)) ⌝ }
+    ensures { λ r. ⌜ cAnswer r (now (row .exit)) (now (column .exit))
+        ≡ refusedAs (numberOf refused) (valuesOf refused) (now (row .entry)) (now (column .entry)) ⌝ }
 {
     set_place(refused, row, column);
     refusal::number(refused)
 }
 
 fn set_place(refused: Refusal, row: &mut usize, column: &mut usize)
-    ensures { λ _. ⌜ (now (row .exit), now (column .exit)) ≡ placeOf (entryOf refused .1) (now (row .entry)) (now (column .entry)) ⌝ }
+    ensures { λ _. ⌜ (now (row .exit), now (column .exit)) ≡ placeOr (valuesOf refused) (now (row .entry)) (now (column .entry)) ⌝ }
 {
-    match refused {
-        Refusal::NotFinite(i, j) => {
+    match refusal::place_of(refused) {
+        Place::At(i, j) => {
             *row = i;
             *column = j;
         }
-        Refusal::NotMirrored(i, j) => {
-            *row = i;
-            *column = j;
-        }
-        Refusal::Order => {}
-        Refusal::Sweeps => {}
-        Refusal::Length => {}
-        Refusal::Code => {}
-        Refusal::TooShort => {}
-        Refusal::Spoiled => {}
-        Refusal::NoRoot => {}
+        Place::Nowhere => {}
     }
 }
 

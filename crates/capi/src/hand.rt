@@ -1,6 +1,6 @@
 // The array by hand: its record is kept in lent words between two calls.
 ghost use mathlib.Core.Path.{_≡_};
-ghost use Rattle.capi.specs.Said.{said};
+ghost use Rattle.capi.specs.CAnswers.{cAnswer};
 ghost use Rattle.capi.specs.Calls.{ofStart, ofTick};
 use array::Array;
 use refusal::Refusal;
@@ -15,10 +15,11 @@ pub extern "C" fn weimrukas_array_start(
     row: &mut usize,
     column: &mut usize,
 ) -> u8
-    ensures { λ r. ⌜ (said r (now (row .exit)) (now (column .exit)), now (words .exit)) ≡ ofStart n sweeps (now (matrix .entry)) (now (words .entry)) (now (row .entry)) (now (column .entry)) ⌝ }
+    ensures { λ r. ⌜ (cAnswer r (now (row .exit)) (now (column .exit)), now (words .exit))
+        ≡ ofStart n sweeps (now (matrix .entry)) (now (words .entry)) (now (row .entry)) (now (column .entry)) ⌝ }
 {
     if !array_words::is_array(words.len()) {
-        let refused = plain_run::verdict(n, sweeps, matrix, 0, 0);
+        let refused = runs::verdict(n, sweeps, matrix, 0, 0);
         return crate::answers::number_of(refused, row, column);
     }
     let started = Array::start(n, sweeps, matrix);

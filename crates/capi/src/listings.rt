@@ -1,7 +1,7 @@
 // The listing of a sheet.
 ghost use mathlib.Core.Path.{_≡_};
 ghost use Rattle.listing.specs.Listing.{listOf};
-ghost use Rattle.capi.specs.Said.{said};
+ghost use Rattle.capi.specs.CAnswers.{cAnswer};
 ghost use Rattle.capi.specs.Calls.{ofListing};
 
 #[no_mangle]
@@ -12,7 +12,8 @@ pub extern "C" fn weimrukas_list(
     row: &mut usize,
     column: &mut usize,
 ) -> u8
-    ensures { λ r. ⌜ (said r (now (row .exit)) (now (column .exit)), now (length .exit), now (text .exit)) ≡ ofListing (listOf (now (sheet .entry)) (now (text .entry))) (now (row .entry)) (now (column .entry)) ⌝ }
+    ensures { λ r. ⌜ (cAnswer r (now (row .exit)) (now (column .exit)), now (length .exit), now (text .exit))
+        ≡ ofListing (listOf (now (sheet .entry)) (now (text .entry))) (now (row .entry)) (now (column .entry)) ⌝ }
 {
     let listed = listing::list(sheet, text);
     *length = listed.count;

@@ -30,13 +30,14 @@ pub extern "C" fn weimrukas_pairs(
 fn pairs_too_short(n: usize, lefts: usize, rights: usize) -> bool
     ensures { λ r. ⌜ r ≡ pairsTooShort n lefts rights ⌝ }
 {
-    if ordering::is_no_order(n) {
+    if !sizes::is_order(n) {
         return false;
     }
-    if lefts < n / 2 {
+    let processors = sizes::processors_of(n);
+    if lefts < processors {
         return true;
     }
-    rights < n / 2
+    rights < processors
 }
 
 // Writes registers to the front of a list, and zeros above them.

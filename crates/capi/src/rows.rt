@@ -1,14 +1,14 @@
 // The records of a step, three values a record.
 ghost use mathlib.Core.Path.{_≡_};
 ghost use Prim.Native.Nat.{_+_, _*_, _/_, _≤_};
-ghost use mathlib.Core.Bool.{false};
+ghost use mathlib.Core.Bool.{true};
 ghost use lib.ListN.{length, set};
-ghost use Rattle.refusal.specs.Refusal.{given};
-ghost use Rattle.ordering.specs.Pairs.{noOrder};
-ghost use Rattle.capi.specs.Said.{said};
+ghost use Rattle.refusal.specs.Answers.{given};
+ghost use Rattle.sizes.specs.Sizes.{isOrder, processorsOf};
+ghost use Rattle.capi.specs.CAnswers.{cAnswer};
 ghost use Rattle.capi.specs.Calls.{recordsLeft, ofRecords};
-use step_records::Record;
 use refusal::Answer;
+use step_records::Record;
 
 #[no_mangle]
 pub extern "C" fn weimrukas_records(
@@ -19,7 +19,8 @@ pub extern "C" fn weimrukas_records(
     row: &mut usize,
     column: &mut usize,
 ) -> u8
-    ensures { λ r. ⌜ (said r (now (row .exit)) (now (column .exit)), now (values .exit)) ≡ ofRecords n (now (matrix .entry)) step (now (values .entry)) (now (row .entry)) (now (column .entry)) ⌝ }
+    ensures { λ r. ⌜ (cAnswer r (now (row .exit)) (now (column .exit)), now (values .exit))
+        ≡ ofRecords n (now (matrix .entry)) step (now (values .entry)) (now (row .entry)) (now (column .entry)) ⌝ }
 {
     match step_records::verdict(n, matrix, values.len() / 3) {
         Answer::Accepted => {
@@ -32,12 +33,13 @@ pub extern "C" fn weimrukas_records(
 
 // Writes the fields of the records one after the other.
 fn put_records(n: usize, matrix: &[f64], step: usize, values: &mut [f64])
-    requires { ⌜ (noOrder n ≡ false) × (n / 2 * 3 ≤ length (now values)) ⌝ }
+    requires { ⌜ (isOrder n ≡ true) × (processorsOf n * 3 ≤ length (now values)) ⌝ }
     ensures { λ _. ⌜ now (values .exit) ≡ recordsLeft (given tt) n (now (matrix .entry)) step (now (values .entry)) ⌝ }
 {
     let listed = ordering::pairs(n, step);
     let registers = listed.registers;
-    for k in 0..n / 2 {
+    let processors = sizes::processors_of(n);
+    for k in 0..processors {
         let fields = step_records::of_processor(n, matrix, registers, k);
         put_record(fields, k * 3, values);
     }

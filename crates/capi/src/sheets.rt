@@ -2,7 +2,7 @@
 ghost use mathlib.Core.Path.{_≡_};
 ghost use Rattle.sheet_reader.specs.Reader.{readOf};
 ghost use Rattle.sheet_writer.specs.Writer.{writeOf};
-ghost use Rattle.capi.specs.Said.{said};
+ghost use Rattle.capi.specs.CAnswers.{cAnswer};
 ghost use Rattle.capi.specs.Calls.{ofReading, ofWriting};
 use sheet_reader::Reading;
 
@@ -16,7 +16,9 @@ pub extern "C" fn weimrukas_read_sheet(
     row: &mut usize,
     column: &mut usize,
 ) -> u8
-    ensures { λ r. ⌜ (said r (now (row .exit)) (now (column .exit)), (now (n .exit), now (sweeps .exit)), now (codes .exit), now (matrix .exit)) ≡ ofReading (readOf (now (sheet .entry)) (now (codes .entry)) (now (matrix .entry))) (now (n .entry)) (now (sweeps .entry)) (now (row .entry)) (now (column .entry)) ⌝ }
+    ensures { λ r. ⌜ (cAnswer r (now (row .exit)) (now (column .exit)), (now (n .exit), now (sweeps .exit)), now (codes .exit), now (matrix .exit))
+        ≡ ofReading (readOf (now (sheet .entry)) (now (codes .entry)) (now (matrix .entry))) (now (n .entry)) (now (sweeps .entry)) (now (row .entry))
+        (now (column .entry)) ⌝ }
 {
     match sheet_reader::read(sheet, codes, matrix) {
         Reading::Read(order, count) => {
@@ -38,7 +40,8 @@ pub extern "C" fn weimrukas_write_sheet(
     row: &mut usize,
     column: &mut usize,
 ) -> u8
-    ensures { λ r. ⌜ (said r (now (row .exit)) (now (column .exit)), now (sheet .exit)) ≡ ofWriting (writeOf n sweeps (now (codes .entry)) (now (matrix .entry)) (now (sheet .entry))) (now (row .entry)) (now (column .entry)) ⌝ }
+    ensures { λ r. ⌜ (cAnswer r (now (row .exit)) (now (column .exit)), now (sheet .exit))
+        ≡ ofWriting (writeOf n sweeps (now (codes .entry)) (now (matrix .entry)) (now (sheet .entry))) (now (row .entry)) (now (column .entry)) ⌝ }
 {
     let answer = sheet_writer::write(n, sweeps, codes, matrix, sheet);
     crate::answers::number_of(answer, row, column)

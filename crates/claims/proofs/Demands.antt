@@ -1,4 +1,5 @@
 -- The demands are met. Assumes nothing.
+use Rattle.claims.proofs.Sizes.{sizes-as-stated}
 use Rattle.claims.specs.Demands.{Demands}
 use Rattle.claims.proofs.Refusals.{refused-as-tabled}
 use Rattle.claims.proofs.Report.{as-the-report}
@@ -9,6 +10,7 @@ use Rattle.claims.proofs.Computed.{examples-hold}
 pub demands-met : Demands
 demands-met =
     record {
+      sizes = sizes-as-stated;
       demand-1 = refused-as-tabled;
       demand-2-numbers = as-the-report;
       demand-2-sheets = sheets-kept;

@@ -1,11 +1,11 @@
 -- Demand 3, each part by the law that proves it. Assumes nothing.
 use Prim.Native.Nat.{ℕ}
 use mathlib.Core.Path.{_≡_, sym, ap, _∙_}
-use Rattle.refusal.specs.Refusal.{Told, given, refused}
+use Rattle.refusal.specs.Answers.{Answered, given, refused, giving, valueOr}
 use Rattle.ordering.proofs.Meetings as ordering
-use Rattle.plain_run.specs.Run.{Outcome, runOf}
-use Rattle.tile_schedule.specs.Answers.{ticksOf}
-use Rattle.array_run.specs.Whole.{tellingIn}
+use Rattle.runs.specs.Outcome.{Outcome}
+use Rattle.plain_run.specs.Run.{runOf}
+use Rattle.sizes.specs.Sizes.{ticksOf}
 use Rattle.array_agreement.proofs.Agreement as agreement
 use Rattle.array_agreement.proofs.Hand as hand
 use Rattle.array_agreement.proofs.Neighbours as neighbours
@@ -14,17 +14,14 @@ use Rattle.claims.specs.Histories.{WholeRunIsThePlainRun, TicksReported,
 whole-run : WholeRunIsThePlainRun
 whole-run = agreement.whole-agrees
 
--- the value that is told
-abbrev valueOr : {A : Type 0} → A → Told A → A
-valueOr x (given y) = y
-valueOr x (refused k values) = x
-
-told-value : {A : Type 0} (x y : A) (t : Told Unit) → tellingIn x t ≡ given y → y ≡ x
-told-value x y (given z) e = sym (ap (valueOr x) e)
-told-value x y (refused k values) e = sym (ap (valueOr x) e)
+-- the value that is given
+given-value : {A : Type 0} (x y : A) (a : Answered Unit) → giving x a ≡ given y → y ≡ x
+given-value x y (given z) e = sym (ap (λ (b : Answered _). valueOr b x) e)
+given-value x y (refused k values) e = sym (ap (λ (b : Answered _). valueOr b x) e)
 
 ticks : TicksReported
-ticks n sweeps l r v fit k e = told-value (ticksOf n sweeps) k (runOf n sweeps l r v .says) (sym (ap (λ (o : Outcome ℕ). o .says) (whole-run n sweeps l r v fit)) ∙ e)
+ticks n sweeps l r v fit k e =
+    given-value (ticksOf n sweeps) k (runOf n sweeps l r v .answer) (sym (ap (λ (o : Outcome ℕ). o .answer) (whole-run n sweeps l r v fit)) ∙ e)
 
 pub one-history : OneHistory
 one-history =

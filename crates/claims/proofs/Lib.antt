@@ -1,6 +1,7 @@
 pub mod Computed
+pub mod Sizes
 pub mod Tables
-pub mod Leaving
+pub mod WhatIsLeft
 pub mod Places
 pub mod Rounded
 pub mod Rotated

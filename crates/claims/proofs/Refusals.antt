@@ -1,17 +1,18 @@
 -- Demand 1, each part by the law that proves it. Assumes nothing.
 use mathlib.Core.Path.{_∙_}
 use Rattle.claims.specs.Refusals.{RefusedAsTabled}
+use Rattle.sheet_reader.proofs.Tables.{lent-right}
 use Rattle.claims.proofs.Places.{entries-tested}
 use Rattle.claims.proofs.Rounded as root
 use Rattle.claims.proofs.Tables as tables
-use Rattle.claims.proofs.Leaving as leaving
+use Rattle.claims.proofs.WhatIsLeft as leaving
 
 pub refused-as-tabled : RefusedAsTabled
 refused-as-tabled =
     record {
       entries-are-tested = entries-tested;
       root-answers = (root.root-of-nan, root.root-below, root.root-other);
-      pairs-answer = λ n step r h. (h .answers ∙ tables.pairs-table n, λ e. h .lists ∙ rw e);
+      pairs-answer = λ n step r h. (h .answers, λ e. h .lists ∙ rw e);
       plain-run-answers = tables.run-table;
       whole-run-answers = tables.whole-table;
       runs-leave = leaving.runs-leave;
@@ -20,6 +21,7 @@ refused-as-tabled =
       records-answer = tables.records-table;
       records-leave = leaving.records-leave;
       reader-answers = tables.reader-table;
+      sheet-answers = lent-right;
       reader-leaves = leaving.reader-leaves;
       writer-answers = tables.writer-table;
       writer-leaves = leaving.writer-leaves;

@@ -9,6 +9,7 @@ pub as-the-report : AsTheReport
 as-the-report =
     record {
       root-rounds-correctly = root-rounds;
-      rotation-is-the-reports = record { turns = rotated.turns; pair = paired; still = rotated.still; sign-of-zero = rotated.sign-of-zero; not-a-number = rotated.not-a-number };
+      rotation-is-the-reports =
+          record { turns = rotated.turns; pair = paired; still = rotated.still; sign-of-zero = rotated.sign-of-zero; not-a-number = rotated.not-a-number };
       pairing-is-the-reports = moves;
     }

@@ -10,28 +10,28 @@ use lib.ListN.{length, getD, drop}
 use lib.Ieee.{Float, nan, inf, fin, binary64, fits, ofBits, toBits, isNan}
 use lib.Ieee.Bits.{ofBits-toBits, toBits-lt, toBits-ofBits}
 use Rattle.float64.specs.Values.{finite}
-use Rattle.refusal.specs.Refusal.{given, told}
+use Rattle.refusal.specs.Answers.{given, refusedBy, first}
 use Rattle.refusal.specs.declared.Refusal.the-variants.{NotFinite}
 use Rattle.lists.specs.Tabulate.{tabulate}
 use Rattle.lists.proofs.Tabulated.{length-tabulate, getD-tabulate, tabulated}
-use Rattle.ordering.proofs.Orders.{order-is}
+use Rattle.sizes.proofs.Orders.{order-is}
 use Rattle.matrix.specs.Matrix.{at, flat}
-use Rattle.matrix.specs.Entries.{first}
 use Rattle.matrix.proofs.Same.{Line, Finite, Mirrored, flat-same, flat-again, read-again}
-use Rattle.matrix.proofs.First.{first-fine}
-use Rattle.matrix.proofs.Accepted.{refused-given, each-given, of-test, accepted-finite, accepted-mirrored, accepted-if}
+use Rattle.refusal.proofs.FirstRefusal.{first-fine, refused-given, each-given, of-test}
+use Rattle.matrix.proofs.AcceptedEntries.{accepted-finite, accepted-mirrored, accepted-if}
 use Rattle.matrix.proofs.Flat.{flat-length}
-use Rattle.sheet.specs.Format.{sheetLength, entriesFrom, placeOf, entriesTo, numberOf, byteOf, wordFrom, sheetByte, sheetOf, orderIn, sweepsIn, codesIn, patternIn, entryIn}
+use Rattle.sheet.specs.Format.{sheetLength, entriesFrom, entryPlace, entriesTo, entryNumber, byteOf, wordFrom}
+use Rattle.sheet.specs.Format.{sheetByte, sheetOf, orderIn, sweepsIn, codesIn, patternIn, entryIn}
 use Rattle.sheet.specs.Codes.{badCodes}
 use Rattle.sheet.proofs.Words.{word-whole, word-small, byte-back}
 use Rattle.sheet.proofs.Triangle.{length-is, number-below, numbered, place-within, place-of-number}
 use Rattle.sheet.proofs.Used.{codes-alike}
-use Rattle.sheet_reader.specs.Reader.{notFiniteIn, storedOf, readTold, readOutcome, contentOf, readOf}
+use Rattle.sheet_reader.specs.Reader.{notFiniteIn, storedRow, readAnswer, readOutcome, contentOf, readOf}
 use Rattle.sheet_reader.proofs.Stored.{is-finite, codes-count, code-at, all-read, read-accepted-as}
 use Rattle.sheet_reader.proofs.Tables.{read-5, Readable, readable}
-use Rattle.sheet_writer.specs.Writer.{writeTold, writeOutcome, writtenOver, writeOf}
+use Rattle.sheet_writer.specs.Writer.{writeAnswer, writeOutcome, writtenOver, writeOf}
 use Rattle.sheet_writer.proofs.Tables.{write-all, Writable, writable}
-use Rattle.sheet_writer.proofs.Written.{byte-0, byte-1, byte-code, byte-entry, write-accepted-as}
+use Rattle.sheet_writer.proofs.SheetBytes.{byte-0, byte-1, byte-code, byte-entry, write-accepted-as}
 use Rattle.claims.specs.Sheets.{SameContent}
 
 -- ---- what stands in a sheet that was written
@@ -63,13 +63,13 @@ module _ (n sweeps : ℕ) (codes : List ℕ) (A : ℕ → ℕ → Float) where
   pattern-back : (i j : ℕ) → 1 ≤ j → j ≤ i → i ≤ n → T (fits binary64 (A i j)) → patternIn sheet i j ≡ toBits binary64 (A i j)
   unfolding patternIn
   pattern-back i j h k o f =
-      ap (λ (m : ℕ). wordFrom sheet (entriesFrom m + 8 * numberOf i j) 8) order-back
-      ∙ word-whole sheet (entriesFrom n + 8 * numberOf i j) (toBits binary64 (A i j)) (toBits-lt binary64 (A i j) f) (λ r b. byte r b)
+      ap (λ (m : ℕ). wordFrom sheet (entriesFrom m + 8 * entryNumber i j) 8) order-back
+      ∙ word-whole sheet (entriesFrom n + 8 * entryNumber i j) (toBits binary64 (A i j)) (toBits-lt binary64 (A i j) f) (λ r b. byte r b)
     where
-      byte : (r : ℕ) → r < 8 → getD sheet (entriesFrom n + 8 * numberOf i j + r) 0 ≡ byteOf (toBits binary64 (A i j)) r
+      byte : (r : ℕ) → r < 8 → getD sheet (entriesFrom n + 8 * entryNumber i j + r) 0 ≡ byteOf (toBits binary64 (A i j)) r
       byte r b =
-          sheet-at (entriesFrom n + 8 * numberOf i j + r) (omega (arith, length-is n, number-below n i j h k o))
-          ∙ sym (byte-entry n sweeps codes A (numberOf i j) r b) ∙ ap (λ (p : ℕ × ℕ). byteOf (toBits binary64 (A (p .0) (p .1))) r) (place-of-number i j h k)
+          sheet-at (entriesFrom n + 8 * entryNumber i j + r) (omega (arith, length-is n, number-below n i j h k o))
+          ∙ sym (byte-entry n sweeps codes A (entryNumber i j) r b) ∙ ap (λ (p : ℕ × ℕ). byteOf (toBits binary64 (A (p .0) (p .1))) r) (place-of-number i j h k)
 
   module _ (fitting : (i j : ℕ) → T (fits binary64 (A i j))) where
     value-back : (i j : ℕ) → 1 ≤ j → j ≤ i → i ≤ n → ofBits binary64 (patternIn sheet i j) ≡ A i j
@@ -87,7 +87,8 @@ module _ (n sweeps : ℕ) (codes : List ℕ) (A : ℕ → ℕ → Float) where
     matrix-back m = ap (λ (k : ℕ). flat k (entryIn sheet)) order-back ∙ flat-same n _ _ (entry-back m)
 
     -- ---- it is accepted
-    stored-fine : Finite n A → storedOf sheet ≡ given tt
+    stored-fine : Finite n A → storedRow sheet ≡ given tt
+    unfolding storedRow
     stored-fine f =
         ap (λ (k : ℕ). first k (λ r. first r (notFiniteIn sheet r))) order-back
         ∙ first-fine _ n (λ r h. first-fine _ (r + 1) (λ c k. fine (r + 1) (c + 1) (omega arith) (omega arith) (omega arith)))
@@ -103,14 +104,16 @@ fit-at : (n : ℕ) (l : List Float) → ((k : ℕ) → T (fits binary64 (getD l 
 unfolding at
 fit-at n l fitting i j = fitting _
 
-entries-back : (n sweeps : ℕ) (codes : List ℕ) (l : List Float) (lb : ℕ) → ((k : ℕ) → T (fits binary64 (getD l k nan))) → writeTold n sweeps codes l lb ≡ given tt
+entries-back : (n sweeps : ℕ) (codes : List ℕ) (l : List Float) (lb : ℕ) → ((k : ℕ) → T (fits binary64 (getD l k nan)))
+    → writeAnswer n sweeps codes l lb ≡ given tt
     → flat (orderIn (sheetOf n sweeps codes (at n l))) (entryIn (sheetOf n sweeps codes (at n l))) ≡ l
 entries-back n sweeps codes l lb fitting e =
     let w = writable n sweeps codes l lb e in
     matrix-back n sweeps codes (at n l) (fit-at n l fitting) (accepted-mirrored n l fitting (w .entries-good)) ∙ sym (flat-again n l (w .matrix-long))
 
 -- What a writer accepts is read back as the same codes, sweeps and entries.
-pub read-back : (n sweeps : ℕ) (codes : List ℕ) (l : List Float) (lb : ℕ) → ((k : ℕ) → T (fits binary64 (getD l k nan))) → writeTold n sweeps codes l lb ≡ given tt
+pub read-back : (n sweeps : ℕ) (codes : List ℕ) (l : List Float) (lb : ℕ) → ((k : ℕ) → T (fits binary64 (getD l k nan)))
+    → writeAnswer n sweeps codes l lb ≡ given tt
     → (c : List ℕ) (m : List Float) → length c ≡ n → length m ≡ n * n → readOf (sheetOf n sweeps codes (at n l)) c m ≡ readOutcome (given (n, sweeps)) codes l
 read-back n sweeps codes l lb fitting e c m lc lm = sym (read-accepted-as b c m (sym accepted) (sym content))
   where
@@ -130,14 +133,18 @@ read-back n sweeps codes l lb fitting e c m lc lm = sym (read-accepted-as b c m 
     matrix-is = entries-back n sweeps codes l lb fitting e
 
     content : contentOf b ≡ readOutcome (given (n, sweeps)) codes l
-    content = sym (all-read b refl refl) ∙ rw (order-is-n, sweeps-is, codes-back n sweeps codes (at n l) (w .codes-long)) (ap (readOutcome (given (n, sweeps)) codes) (rw order-is-n at matrix-is))
+    content = sym (all-read b refl refl)
+        ∙ rw (order-is-n, sweeps-is, codes-back n sweeps codes (at n l) (w .codes-long))
+        (ap (readOutcome (given (n, sweeps)) codes) (rw order-is-n at matrix-is))
 
-    accepted : readTold b (length c) (length m) ≡ given tt
+    accepted : readAnswer b (length c) (length m) ≡ given tt
     accepted =
         let z = sheet-long n sweeps codes (at n l) in
         let o = order-is n (w .order) in
-        sym (read-5 b (length c) (length m) (omega arith) (rw order-is-n (w .order)) (rw sweeps-is (w .few)) (lc ∙ sym order-is-n) (rw order-is-n lm) (rw order-is-n z)
-        (rw order-is-n (codes-same n sweeps codes (at n l) ∙ w .codes-good)) (sym (stored-fine n sweeps codes (at n l) (fit-at n l fitting) (accepted-finite n l fitting (w .entries-good)))))
+        sym (read-5 b (length c) (length m) (omega arith) (rw order-is-n (w .order)) (rw sweeps-is (w .few)) (lc ∙ sym order-is-n) (rw order-is-n lm)
+        (rw order-is-n z)
+        (rw order-is-n (codes-same n sweeps codes (at n l) ∙ w .codes-good))
+        (sym (stored-fine n sweeps codes (at n l) (fit-at n l fitting) (accepted-finite n l fitting (w .entries-good)))))
 
 -- ---- a sheet that is accepted
 no-nan : (x : Float) → finite x ≡ true → T (not (isNan x))
@@ -151,24 +158,27 @@ module _ (b : List ℕ) (small : (i : ℕ) → getD b i 0 < 256) (lc lm : ℕ) (
   n = orderIn b
 
   stored-finite : (i j : ℕ) → 1 ≤ j → j ≤ i → i ≤ n → finite (ofBits binary64 (patternIn b i j)) ≡ true
-  stored-finite i j h k o = test (each-given (notFiniteIn b i) i (each-given (λ r. first r (notFiniteIn b r)) n (r .entries-good) i (omega arith, o)) j (h, k))
+  stored-finite i j h k o =
+      test (each-given (notFiniteIn b i) i (each-given (λ r. first r (notFiniteIn b r)) n (unfold storedRow in (r .entries-good)) i (omega arith, o)) j (h, k))
     where
       test : notFiniteIn b i j ≡ given tt → finite (ofBits binary64 (patternIn b i j)) ≡ true
-      test e = unfold notFiniteIn in (of-test (finite (ofBits binary64 (patternIn b i j))) (told (NotFinite i j)) (λ z. refused-given z) e)
+      test e = unfold notFiniteIn in (of-test (finite (ofBits binary64 (patternIn b i j))) (refusedBy (NotFinite i j)) (λ z. refused-given z) e)
 
   -- its patterns are those of the values read
   pattern-kept : (i j : ℕ) → 1 ≤ j → j ≤ i → i ≤ n → toBits binary64 (ofBits binary64 (patternIn b i j)) ≡ patternIn b i j
-  pattern-kept i j h k o = toBits-ofBits binary64 (patternIn b i j) (unfold patternIn in (word-small b _ small)) (no-nan (ofBits binary64 (patternIn b i j)) (stored-finite i j h k o))
+  pattern-kept i j h k o =
+      toBits-ofBits binary64 (patternIn b i j) (unfold patternIn in (word-small b _ small))
+      (no-nan (ofBits binary64 (patternIn b i j)) (stored-finite i j h k o))
 
   -- byte q of entry e
   entry-again : (A : ℕ → ℕ → Float) → ((i j : ℕ) → 1 ≤ j → j ≤ i → i ≤ n → A i j ≡ ofBits binary64 (patternIn b i j)) → (e q : ℕ) → e < entriesTo n → q < 8
-      → byteOf (toBits binary64 (A (placeOf e .0) (placeOf e .1))) q ≡ getD b (entriesFrom n + 8 * e + q) 0
+      → byteOf (toBits binary64 (A (entryPlace e .0) (entryPlace e .1))) q ≡ getD b (entriesFrom n + 8 * e + q) 0
   entry-again A same e q h k =
       let p = numbered e in
       let o = place-within n e h in
       ap (λ (x : Float). byteOf (toBits binary64 x) q) (same _ _ (p .above) (p .within) o)
       ∙ ap (λ (w : ℕ). byteOf w q) (pattern-kept _ _ (p .above) (p .within) o)
-      ∙ unfold patternIn in (byte-back b (entriesFrom n + 8 * numberOf (placeOf e .0) (placeOf e .1)) small q k)
+      ∙ unfold patternIn in (byte-back b (entriesFrom n + 8 * entryNumber (entryPlace e .0) (entryPlace e .1)) small q k)
       ∙ ap (λ (x : ℕ). getD b (entriesFrom n + 8 * x + q) 0) (p .number)
 
   -- written from what was read, it is the same bytes
@@ -183,13 +193,16 @@ module _ (b : List ℕ) (small : (i : ℕ) → getD b i 0 < 256) (lc lm : ℕ) (
             sym (code-at b (k - 2) (omega arith) ∙ ap (λ (x : ℕ). getD b x 0) e)
 
         entry : entriesFrom n ≤ k → getD b k 0
-            ≡ byteOf (toBits binary64 (A (placeOf ((k - entriesFrom n) / 8) .0) (placeOf ((k - entriesFrom n) / 8) .1))) ((k - entriesFrom n) % 8)
+            ≡ byteOf (toBits binary64 (A (entryPlace ((k - entriesFrom n) / 8) .0) (entryPlace ((k - entriesFrom n) / 8) .1))) ((k - entriesFrom n) % 8)
         entry l =
             let e : entriesFrom n + 8 * ((k - entriesFrom n) / 8) + (k - entriesFrom n) % 8 ≡ k = omega arith in
-            sym (entry-again A same ((k - entriesFrom n) / 8) ((k - entriesFrom n) % 8) (omega (arith, length-is n)) (omega arith) ∙ ap (λ (x : ℕ). getD b x 0) e)
+            sym (entry-again A same ((k - entriesFrom n) / 8) ((k - entriesFrom n) % 8) (omega (arith, length-is n)) (omega arith)
+            ∙ ap (λ (x : ℕ). getD b x 0) e)
 
         go : (x y z : Bool) → eqb k 0 ≡ x → eqb k 1 ≡ y → ltb k (entriesFrom n) ≡ z
-            → getD b k 0 ≡ cond x n (cond y (sweepsIn b) (cond z (getD (codesIn b) (k - 2) 0) (byteOf (toBits binary64 (A (placeOf ((k - entriesFrom n) / 8) .0) (placeOf ((k - entriesFrom n) / 8) .1))) ((k - entriesFrom n) % 8))))
+            → getD b k 0 ≡ cond x n
+            (cond y (sweepsIn b) (cond z (getD (codesIn b) (k - 2) 0)
+            (byteOf (toBits binary64 (A (entryPlace ((k - entriesFrom n) / 8) .0) (entryPlace ((k - entriesFrom n) / 8) .1))) ((k - entriesFrom n) % 8))))
         go true y z e f g = ap (λ (x : ℕ). getD b x 0) (eqb-true _ _ e)
         go false true z e f g = ap (λ (x : ℕ). getD b x 0) (eqb-true _ _ f)
         go false false true e f g =
@@ -217,7 +230,8 @@ module _ (b : List ℕ) (small : (i : ℕ) → getD b i 0 < 256) (lc lm : ℕ) (
   entries-mirrored i j hi hj = go (ltb i j) (ltb j i) refl refl
     where
       go : (x y : Bool) → ltb i j ≡ x → ltb j i ≡ y
-          → cond x (ofBits binary64 (patternIn b j i)) (ofBits binary64 (patternIn b i j)) ≡ cond y (ofBits binary64 (patternIn b i j)) (ofBits binary64 (patternIn b j i))
+          → cond x (ofBits binary64 (patternIn b j i)) (ofBits binary64 (patternIn b i j))
+          ≡ cond y (ofBits binary64 (patternIn b i j)) (ofBits binary64 (patternIn b j i))
       go true true e f = let u : i < j = ltb-true _ _ e in let v : j < i = ltb-true _ _ f in absurd (omega arith)
       go true false e f = refl
       go false true e f = refl
@@ -231,7 +245,7 @@ module _ (b : List ℕ) (small : (i : ℕ) → getD b i 0 < 256) (lc lm : ℕ) (
       go true e = let u : i < j = ltb-true _ _ e in stored-finite j i (hi .0) (omega arith) (hj .1)
       go false e = let u : j ≤ i = ltb-false _ _ e in stored-finite i j (hj .0) (omega arith) (hi .1)
 
-  write-accepts : (lb : ℕ) → length b ≤ lb → given tt ≡ writeTold n (sweepsIn b) (codesIn b) matrix lb
+  write-accepts : (lb : ℕ) → length b ≤ lb → given tt ≡ writeAnswer n (sweepsIn b) (codesIn b) matrix lb
   write-accepts lb o =
       write-all n (sweepsIn b) (codesIn b) matrix lb (r .order) (r .few) (codes-count b) (flat-length n (entryIn b)) codes-fine
       (sym (accepted-if n matrix (flat-length n (entryIn b)) (λ i j hi hj. ap finite (entry-value i j hi hj) ∙ entries-finite i j hi hj)
@@ -243,7 +257,7 @@ module _ (b : List ℕ) (small : (i : ℕ) → getD b i 0 < 256) (lc lm : ℕ) (
           codes-alike (codesIn b) b 0 2 n (λ k h. let e : 0 + k ≡ k = omega arith in rw e (code-at b k h)) ∙ r .codes-good
 
 -- A sheet that is accepted is written again as the same bytes.
-pub write-back : (b : List ℕ) → ((i : ℕ) → getD b i 0 < 256) → (lc lm : ℕ) → readTold b lc lm ≡ given tt → (lent : List ℕ) → length b ≤ length lent
+pub write-back : (b : List ℕ) → ((i : ℕ) → getD b i 0 < 256) → (lc lm : ℕ) → readAnswer b lc lm ≡ given tt → (lent : List ℕ) → length b ≤ length lent
     → writeOf (orderIn b) (sweepsIn b) (codesIn b) (flat (orderIn b) (entryIn b)) lent ≡ writeOutcome (given tt) (b ++ drop (length b) lent)
 write-back b small lc lm e lent o =
     let r = readable b lc lm e in
@@ -256,8 +270,9 @@ write-back b small lc lm e lent o =
         ∙ ap (λ (x : ℕ). b ++ drop x lent) (sym (r .sheet-long)))
 
 -- Two accepted contents with the same sheet are one.
-module _ (n n′ sweeps sweeps′ : ℕ) (codes codes′ : List ℕ) (l l′ : List Float) (lb lb′ : ℕ) (fitting : (k : ℕ) → T (fits binary64 (getD l k nan))) (fitting′ : (k : ℕ) → T (fits binary64 (getD l′ k nan)))
-    (accepted : writeTold n sweeps codes l lb ≡ given tt) (accepted′ : writeTold n′ sweeps′ codes′ l′ lb′ ≡ given tt) where
+module _ (n n′ sweeps sweeps′ : ℕ) (codes codes′ : List ℕ) (l l′ : List Float) (lb lb′ : ℕ) (fitting : (k : ℕ) → T (fits binary64 (getD l k nan)))
+    (fitting′ : (k : ℕ) → T (fits binary64 (getD l′ k nan)))
+    (accepted : writeAnswer n sweeps codes l lb ≡ given tt) (accepted′ : writeAnswer n′ sweeps′ codes′ l′ lb′ ≡ given tt) where
   pub same-sheet : sheetOf n sweeps codes (at n l) ≡ sheetOf n′ sweeps′ codes′ (at n′ l′) → SameContent n n′ sweeps sweeps′ codes codes′ l l′
   same-sheet e =
       let w = writable n sweeps codes l lb accepted in
@@ -266,5 +281,6 @@ module _ (n n′ sweeps sweeps′ : ℕ) (codes codes′ : List ℕ) (l l′ : L
         orders = sym (order-back n sweeps codes (at n l)) ∙ ap (λ (b : List ℕ). orderIn b) e ∙ order-back n′ sweeps′ codes′ (at n′ l′);
         sweep-counts = sym (sweeps-back n sweeps codes (at n l)) ∙ ap (λ (b : List ℕ). sweepsIn b) e ∙ sweeps-back n′ sweeps′ codes′ (at n′ l′);
         code-lists = sym (codes-back n sweeps codes (at n l) (w .codes-long)) ∙ ap codesIn e ∙ codes-back n′ sweeps′ codes′ (at n′ l′) (w′ .codes-long);
-        matrices = sym (entries-back n sweeps codes l lb fitting accepted) ∙ ap (λ (b : List ℕ). flat (orderIn b) (entryIn b)) e ∙ entries-back n′ sweeps′ codes′ l′ lb′ fitting′ accepted′;
+        matrices = sym (entries-back n sweeps codes l lb fitting accepted) ∙ ap (λ (b : List ℕ). flat (orderIn b) (entryIn b)) e
+            ∙ entries-back n′ sweeps′ codes′ l′ lb′ fitting′ accepted′;
       }

@@ -8,7 +8,7 @@ use lib.Dec.{T}
 use lib.Ieee.{Float, nan, inf, fin, binary64, fits, neg, lt, eq, ofBits}
 use lib.Ieee.Positive.{positive, above}
 use Rattle.refusal.specs.declared.Refusal.the-variants.{NoRoot}
-use Rattle.refusal.specs.Refusal.{given, told}
+use Rattle.refusal.specs.Answers.{given, refusedBy}
 use Rattle.float64.specs.Values.{plusZero, finite, signOf}
 use Rattle.float64.proofs.Zeros.{above-zero, below-zero}
 use Rattle.root.specs.Sqrt.{sqrtOf}
@@ -16,11 +16,11 @@ use Rattle.root.proofs.Correct as root
 use Rattle.claims.specs.Report.{CorrectlyRounded, RootRoundsCorrectly}
 
 -- ---- what is refused, and what is not
-pub root-of-nan : sqrtOf nan ≡ told NoRoot
+pub root-of-nan : sqrtOf nan ≡ refusedBy NoRoot
 unfolding sqrtOf
 root-of-nan = refl
 
-refused-below : (x : Float) → above (neg x) ≡ true → sqrtOf x ≡ told NoRoot
+refused-below : (x : Float) → above (neg x) ≡ true → sqrtOf x ≡ refusedBy NoRoot
 unfolding sqrtOf neg
 refused-below nan h = refl
 refused-below (inf true) h = refl
@@ -29,7 +29,7 @@ refused-below (fin true zero e) h = absurd (true≢false (sym h))
 refused-below (fin true (suc m) e) h = refl
 refused-below (fin false m e) h = absurd (true≢false (sym h))
 
-pub root-below : (x : Float) → lt x plusZero ≡ true → sqrtOf x ≡ told NoRoot
+pub root-below : (x : Float) → lt x plusZero ≡ true → sqrtOf x ≡ refusedBy NoRoot
 root-below x h = refused-below x (sym (below-zero x) ∙ h)
 
 given-other : (x : Float) → eq x x ≡ true → above (neg x) ≡ false → (r : Float) × (sqrtOf x ≡ given r)

@@ -5,11 +5,12 @@ use mathlib.Core.List.{List, [], _∷_}
 use lib.Ieee.{Float, binary64, ofBits}
 use lib.ListN.{length, getD}
 use Rattle.lists.specs.Tabulate.{tabulate}
-use Rattle.refusal.specs.Refusal.{given}
+use Rattle.refusal.specs.Answers.{given}
 use Rattle.root.specs.Sqrt.{sqrtOf}
 use Rattle.ordering.specs.Pairs.{registersAt}
-use Rattle.ordering.specs.Registers.{most}
-use Rattle.plain_run.specs.Run.{outcome, runOf}
+use Rattle.sizes.specs.Sizes.{mostProcessors}
+use Rattle.runs.specs.Outcome.{outcome}
+use Rattle.plain_run.specs.Run.{runOf}
 
 pub data Example : Type 0 where
   -- the value with the first pattern has the root with the second
@@ -26,11 +27,13 @@ values (x ∷ xs) = ofBits binary64 x ∷ values xs
 
 abbrev pub Holds : Example → Type 0
 Holds (root x r) = sqrtOf (ofBits binary64 x) ≡ given (ofBits binary64 r)
-Holds (pairs n step ps) = registersAt n step ≡ record { left = tabulate most (λ k. getD ps k (0, 0) .0); right = tabulate most (λ k. getD ps k (0, 0) .1) }
+Holds (pairs n step ps) = registersAt n step
+    ≡ record { left = tabulate mostProcessors (λ k. getD ps k (0, 0) .0); right = tabulate mostProcessors (λ k. getD ps k (0, 0) .1) }
 Holds (run n sweeps a l e) =
     (r v : List Float) → length r ≡ n * n → length v ≡ n * n → runOf n sweeps (values a) r v ≡ outcome (given tt) (values l) (values e)
 
--- The run: diagonal 1 and 3, off-diagonal 0, one sweep: unchanged, identity. Roots: 4 (it is 2), -0 (-0), 2, 2 ^ -1074 (2 ^ -537), 1 - 2 ^ -53 (itself), 1 + 2 ^ -52 (1)
+-- Roots: 4 (it is 2), -0 (-0), 2, 2 ^ -1074 (2 ^ -537), 1 - 2 ^ -53 (itself), 1 + 2 ^ -52 (1). The run: diagonal 1 and 3, off-diagonal 0, one
+-- sweep: unchanged, identity.
 abbrev pub examples : List Example
 examples =
     root 0x4010_0000_0000_0000 0x4000_0000_0000_0000

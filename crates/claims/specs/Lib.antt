@@ -1,4 +1,5 @@
 pub mod Demands
+pub mod Sizes
 pub mod Refusals
 pub mod Report
 pub mod Sheets

@@ -1,64 +1,40 @@
 -- Demand 1 (document 00; document 01, "Refused, by place"): what each call answers, and what it leaves where it refuses. The order of the
 -- tests is that of document 01's table, which applies from top to bottom. Definitions only.
-use Prim.Native.Nat.{ℕ, _*_, _/_, _≤_, _<_}
+use Prim.Native.Nat.{ℕ, _*_, _≤_, _<_}
 use mathlib.Core.Path.{_≡_}
-use mathlib.Core.Bool.{Bool, true, false, not, cond, _&&_}
-use mathlib.Core.List.{List, [], _∷_}
+use mathlib.Core.Bool.{Bool, true, false, cond}
+use mathlib.Core.List.{List, [], _∷_, _++_}
 use mathlib.Core.Logic.{_⊎_}
-use lib.Dec.{eqb, ltb}
+use lib.Dec.{ltb}
 use lib.ListN.{length, drop}
 use lib.Ieee.{Float, nan, binary64, eq, lt, ofBits}
 use Rattle.float64.specs.Values.{plusZero, finite, sameBits}
 use Rattle.refusal.specs.declared.Refusal.{Refusal}
-use Rattle.refusal.specs.declared.Refusal.the-variants.{Order, Sweeps, Length, Code, NotFinite, NotMirrored, TooShort, Spoiled, NoRoot}
-use Rattle.refusal.specs.Refusal.{Told, given, refused, told, toldAnswer}
+use Rattle.refusal.specs.declared.Refusal.the-variants.{NotFinite, NotMirrored, Spoiled, NoRoot}
+use Rattle.refusal.specs.Answers.{Answered, given, refused, refusedBy, answered, giving, row, table}
 use Rattle.root.specs.Sqrt.{sqrtOf}
-use Rattle.ordering.specs.declared.Listed.{Listed}
-use Rattle.ordering.specs.Pairs.{noOrder, noRegisters, Lists}
+use Rattle.sizes.specs.Sizes.{isOrder, processorsOf, stepsOf, ticksOf, orderRow, sweepsRow}
+use Rattle.ordering.specs.declared.PairList.{PairList}
+use Rattle.ordering.specs.Pairs.{noRegisters, Lists}
 use Rattle.matrix.specs.Matrix.{at}
-use Rattle.matrix.specs.Entries.{orElse, firstPlace, notFiniteAt, notMirroredAt}
+use Rattle.matrix.specs.Entries.{finiteRow, mirrorRow}
+use Rattle.runs.specs.State.{startOf, zeros}
+use Rattle.runs.specs.Outcome.{Outcome, runRows}
 use Rattle.plain_run.specs.State.{spoiled}
-use Rattle.plain_run.specs.Run.{mostSweeps, stepsOf, startOf, zeros, Outcome, runOf}
+use Rattle.plain_run.specs.Run.{runOf}
 use Rattle.step_records.specs.declared.Record.{Record}
-use Rattle.step_records.specs.Records.{recordsOf}
+use Rattle.step_records.specs.Records.{beforeRecords, recordsOf}
 use Rattle.array.specs.declared.Array.{Array}
 use Rattle.array.specs.declared.Started.{Started}
 use Rattle.array.specs.declared.Ticked.{Ticked}
 use Rattle.array.specs.Arrays.{Ticks}
-use Rattle.tile_schedule.specs.Answers.{made, stopped, toldProgress, ticksOf}
+use Rattle.tile_schedule.specs.Answers.{made, stopped, progressAnswered}
 use Rattle.array.specs.Runs.{noArray, Starts}
-use Rattle.array_run.specs.Whole.{tellingIn, wholeOf}
+use Rattle.array_run.specs.Whole.{wholeOf}
 use Rattle.sheet.specs.Format.{sheetLength, orderIn, sweepsIn, patternIn}
-use Rattle.sheet.specs.Codes.{badCodes}
-use Rattle.sheet_reader.specs.Reader.{storedOf, readOf}
-use Rattle.sheet_writer.specs.Writer.{writeOf}
+use Rattle.sheet_reader.specs.Reader.{storedRow, sheetAnswer, readAnswer, readOf}
+use Rattle.sheet_writer.specs.Writer.{writeAnswer, writeOf}
 use Rattle.claims.specs.Histories.{Binary64}
-
--- ---- tables
--- The first row that refuses.
-abbrev pub table : List (Told Unit) → Told Unit
-table [] = given tt
-table (row ∷ rows) = orElse row (table rows)
-
--- A row: a refusal under a condition.
-abbrev pub row : Bool → Refusal → Told Unit
-row b r = cond b (told r) (given tt)
-
--- The rows for the order, the sweeps and the entries of a matrix.
-abbrev pub order : ℕ → Told Unit
-order n = row (noOrder n) Order
-
-abbrev pub sweep : ℕ → Told Unit
-sweep sweeps = row (ltb mostSweeps sweeps) Sweeps
-
-abbrev pub square : ℕ → ℕ → Bool
-square n length = eqb length (n * n)
-
-abbrev pub finiteEntries : ℕ → List Float → Told Unit
-finiteEntries n l = firstPlace n (notFiniteAt n l)
-
-abbrev pub mirrorEntries : ℕ → List Float → Told Unit
-mirrorEntries n l = firstPlace n (notMirroredAt n l)
 
 -- ---- the first entry in row order
 -- The place in row i and column j stands before that in row r and column c.
@@ -72,9 +48,9 @@ pub record FirstBad (There : ℕ → ℕ → Type 0) (good : ℕ → ℕ → Boo
   pub good-before : (i j : ℕ) → There i j → Before i j r c → good i j ≡ true
 
 -- All entries pass, or the refusal carries the row and the column of the first that does not.
-pub data Tested (There : ℕ → ℕ → Type 0) (good : ℕ → ℕ → Bool) (by : ℕ → ℕ → Refusal) : Told Unit → Type 0 where
+pub data Tested (There : ℕ → ℕ → Type 0) (good : ℕ → ℕ → Bool) (by : ℕ → ℕ → Refusal) : Answered Unit → Type 0 where
   all-good : ((i j : ℕ) → There i j → good i j ≡ true) → Tested There good by (given tt)
-  first-bad : (r c : ℕ) → FirstBad There good r c → Tested There good by (told (by r c))
+  first-bad : (r c : ℕ) → FirstBad There good r c → Tested There good by (refusedBy (by r c))
 
 -- The places of a matrix, those above its diagonal, and those of a sheet's entries.
 abbrev pub InSquare : ℕ → ℕ → ℕ → Type 0
@@ -88,40 +64,38 @@ InTriangle n r c = (1 ≤ r) × (r ≤ n) × (1 ≤ c) × (c ≤ r)
 
 -- 5 is for an entry that is not finite, in a sheet for one that it stores, and 6 for one that differs from its mirror in bits.
 pub record EntriesAreTested : Type 0 where
-  pub not-finite : (n : ℕ) (l : List Float) → Tested (InSquare n) (λ r c. finite (at n l r c)) NotFinite (finiteEntries n l)
-  pub not-mirrored : (n : ℕ) (l : List Float) → Tested (AboveDiagonal n) (λ r c. sameBits (at n l r c) (at n l c r)) NotMirrored (mirrorEntries n l)
-  pub stored-not-finite : (b : List ℕ) → Tested (InTriangle (orderIn b)) (λ r c. finite (ofBits binary64 (patternIn b r c))) NotFinite (storedOf b)
+  pub not-finite : (n : ℕ) (l : List Float) → Tested (InSquare n) (λ r c. finite (at n l r c)) NotFinite (finiteRow n l)
+  pub not-mirrored : (n : ℕ) (l : List Float) → Tested (AboveDiagonal n) (λ r c. sameBits (at n l r c) (at n l c r)) NotMirrored (mirrorRow n l)
+  pub stored-not-finite : (b : List ℕ) → Tested (InTriangle (orderIn b)) (λ r c. finite (ofBits binary64 (patternIn b r c))) NotFinite (storedRow b)
 
 -- ---- square root
 -- Refused by 9: not a number, or below zero. Every other value has a root.
 abbrev pub RootAnswers : Type 0
 RootAnswers =
-    (sqrtOf nan ≡ told NoRoot) × ((x : Float) → lt x plusZero ≡ true → sqrtOf x ≡ told NoRoot)
+    (sqrtOf nan ≡ refusedBy NoRoot) × ((x : Float) → lt x plusZero ≡ true → sqrtOf x ≡ refusedBy NoRoot)
     × ((x : Float) → eq x x ≡ true → lt x plusZero ≡ false → (r : Float) × (sqrtOf x ≡ given r))
 
 -- ---- list of pairs
 abbrev pub PairsAnswer : Type 0
-PairsAnswer = (n step : ℕ) (r : Listed) → Lists n step r → (toldAnswer (r .answer) ≡ table (order n ∷ [])) × (noOrder n ≡ true → r .registers ≡ noRegisters)
+PairsAnswer = (n step : ℕ) (r : PairList) → Lists n step r → (answered (r .answer) ≡ table (orderRow n ∷ [])) × (isOrder n ≡ false → r .registers ≡ noRegisters)
 
 -- ---- runs
--- lr and lv are the lengths of the two results.
-abbrev pub runTable : ℕ → ℕ → List Float → ℕ → ℕ → Told Unit
-runTable n sweeps l lr lv =
-    table (order n ∷ sweep sweeps ∷ row (not (square n lr && (square n lv && square n (length l)))) Length ∷ finiteEntries n l ∷ mirrorEntries n l
-    ∷ row (spoiled n (stepsOf n sweeps) (startOf n l)) Spoiled ∷ [])
+-- The rows before a run, and 8. lr and lv are the lengths of the two results.
+abbrev pub runTable : ℕ → ℕ → List Float → ℕ → ℕ → Answered Unit
+runTable n sweeps l lr lv = table (runRows n sweeps l lr lv ++ (row (spoiled n (stepsOf n sweeps) (startOf n l)) Spoiled ∷ []))
 
 abbrev pub PlainRunAnswers : Type 0
-PlainRunAnswers = (n sweeps : ℕ) (l r v : List Float) → runOf n sweeps l r v .says ≡ runTable n sweeps l (length r) (length v)
+PlainRunAnswers = (n sweeps : ℕ) (l r v : List Float) → runOf n sweeps l r v .answer ≡ runTable n sweeps l (length r) (length v)
 
 -- The array's run is refused as the plain run is, by 8 too.
 abbrev pub WholeRunAnswers : Type 0
 WholeRunAnswers =
-    (n sweeps : ℕ) (l r v : List Float) → Binary64 l → wholeOf n sweeps l r v .says ≡ tellingIn (ticksOf n sweeps) (runTable n sweeps l (length r) (length v))
+    (n sweeps : ℕ) (l r v : List Float) → Binary64 l → wholeOf n sweeps l r v .answer ≡ giving (ticksOf n sweeps) (runTable n sweeps l (length r) (length v))
 
 -- A refused run leaves both results as they were, but 8 fills them with +0.
 pub record LeavesResults {A : Type 0} (n : ℕ) (o : Outcome A) (r v : List Float) : Type 0 where
-  pub kept : (k : ℕ) (values : List ℕ) → o .says ≡ refused k values → ¬ (k ≡ 8) → (o .result ≡ r) × (o .vectors ≡ v)
-  pub zeroed : (values : List ℕ) → o .says ≡ refused 8 values → (o .result ≡ zeros n) × (o .vectors ≡ zeros n)
+  pub kept : (k : ℕ) (values : List ℕ) → o .answer ≡ refused k values → ¬ (k ≡ 8) → (o .result ≡ r) × (o .vectors ≡ v)
+  pub zeroed : (values : List ℕ) → o .answer ≡ refused 8 values → (o .result ≡ zeros n) × (o .vectors ≡ zeros n)
 
 abbrev pub RunsLeave : Type 0
 RunsLeave = (n sweeps : ℕ) (l r v : List Float) → Binary64 l → LeavesResults n (runOf n sweeps l r v) r v × LeavesResults n (wholeOf n sweeps l r v) r v
@@ -130,54 +104,49 @@ RunsLeave = (n sweeps : ℕ) (l r v : List Float) → Binary64 l → LeavesResul
 -- A refused start gives zeros.
 abbrev pub StartAnswers : Type 0
 StartAnswers =
-    (n sweeps : ℕ) (l : List Float) (s : Started) → Starts n sweeps l s
-    → (toldAnswer (s .answer) ≡ table (order n ∷ sweep sweeps ∷ row (not (square n (length l))) Length ∷ finiteEntries n l ∷ mirrorEntries n l ∷ []))
-    × ((k : ℕ) (values : List ℕ) → toldAnswer (s .answer) ≡ refused k values → s .array ≡ noArray)
+    (n sweeps : ℕ) (l : List Float) (s : Started) → Starts n sweeps l s → (answered (s .answer) ≡ table (runRows n sweeps l (length l) (length l)))
+    × ((k : ℕ) (values : List ℕ) → answered (s .answer) ≡ refused k values → s .array ≡ noArray)
 
 -- A tick tests 1 and 2 only; where it is not made it gives its array back.
 abbrev pub TickAnswers : Type 0
 TickAnswers =
     (x : Array) (r : Ticked) → Ticks x r
-    → (toldProgress (r .answer) ≡ tellingIn (cond (ltb (x .tick) (ticksOf (x .n) (x .sweeps))) made stopped) (table (order (x .n) ∷ sweep (x .sweeps) ∷ [])))
-    × (¬ (toldProgress (r .answer) ≡ given made) → r .array ≡ x)
+    → (progressAnswered (r .answer)
+    ≡ giving (cond (ltb (x .tick) (ticksOf (x .n) (x .sweeps))) made stopped) (table (orderRow (x .n) ∷ sweepsRow (x .sweeps) ∷ [])))
+    × (¬ (progressAnswered (r .answer) ≡ given made) → r .array ≡ x)
 
 -- ---- records of a step
+-- The table is that of step_records/specs/Records.antt.
 abbrev pub RecordsAnswer : Type 0
-RecordsAnswer =
-    (n : ℕ) (l : List Float) (step : ℕ) (ys : List Record) → recordsOf n l step ys .says
-    ≡ table (order n ∷ row (not (square n (length l))) Length ∷ finiteEntries n l ∷ mirrorEntries n l ∷ row (ltb (length ys) (n / 2)) TooShort ∷ [])
+RecordsAnswer = (n : ℕ) (l : List Float) (step : ℕ) (ys : List Record) → recordsOf n l step ys .answer ≡ beforeRecords n l (length ys)
 
 -- A refusal changes nothing, and a longer row keeps its tail.
 abbrev pub RecordsLeave : Type 0
 RecordsLeave =
     (n : ℕ) (l : List Float) (step : ℕ) (ys : List Record)
-    → ((k : ℕ) (values : List ℕ) → recordsOf n l step ys .says ≡ refused k values → recordsOf n l step ys .row ≡ ys)
-    × (drop (n / 2) (recordsOf n l step ys .row) ≡ drop (n / 2) ys)
+    → ((k : ℕ) (values : List ℕ) → recordsOf n l step ys .answer ≡ refused k values → recordsOf n l step ys .row ≡ ys)
+    × (drop (processorsOf n) (recordsOf n l step ys .row) ≡ drop (processorsOf n) ys)
 
 -- ---- sheets
-abbrev pub readTable : List ℕ → ℕ → ℕ → Told Unit
-readTable b codes matrix =
-    table (row (ltb (length b) 2) Length ∷ order (orderIn b) ∷ sweep (sweepsIn b)
-    ∷ row (not (eqb codes (orderIn b) && (square (orderIn b) matrix && eqb (length b) (sheetLength (orderIn b))))) Length ∷ row (badCodes b 2 (orderIn b)) Code
-    ∷ storedOf b ∷ [])
-
+-- The tables are those of sheet_reader/specs/Reader.antt and sheet_writer/specs/Writer.antt.
 abbrev pub ReaderAnswers : Type 0
-ReaderAnswers = (b c : List ℕ) (m : List Float) → readOf b c m .says ≡ tellingIn (orderIn b, sweepsIn b) (readTable b (length c) (length m))
+ReaderAnswers = (b c : List ℕ) (m : List Float) → readOf b c m .answer ≡ giving (orderIn b, sweepsIn b) (readAnswer b (length c) (length m))
+
+-- Lent what the order asks for, a reader refuses a sheet by its bytes alone.
+abbrev pub SheetAnswers : Type 0
+SheetAnswers = (b : List ℕ) → readAnswer b (orderIn b) (orderIn b * orderIn b) ≡ sheetAnswer b
 
 abbrev pub ReaderLeaves : Type 0
 ReaderLeaves =
-    (b c : List ℕ) (m : List Float) (k : ℕ) (values : List ℕ) → readOf b c m .says ≡ refused k values → (readOf b c m .codes ≡ c) × (readOf b c m .matrix ≡ m)
+    (b c : List ℕ) (m : List Float) (k : ℕ) (values : List ℕ) → readOf b c m .answer ≡ refused k values → (readOf b c m .codes ≡ c) × (readOf b c m .matrix ≡ m)
 
 abbrev pub WriterAnswers : Type 0
-WriterAnswers =
-    (n sweeps : ℕ) (codes : List ℕ) (l : List Float) (b : List ℕ) → writeOf n sweeps codes l b .says
-    ≡ table (order n ∷ sweep sweeps ∷ row (not (eqb (length codes) n && square n (length l))) Length ∷ row (badCodes codes 0 n) Code ∷ finiteEntries n l ∷ mirrorEntries n l
-    ∷ row (ltb (length b) (sheetLength n)) TooShort ∷ [])
+WriterAnswers = (n sweeps : ℕ) (codes : List ℕ) (l : List Float) (b : List ℕ) → writeOf n sweeps codes l b .answer ≡ writeAnswer n sweeps codes l (length b)
 
 abbrev pub WriterLeaves : Type 0
 WriterLeaves =
     (n sweeps : ℕ) (codes : List ℕ) (l : List Float) (b : List ℕ)
-    → ((k : ℕ) (values : List ℕ) → writeOf n sweeps codes l b .says ≡ refused k values → writeOf n sweeps codes l b .bytes ≡ b)
+    → ((k : ℕ) (values : List ℕ) → writeOf n sweeps codes l b .answer ≡ refused k values → writeOf n sweeps codes l b .bytes ≡ b)
     × (drop (sheetLength n) (writeOf n sweeps codes l b .bytes) ≡ drop (sheetLength n) b)
 
 pub record RefusedAsTabled : Type 0 where
@@ -192,6 +161,7 @@ pub record RefusedAsTabled : Type 0 where
   pub records-answer : RecordsAnswer
   pub records-leave : RecordsLeave
   pub reader-answers : ReaderAnswers
+  pub sheet-answers : SheetAnswers
   pub reader-leaves : ReaderLeaves
   pub writer-answers : WriterAnswers
   pub writer-leaves : WriterLeaves

@@ -7,14 +7,16 @@ use lib.ListN.{getD}
 use lib.Ieee.{Float, nan, inf, binary64, fits, add, sub, mul, div, lt, ofBits}
 use Rattle.float64.specs.Values.{plusZero, one, finite, isZero, magnitude}
 use Rattle.float64.specs.Units.{unitsOf}
-use Rattle.refusal.specs.Refusal.{given}
+use Rattle.refusal.specs.Answers.{given}
 use Rattle.root.specs.Sqrt.{sqrtOf}
 use Rattle.rotation.specs.declared.Parameters.the-variants.{Still, Turn}
 use Rattle.rotation.specs.Rotation.{two, rootOf, signum, ofPair}
 use Rattle.matrix_turns.specs.Turns.{parametersOf}
-use Rattle.plain_pair.specs.Pair.{State, pairStep}
-use Rattle.ordering.specs.declared.Listed.{Listed}
-use Rattle.ordering.specs.Pairs.{noOrder, standsIn, Lists}
+use Rattle.runs.specs.State.{State}
+use Rattle.plain_pair.specs.Pair.{pairRotated}
+use Rattle.ordering.specs.declared.PairList.{PairList}
+use Rattle.sizes.specs.Sizes.{isOrder, processorsOf, sweepSteps}
+use Rattle.ordering.specs.Pairs.{standsIn, Lists}
 
 -- ---- square root
 abbrev pub minusZero : Float
@@ -88,7 +90,7 @@ pub record PairByTheReport (p q : ℕ) (old new : State) : Type 0 where
 
 pub record RotationIsTheReports : Type 0 where
   pub turns : TurnsByTheReport
-  pub pair : (p q : ℕ) → ¬ (p ≡ q) → (X : State) → PairByTheReport p q X (pairStep p q X)
+  pub pair : (p q : ℕ) → ¬ (p ≡ q) → (X : State) → PairByTheReport p q X (pairRotated p q X)
   pub still : (a d b : Float) → isZero b ≡ true → ofPair a d b ≡ Still
   -- sign(ξ) is 1 if ξ is zero of either sign
   pub sign-of-zero : (ξ : Float) → isZero ξ ≡ true → signum ξ ≡ one
@@ -97,28 +99,28 @@ pub record RotationIsTheReports : Type 0 where
 
 -- ---- pairs
 -- The line in the left and in the right register of processor k, from 1, in a list.
-abbrev pub leftIn : Listed → ℕ → ℕ
-leftIn r k = getD (r .registers .left) (k - 1) 0
+abbrev pub leftRegister : PairList → ℕ → ℕ
+leftRegister r k = getD (r .registers .left) (k - 1) 0
 
-abbrev pub rightIn : Listed → ℕ → ℕ
-rightIn r k = getD (r .registers .right) (k - 1) 0
+abbrev pub rightRegister : PairList → ℕ → ℕ
+rightRegister r k = getD (r .registers .right) (k - 1) 0
 
 -- The lists that the call gives for an order, one for each step from 0, after document 003, section 3.
-pub record MovesByTheReport (n : ℕ) (list : ℕ → Listed) : Type 0 where
-  pub left-at-first : (k : ℕ) → 1 ≤ k → k ≤ n / 2 → leftIn (list 0) k ≡ 2 * k - 1
-  pub right-at-first : (k : ℕ) → 1 ≤ k → k ≤ n / 2 → rightIn (list 0) k ≡ 2 * k
-  pub left-1-stays : (s : ℕ) → leftIn (list (suc s)) 1 ≡ leftIn (list s) 1
-  pub right-1-to-left-2 : (s : ℕ) → 2 ≤ n / 2 → leftIn (list (suc s)) 2 ≡ rightIn (list s) 1
-  pub left-to-the-next : (s k : ℕ) → 2 ≤ k → k < n / 2 → leftIn (list (suc s)) (k + 1) ≡ leftIn (list s) k
-  pub last-left-to-right : (s : ℕ) → 2 ≤ n / 2 → rightIn (list (suc s)) (n / 2) ≡ leftIn (list s) (n / 2)
-  pub right-to-the-one-before : (s k : ℕ) → 2 ≤ k → k ≤ n / 2 → rightIn (list (suc s)) (k - 1) ≡ rightIn (list s) k
-  pub nothing-moves-for-2 : (s : ℕ) → n ≡ 2 → rightIn (list (suc s)) 1 ≡ rightIn (list s) 1
-  pub zeros-above : (s k : ℕ) → n / 2 < k → (leftIn (list s) k ≡ 0) × (rightIn (list s) k ≡ 0)
-  pub repeats : (s : ℕ) → list (s + (n - 1)) .registers ≡ list s .registers
+pub record MovesByTheReport (n : ℕ) (list : ℕ → PairList) : Type 0 where
+  pub left-at-first : (k : ℕ) → 1 ≤ k → k ≤ processorsOf n → leftRegister (list 0) k ≡ 2 * k - 1
+  pub right-at-first : (k : ℕ) → 1 ≤ k → k ≤ processorsOf n → rightRegister (list 0) k ≡ 2 * k
+  pub left-1-stays : (s : ℕ) → leftRegister (list (suc s)) 1 ≡ leftRegister (list s) 1
+  pub right-1-to-left-2 : (s : ℕ) → 2 ≤ processorsOf n → leftRegister (list (suc s)) 2 ≡ rightRegister (list s) 1
+  pub left-to-the-next : (s k : ℕ) → 2 ≤ k → k < processorsOf n → leftRegister (list (suc s)) (k + 1) ≡ leftRegister (list s) k
+  pub last-left-to-right : (s : ℕ) → 2 ≤ processorsOf n → rightRegister (list (suc s)) (processorsOf n) ≡ leftRegister (list s) (processorsOf n)
+  pub right-to-the-one-before : (s k : ℕ) → 2 ≤ k → k ≤ processorsOf n → rightRegister (list (suc s)) (k - 1) ≡ rightRegister (list s) k
+  pub nothing-moves-for-2 : (s : ℕ) → n ≡ 2 → rightRegister (list (suc s)) 1 ≡ rightRegister (list s) 1
+  pub zeros-above : (s k : ℕ) → processorsOf n < k → (leftRegister (list s) k ≡ 0) × (rightRegister (list s) k ≡ 0)
+  pub repeats : (s : ℕ) → list (s + sweepSteps n) .registers ≡ list s .registers
   pub each-line-once : (s p : ℕ) → 1 ≤ p → p ≤ n → standsIn (list s .registers) p ≡ 1
 
 abbrev pub PairingIsTheReports : Type 0
-PairingIsTheReports = (n : ℕ) → noOrder n ≡ false → (list : ℕ → Listed) → ((s : ℕ) → Lists n s (list s)) → MovesByTheReport n list
+PairingIsTheReports = (n : ℕ) → isOrder n ≡ true → (list : ℕ → PairList) → ((s : ℕ) → Lists n s (list s)) → MovesByTheReport n list
 
 pub record AsTheReport : Type 0 where
   pub root-rounds-correctly : RootRoundsCorrectly

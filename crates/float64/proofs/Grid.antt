@@ -1,7 +1,8 @@
 -- The magnitudes of the values of binary64 in units of 2 ^ -1074: whole numbers of at most 53 digits with zeros behind them. Assumes nothing.
 use mathlib.Core.Path.{_≡_, refl, sym, ap, _∙_, subst}
 use Prim.Native.Nat.{ℕ, zero, suc, _+_, _-_, _*_, _^_, _≤_, _<_}
-use native.Mathlib.Nat.{mul-assoc, mul-one, one-mul, suc-mul, mul-le-mul-right, lt-of-mul-lt-mul-right, mul-lt-mul-of-pos-right, lt-of-not-le, le-of-suc-le-suc, lt-irrefl, lt-of-lt-of-le, pow-succ'}
+use native.Mathlib.Nat.{mul-assoc, mul-one, one-mul, suc-mul, mul-le-mul-right, lt-of-mul-lt-mul-right}
+use native.Mathlib.Nat.{mul-lt-mul-of-pos-right, lt-of-not-le, le-of-suc-le-suc, lt-irrefl, lt-of-lt-of-le, pow-succ'}
 use native.Mathlib.Decide.{decLe}
 use native.Mathlib.Omega.{arith}
 use lib.Dec.{lit<}
@@ -53,14 +54,17 @@ place n k g = go (decLe k (g .shift))
         next j k h = omega arith
 
     go : Dec (k ≤ g .shift) → Place n k
-    go (yes l) = multiple (g .digits * 2 ^ (g .shift - k)) (g .is ∙ ap (λ (x : ℕ). g .digits * x) (power-split (g .shift) k l) ∙ sym (mul-assoc (g .digits) (2 ^ (g .shift - k)) (2 ^ k)))
+    go (yes l) =
+        multiple (g .digits * 2 ^ (g .shift - k))
+        (g .is ∙ ap (λ (x : ℕ). g .digits * x) (power-split (g .shift) k l) ∙ sym (mul-assoc (g .digits) (2 ^ (g .shift - k)) (2 ^ k)))
     go (no f) = below (subst (λ (x : ℕ). x < 2 ^ 52 * 2 ^ k) (sym (g .is)) (finer (g .digits) (g .shift) k (g .small) (lt-of-not-le f)))
 
 pub next-above : (q k n : ℕ) → 2 ^ 52 ≤ q → Grid n → q * 2 ^ k < n → suc q * 2 ^ k ≤ n
 next-above q k n lo g h = go (place n k g)
   where
     go : Place n k → suc q * 2 ^ k ≤ n
-    go (multiple a e) = subst (λ (x : ℕ). suc q * 2 ^ k ≤ x) (sym e) (mul-le-mul-right (2 ^ k) (lt-of-mul-lt-mul-right (2 ^ k) (subst (λ (x : ℕ). q * 2 ^ k < x) e h)))
+    go (multiple a e) =
+        subst (λ (x : ℕ). suc q * 2 ^ k ≤ x) (sym e) (mul-le-mul-right (2 ^ k) (lt-of-mul-lt-mul-right (2 ^ k) (subst (λ (x : ℕ). q * 2 ^ k < x) e h)))
     go (below l) = let b : 2 ^ 52 * 2 ^ k ≤ q * 2 ^ k = mul-le-mul-right (2 ^ k) lo in absurd (omega arith)
 
 pub next-below : (q k n : ℕ) → 2 ^ 52 < q → Grid n → n < q * 2 ^ k → n + 2 ^ k ≤ q * 2 ^ k

@@ -35,13 +35,16 @@ pub record Magnitude (x : Float) : Type 0 where
 
 -- the value of q * 2 ^ k units
 pub odd-magnitude : (q k : ℕ) → q < 2 ^ 53 → q * 2 ^ k < 2 ^ 2098 → Magnitude (odd 53 false q k 1074)
-odd-magnitude q k h l = let p = shown (odd 53 false q k 1074) (q * 2 ^ k) (2 ^ 1074) (odd-sign 53 false q k 1074) in record { is-finite = p .0; unsigned = p .1; is-held = odd-fits binary64 53 false q k h (le-of-lt h) l }
+odd-magnitude q k h l =
+    let p = shown (odd 53 false q k 1074) (q * 2 ^ k) (2 ^ 1074) (odd-sign 53 false q k 1074) in
+    record { is-finite = p .0; unsigned = p .1; is-held = odd-fits binary64 53 false q k h (le-of-lt h) l }
 
 pub value-of : (x : Float) → Magnitude x → HasValue x false (unitsOf x) (2 ^ 1074)
 value-of x p = subst (λ (s : Bool). HasValue x s (unitsOf x) (2 ^ 1074)) (p .unsigned) (held x (p .is-finite) (p .is-held) .value)
 
 pub le-of-units : (x y : Float) → Magnitude x → Magnitude y → unitsOf x ≤ unitsOf y → T (le x y)
-le-of-units x y p q h = le-of-values x y (unitsOf x) (2 ^ 1074) (unitsOf y) (2 ^ 1074) (pow-pos 1074) (pow-pos 1074) (value-of x p) (value-of y q) (mul-le-mul-right (2 ^ 1074) h)
+le-of-units x y p q h =
+    le-of-values x y (unitsOf x) (2 ^ 1074) (unitsOf y) (2 ^ 1074) (pow-pos 1074) (pow-pos 1074) (value-of x p) (value-of y q) (mul-le-mul-right (2 ^ 1074) h)
 
 pub units-of-le : (x y : Float) → Magnitude x → Magnitude y → T (le x y) → unitsOf x ≤ unitsOf y
 unfolding le finite
@@ -53,6 +56,7 @@ units-of-le (fin false m e) (inf t) p q h = absurd (q .is-finite)
 units-of-le (fin false m e) (fin true n d) p q h = absurd (true≢false (q .unsigned))
 units-of-le (fin false m e) (fin false n d) p q h =
     le-of-mul-le-mul-right
-    (transfer (unitsOf (fin false m e)) (unitsOf (fin false n d)) (2 ^ 1074) (2 ^ 1074) (m * up e) (n * up d) (down e) (down d) (down-pos e) (down-pos d) (sym (value-of (fin false m e) p .1)) (sym (value-of (fin false n d) q .1))
+    (transfer (unitsOf (fin false m e)) (unitsOf (fin false n d)) (2 ^ 1074) (2 ^ 1074) (m * up e) (n * up d) (down e) (down d) (down-pos e) (down-pos d)
+    (sym (value-of (fin false m e) p .1)) (sym (value-of (fin false n d) q .1))
     (cross (m * up e * down d) (n * up d * down e) h))
     (pow-pos 1074)

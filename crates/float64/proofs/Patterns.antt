@@ -17,7 +17,8 @@ use Rattle.float64.proofs.Units.{units-is}
 of-fields : (b x t : ℕ) → b < 2 ^ 63 → b / 2 ^ 52 ≡ x → b % 2 ^ 52 ≡ t → ofBits binary64 b ≡ ofFields binary64 false x t
 unfolding ofBits
 of-fields b x t h p q =
-    ap (λ (a : Bool). ofFields binary64 a (b % 2 ^ 63 / 2 ^ 52) (b % 2 ^ 52)) (is-false (leb (2 ^ 63) b) (not-T (leb (2 ^ 63) b) (λ u. let e = leb→le (2 ^ 63) b u in omega arith)))
+    ap (λ (a : Bool). ofFields binary64 a (b % 2 ^ 63 / 2 ^ 52) (b % 2 ^ 52))
+    (is-false (leb (2 ^ 63) b) (not-T (leb (2 ^ 63) b) (λ u. let e = leb→le (2 ^ 63) b u in omega arith)))
     ∙ ap (λ (a : ℕ). ofFields binary64 false a (b % 2 ^ 52)) (low ∙ p)
     ∙ ap (λ (a : ℕ). ofFields binary64 false x a) q
   where
@@ -27,7 +28,8 @@ of-fields b x t h p q =
 normal-fields : (x t : ℕ) → suc x < 2047 → ofFields binary64 false (suc x) t ≡ odd 53 false (2 ^ 52 + t) x 1074
 unfolding ofFields
 normal-fields x t h =
-    ap (λ (a : Bool). cond a (cond (eqb t 0) (inf false) nan) (odd 53 false (2 ^ 52 + t) x 1074)) (is-false (eqb (suc x) 2047) (not-T (eqb (suc x) 2047) (λ u. let e = eqb→eq (suc x) 2047 u in omega arith)))
+    ap (λ (a : Bool). cond a (cond (eqb t 0) (inf false) nan) (odd 53 false (2 ^ 52 + t) x 1074))
+    (is-false (eqb (suc x) 2047) (not-T (eqb (suc x) 2047) (λ u. let e = eqb→eq (suc x) 2047 u in omega arith)))
 
 zero-fields : (t : ℕ) → ofFields binary64 false 0 t ≡ odd 53 false t 0 1074
 unfolding ofFields
@@ -98,7 +100,8 @@ pub finite-pattern : (b : ℕ) → ltb (b % 0x8000_0000_0000_0000) 0x7ff0_0000_0
 unfolding ofBits
 finite-pattern b = go (ltb (b % 0x8000_0000_0000_0000) 0x7ff0_0000_0000_0000) refl
   where
-    go : (z : Bool) → ltb (b % 0x8000_0000_0000_0000) 0x7ff0_0000_0000_0000 ≡ z → z ≡ finite (ofFields binary64 (leb (2 ^ 63) b) (b % 2 ^ 63 / 2 ^ 52) (b % 2 ^ 52))
+    go : (z : Bool) → ltb (b % 0x8000_0000_0000_0000) 0x7ff0_0000_0000_0000 ≡ z
+        → z ≡ finite (ofFields binary64 (leb (2 ^ 63) b) (b % 2 ^ 63 / 2 ^ 52) (b % 2 ^ 52))
     go true e =
         let w : b % 0x8000_0000_0000_0000 < 0x7ff0_0000_0000_0000 = ltb-true _ _ e in
         sym (finite-fields (leb (2 ^ 63) b) (b % 2 ^ 63 / 2 ^ 52) (b % 2 ^ 52) (omega arith))

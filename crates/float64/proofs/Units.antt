@@ -2,7 +2,8 @@
 use mathlib.Core.Path.{_≡_, refl, sym, ap, _∙_, subst}
 use mathlib.Core.Bool.{Bool, true, false, _&&_, cond}
 use Prim.Native.Nat.{ℕ, zero, suc, _+_, _-_, _*_, _/_, _%_, _^_, _≤_, _<_}
-use native.Mathlib.Nat.{zero-add, add-assoc, mul-assoc, mul-one, one-mul, mul-right-comm, mul-pos, mul-div-cancel, mul-lt-mul-of-pos-right, lt-of-mul-lt-mul-right, zero-mul}
+use native.Mathlib.Nat.{zero-add, add-assoc, mul-assoc, mul-one, one-mul, mul-right-comm}
+use native.Mathlib.Nat.{mul-pos, mul-div-cancel, mul-lt-mul-of-pos-right, lt-of-mul-lt-mul-right, zero-mul}
 use native.Mathlib.Omega.{arith}
 use lib.Dec.{T, leb, ltb, eqb, ltb→lt, leb→le}
 use lib.IntN.{ℤ, pos, negsuc}
@@ -63,15 +64,22 @@ held nan f t = absurd f
 held (inf s) f t = absurd f
 held (fin s zero e) f t =
     let u : 0 ≡ unitsOf (fin s zero e) = sym (zero-units s e) in
-    record { grid = subst Grid u zero-grid; value = (refl, zero-value e ∙ ap (λ (x : ℕ). x * down e) u); below = subst (λ (x : ℕ). x < 2 ^ 2098) u (pow-pos 2098) }
+    record {
+      grid = subst Grid u zero-grid;
+      value = (refl, zero-value e ∙ ap (λ (x : ℕ). x * down e) u);
+      below = subst (λ (x : ℕ). x < 2 ^ 2098) u (pow-pos 2098);
+    }
 held (fin s (suc m) e) f t =
     let p = fitted s m e t in
     let q = power-units e (p .lowest) in
     let n = suc m * 2 ^ (q .0) in
-    let v : suc m * up e * 2 ^ 1074 ≡ n * down e = mul-assoc (suc m) (up e) (2 ^ 1074) ∙ ap (λ (x : ℕ). suc m * x) (q .1) ∙ sym (mul-assoc (suc m) (2 ^ (q .0)) (down e)) in
+    let v : suc m * up e * 2 ^ 1074 ≡ n * down e =
+    mul-assoc (suc m) (up e) (2 ^ 1074) ∙ ap (λ (x : ℕ). suc m * x) (q .1) ∙ sym (mul-assoc (suc m) (2 ^ (q .0)) (down e)) in
     let u : n ≡ unitsOf (fin s (suc m) e) = sym (units-is (fin s (suc m) e) n v) in
     let l : suc m * up e * 2 ^ 1074 < 2 ^ 1024 * down e * 2 ^ 1074 = mul-lt-mul-of-pos-right (p .highest) (pow-pos 1074) in
-    let b : n < 2 ^ 2098 = lt-of-mul-lt-mul-right (down e) (subst (λ (x : ℕ). n * down e < x) (mul-right-comm (2 ^ 1024) (down e) (2 ^ 1074)) (subst (λ (x : ℕ). x < 2 ^ 1024 * down e * 2 ^ 1074) v l)) in
+    let b : n < 2 ^ 2098 =
+    lt-of-mul-lt-mul-right (down e)
+    (subst (λ (x : ℕ). n * down e < x) (mul-right-comm (2 ^ 1024) (down e) (2 ^ 1074)) (subst (λ (x : ℕ). x < 2 ^ 1024 * down e * 2 ^ 1074) v l)) in
     record {
       grid = subst Grid u (record { digits = suc m; shift = q .0; is = refl; small = p .digits });
       value = (refl, v ∙ ap (λ (x : ℕ). x * down e) u);
@@ -93,7 +101,9 @@ bits-by-units (fin false m e) f = add-assoc _ _ _
 pub same-units : (x y : Float) → T (finite x) → T (finite y) → T (fits binary64 x) → T (fits binary64 y) → signOf x ≡ signOf y → unitsOf x ≡ unitsOf y → x ≡ y
 same-units x y f g h k s u =
     sym (ofBits-toBits binary64 x h)
-    ∙ ap (ofBits binary64) (bits-by-units x f ∙ ap (λ (b : Bool). cond b (2 ^ 63) 0 + patternOf (unitsOf x)) s ∙ ap (λ (n : ℕ). cond (signOf y) (2 ^ 63) 0 + patternOf n) u ∙ sym (bits-by-units y g))
+    ∙ ap (ofBits binary64)
+    (bits-by-units x f ∙ ap (λ (b : Bool). cond b (2 ^ 63) 0 + patternOf (unitsOf x)) s
+    ∙ ap (λ (n : ℕ). cond (signOf y) (2 ^ 63) 0 + patternOf n) u ∙ sym (bits-by-units y g))
     ∙ ofBits-toBits binary64 y k
 
 -- ---- finite and above zero
@@ -103,7 +113,8 @@ units-above nan p t = absurd p
 units-above (inf s) p t = absurd p
 units-above (fin true m e) p t = absurd p
 units-above (fin false m e) p t =
-    first-pos (unitsOf (fin false m e)) (down e) (subst (λ (x : ℕ). 0 < x) (held (fin false m e) tt t .value .1) (mul-pos (mul-pos (ltb→lt 0 m p) (up-pos e)) (pow-pos 1074)))
+    first-pos (unitsOf (fin false m e)) (down e)
+    (subst (λ (x : ℕ). 0 < x) (held (fin false m e) tt t .value .1) (mul-pos (mul-pos (ltb→lt 0 m p) (up-pos e)) (pow-pos 1074)))
 
 pattern-above : (n : ℕ) → 0 < n → 0 < patternOf n
 pattern-above n h = go (size n - 53)
@@ -122,4 +133,5 @@ positive-pattern (inf s) p t = absurd p
 positive-pattern (fin true m e) p t = absurd p
 positive-pattern (fin false m e) p t =
     let x = fin false m e in
-    subst (λ (b : ℕ). (0 < b) × (b < 0x7ff0_0000_0000_0000)) (sym (bits-by-units x tt ∙ zero-add _)) (pattern-above (unitsOf x) (units-above x p t), pattern-below (unitsOf x) (held x tt t .below))
+    subst (λ (b : ℕ). (0 < b) × (b < 0x7ff0_0000_0000_0000)) (sym (bits-by-units x tt ∙ zero-add _))
+    (pattern-above (unitsOf x) (units-above x p t), pattern-below (unitsOf x) (held x tt t .below))

@@ -23,7 +23,8 @@ above-zero nan = refl
 above-zero (inf s) = refl
 above-zero (fin true m e) = refl
 above-zero (fin false zero e) = le-ltb (0 * 1 * down e) (0 * up e * 1) (omega arith)
-above-zero (fin false (suc m) e) = let p = product-above m e in lt-ltb (0 * 1 * down e) (suc m * up e * 1) (omega arith) ∙ sym (lt-ltb 0 (suc m) (zero-lt-suc m))
+above-zero (fin false (suc m) e) =
+    let p = product-above m e in lt-ltb (0 * 1 * down e) (suc m * up e * 1) (omega arith) ∙ sym (lt-ltb 0 (suc m) (zero-lt-suc m))
 
 -- x < 0.0
 pub below-zero : (x : Float) → lt x plusZero ≡ above (neg x)
@@ -32,7 +33,8 @@ below-zero nan = refl
 below-zero (inf true) = refl
 below-zero (inf false) = refl
 below-zero (fin true zero e) = le-ltb 0 (0 * up e * 1 + 0 * 1 * down e) (omega arith)
-below-zero (fin true (suc m) e) = let p = product-above m e in lt-ltb 0 (suc m * up e * 1 + 0 * 1 * down e) (omega arith) ∙ sym (lt-ltb 0 (suc m) (zero-lt-suc m))
+below-zero (fin true (suc m) e) =
+    let p = product-above m e in lt-ltb 0 (suc m * up e * 1 + 0 * 1 * down e) (omega arith) ∙ sym (lt-ltb 0 (suc m) (zero-lt-suc m))
 below-zero (fin false m e) = le-ltb (m * up e * 1) (0 * 1 * down e) (omega arith)
 
 -- x == 0.0
@@ -40,14 +42,17 @@ pub equal-zero : (x : Float) → eq x plusZero ≡ isZero x
 unfolding eq ofBits
 equal-zero nan = refl
 equal-zero (inf s) = refl
-equal-zero (fin s zero e) = both (eqb (0 * up e * 1) (0 * 1 * down e)) (eqb (0 * up e * 1) 0) (Bool·beq s false) (eq-eqb (0 * up e * 1) (0 * 1 * down e) (omega arith)) (eq-eqb (0 * up e * 1) 0 (omega arith))
+equal-zero (fin s zero e) =
+    both (eqb (0 * up e * 1) (0 * 1 * down e)) (eqb (0 * up e * 1) 0) (Bool·beq s false)
+    (eq-eqb (0 * up e * 1) (0 * 1 * down e) (omega arith)) (eq-eqb (0 * up e * 1) 0 (omega arith))
   where
     both : (p q s : Bool) → p ≡ true → q ≡ true → p && (s || q) ≡ true
     both p q true e f = ap (λ (b : Bool). b && true) e
     both p q false e f = ap (λ (b : Bool). b && q) e ∙ f
 equal-zero (fin s (suc m) e) =
     let p = product-above m e in
-    ap (λ (b : Bool). b && (Bool·beq s false || eqb (suc m * up e * 1) 0)) (ne-eqb (suc m * up e * 1) (0 * 1 * down e) (λ h. omega arith)) ∙ sym (ne-eqb (suc m) 0 (λ h. omega arith))
+    ap (λ (b : Bool). b && (Bool·beq s false || eqb (suc m * up e * 1) 0)) (ne-eqb (suc m * up e * 1) (0 * 1 * down e) (λ h. omega arith))
+    ∙ sym (ne-eqb (suc m) 0 (λ h. omega arith))
 
 -- ---- the absolute value, by its two tests
 pub magnitude-below : (x : Float) → lt x plusZero ≡ true → neg x ≡ magnitude x

@@ -2,14 +2,14 @@
 use libc::STDIN_FILENO;
 use libc::STDOUT_FILENO;
 
-// The longest sheet has 4,258 bytes, so one more shows that the input is longer.
-const LONGEST: usize = 4259;
+// One byte more than the longest sheet has shows that the input is longer.
+const INPUT: usize = sheet::LONGEST + 1;
 
-// Enough for the listing of any sheet.
-const TEXT: usize = 18127;
+// The room for the listing of a sheet of the largest order.
+const TEXT: usize = listing_text::LONGEST;
 
 fn main() {
-    let mut sheet = [0u8; LONGEST];
+    let mut sheet = [0u8; INPUT];
     let length = io::read_full(STDIN_FILENO, &mut sheet);
     let mut text = [0u8; TEXT];
     let listed = listing::list(&sheet[..length], &mut text);

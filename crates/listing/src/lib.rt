@@ -1,40 +1,39 @@
 // The listing of a sheet: read, run by the array and printed (document 01, "The printed sheet").
 ghost use mathlib.Core.Path.{_≡_};
-ghost use mathlib.Core.Bool.{false, cond};
+ghost use mathlib.Core.Bool.{true, cond};
 ghost use Prim.Native.Nat.{_*_, _≤_};
 ghost use lib.Dec.{ltb};
 ghost use lib.ListN.{length};
-ghost use Rattle.refusal.specs.Refusal.{told, toldAnswer, entryOf};
-ghost use Rattle.ordering.specs.Pairs.{noOrder, limit};
+ghost use Rattle.refusal.specs.Answers.{refusedBy, answered};
+ghost use Rattle.refusal.specs.Refusal.{numberOf};
+ghost use Rattle.sizes.specs.Sizes.{isOrder, largestOrder};
 ghost use Rattle.array_run.specs.Whole.{wholeOf};
 ghost use Rattle.sheet.specs.Format.{orderIn};
 ghost use Rattle.listing_text.specs.Printed.{printing, refusedLine};
 ghost use Rattle.listing.specs.Listing.{listed, roomThenRun, listOf};
-use sheet_reader::Reading;
+use array_run::Completion;
 use refusal::Answer;
 use refusal::Refusal;
-use array_run::Completion;
-
-const LIMIT: usize = 32;
-
-const ENTRIES: usize = 1024;
+use sheet_reader::Reading;
+use sizes::LARGEST_ORDER;
+use sizes::MOST_ENTRIES;
 
 // What a listing answers, and how many bytes it prints.
-pub struct Listed {
+pub struct Listing {
     pub answer: Answer,
     pub count: usize,
 }
 
-// Lists a sheet into lent bytes. The buffers have the sizes that the sheet asks for; an order above LIMIT is refused before any is used.
-pub fn list(sheet: &[u8], text: &mut [u8]) -> Listed
-    ensures { λ r. ⌜ listed (toldAnswer (r .answer)) (printing (r .count) (now (text .exit))) ≡ listOf (now (sheet .entry)) (now (text .entry)) ⌝ }
+// Lists a sheet into lent bytes. The buffers have the sizes that the sheet asks for; an order above the largest is refused before any is used.
+pub fn list(sheet: &[u8], text: &mut [u8]) -> Listing
+    ensures { λ r. ⌜ listed (answered (r .answer)) (printing (r .count) (now (text .exit))) ≡ listOf (now (sheet .entry)) (now (text .entry)) ⌝ }
 {
     let n = order(sheet);
     let entries = n * n;
-    let mut codes = [0u8; LIMIT];
-    let mut matrix = [0.0; ENTRIES];
-    let mut result = [0.0; ENTRIES];
-    let mut vectors = [0.0; ENTRIES];
+    let mut codes = [0u8; LARGEST_ORDER];
+    let mut matrix = [0.0; MOST_ENTRIES];
+    let mut result = [0.0; MOST_ENTRIES];
+    let mut vectors = [0.0; MOST_ENTRIES];
     list_in(
         sheet,
         &mut codes[..n],
@@ -45,15 +44,15 @@ pub fn list(sheet: &[u8], text: &mut [u8]) -> Listed
     )
 }
 
-// The order in a sheet, 0 where there is none up to LIMIT.
+// The order in a sheet, 0 where there is none up to the largest.
 fn order(sheet: &[u8]) -> usize
-    ensures { λ r. ⌜ r ≡ cond (ltb limit (orderIn (now (sheet .entry)))) 0 (orderIn (now (sheet .entry))) ⌝ }
+    ensures { λ r. ⌜ r ≡ cond (ltb largestOrder (orderIn (now (sheet .entry)))) 0 (orderIn (now (sheet .entry))) ⌝ }
 {
     if sheet.len() == 0 {
         return 0;
     }
     let n = sheet[0] as usize;
-    if n > LIMIT {
+    if n > LARGEST_ORDER {
         return 0;
     }
     n
@@ -67,9 +66,12 @@ fn list_in(
     result: &mut [f64],
     vectors: &mut [f64],
     text: &mut [u8],
-) -> Listed
-    requires { ⌜ (noOrder (orderIn (now sheet)) ≡ false → (length (now codes) ≡ orderIn (now sheet)) × (length (now matrix) ≡ orderIn (now sheet) * orderIn (now sheet)) × (length (now result) ≡ orderIn (now sheet) * orderIn (now sheet)) × (length (now vectors) ≡ orderIn (now sheet) * orderIn (now sheet))) ⌝ }
-    ensures { λ r. ⌜ listed (toldAnswer (r .answer)) (printing (r .count) (now (text .exit))) ≡ listOf (now (sheet .entry)) (now (text .entry)) ⌝ }
+) -> Listing
+    requires { ⌜ (isOrder (orderIn (now sheet)) ≡ true
+        → (length (now codes) ≡ orderIn (now sheet)) × (length (now matrix) ≡ orderIn (now sheet) * orderIn (now sheet))
+        × (length (now result) ≡ orderIn (now sheet) * orderIn (now sheet))
+        × (length (now vectors) ≡ orderIn (now sheet) * orderIn (now sheet))) ⌝ }
+    ensures { λ r. ⌜ listed (answered (r .answer)) (printing (r .count) (now (text .exit))) ≡ listOf (now (sheet .entry)) (now (text .entry)) ⌝ }
 {
     match sheet_reader::read(sheet, codes, matrix) {
         Reading::Read(n, sweeps) => run(n, sweeps, codes, matrix, result, vectors, text),
@@ -86,18 +88,20 @@ fn run(
     result: &mut [f64],
     vectors: &mut [f64],
     text: &mut [u8],
-) -> Listed
-    requires { ⌜ n ≤ limit ⌝ }
-    ensures { λ r. ⌜ listed (toldAnswer (r .answer)) (printing (r .count) (now (text .exit))) ≡ roomThenRun n sweeps (now (codes .entry)) (wholeOf n sweeps (now (matrix .entry)) (now (result .entry)) (now (vectors .entry))) (now (text .entry)) ⌝ }
+) -> Listing
+    requires { ⌜ n ≤ largestOrder ⌝ }
+    ensures { λ r. ⌜ listed (answered (r .answer)) (printing (r .count) (now (text .exit)))
+        ≡ roomThenRun n sweeps (now (codes .entry))
+        (wholeOf n sweeps (now (matrix .entry)) (now (result .entry)) (now (vectors .entry))) (now (text .entry)) ⌝ }
 {
-    if text.len() < 15 + 566 * n {
-        return Listed {
+    if text.len() < listing_text::room_for(n) {
+        return Listing {
             answer: Answer::Refused(Refusal::TooShort),
             count: 0,
         };
     }
     match array_run::run(n, sweeps, matrix, result, vectors) {
-        Completion::Completed(ticks) => Listed {
+        Completion::Completed(ticks) => Listing {
             answer: Answer::Accepted,
             count: listing_text::print(n, sweeps, ticks, codes, result, vectors, text),
         },
@@ -106,11 +110,12 @@ fn run(
 }
 
 // The line of a refusal.
-fn refuse(refused: Refusal, text: &mut [u8]) -> Listed
-    ensures { λ r. ⌜ listed (toldAnswer (r .answer)) (printing (r .count) (now (text .exit))) ≡ listed (told refused) (refusedLine (entryOf refused .0) (now (text .entry))) ⌝ }
+fn refuse(refused: Refusal, text: &mut [u8]) -> Listing
+    ensures { λ r. ⌜ listed (answered (r .answer)) (printing (r .count) (now (text .exit)))
+        ≡ listed (refusedBy refused) (refusedLine (numberOf refused) (now (text .entry))) ⌝ }
 {
     let count = listing_text::print_refusal(refused, text);
-    Listed {
+    Listing {
         answer: Answer::Refused(refused),
         count: count,
     }

@@ -10,23 +10,25 @@ use lib.ListN.{length, getD, drop}
 use lib.Ieee.{Float, binary64, toBits}
 use Rattle.refusal.specs.Refusal.{numberOf}
 use Rattle.refusal.specs.declared.Refusal.{Refusal}
-use Rattle.ordering.specs.Pairs.{noOrder}
+use Rattle.sizes.specs.Sizes.{isOrder}
 use Rattle.matrix.specs.Matrix.{at}
-use Rattle.listing_text.specs.Text.{decimalOf, hexOf, space, newline, Put}
-use Rattle.listing_text.specs.Printed.{fieldOf, columnOf, headOf, lineOf, linesOf, printedOf, printable, printing, printOf, refusedWord, refusedText, refusalOf}
-use Rattle.listing_text.proofs.Putting.{put-none, put-then, put-as, put-whole}
+use Rattle.text.specs.Text.{decimalOf, hexOf, space, newline, Put}
+use Rattle.listing_text.specs.Printed.{valueField, columnOf, headOf, lineOf, linesOf, printedOf}
+use Rattle.listing_text.specs.Printed.{roomFor, printable, printing, printOf, refusedWord, refusedText, refusalOf}
+use Rattle.text.proofs.TextPieces.{put-none, put-then, put-as, put-whole}
 
 module _ {l m r : List ℕ} {from e f : ℕ} where
-  pub field-put : {w : ℕ} (x : Float) → Put l from space m e → Put m e (hexOf 16 w) r f → w ≡ toBits binary64 x → Put l from (fieldOf x) r f
-  unfolding fieldOf
+  pub field-put : {w : ℕ} (x : Float) → Put l from space m e → Put m e (hexOf 16 w) r f → w ≡ toBits binary64 x → Put l from (valueField x) r f
+  unfolding valueField
   field-put x p q z = put-then p (put-as q (ap (hexOf 16) z))
 
-  pub column-next : (E : ℕ → ℕ → Float) (c k : ℕ) {x : Float} → Put l from (columnOf E c k) m e → Put m e (fieldOf x) r f → x ≡ E (k + 1) c → Put l from (columnOf E c (k + 1)) r f
+  pub column-next : (E : ℕ → ℕ → Float) (c k : ℕ) {x : Float} → Put l from (columnOf E c k) m e → Put m e (valueField x) r f
+      → x ≡ E (k + 1) c → Put l from (columnOf E c (k + 1)) r f
   unfolding columnOf
-  column-next E c k p q z = let a : k + 1 ≡ suc k = omega arith in rw a (put-then p (put-as q (ap fieldOf (z ∙ ap (λ (i : ℕ). E i c) a))))
+  column-next E c k p q z = let a : k + 1 ≡ suc k = omega arith in rw a (put-then p (put-as q (ap valueField (z ∙ ap (λ (i : ℕ). E i c) a))))
 
-  pub lines-next : (n : ℕ) (codes : List ℕ) (A E : ℕ → ℕ → Float) (k : ℕ) → Put l from (linesOf n codes A E k) m e → Put m e (lineOf n (getD codes k 0) A E (k + 1)) r f
-      → Put l from (linesOf n codes A E (k + 1)) r f
+  pub lines-next : (n : ℕ) (codes : List ℕ) (A E : ℕ → ℕ → Float) (k : ℕ) → Put l from (linesOf n codes A E k) m e
+      → Put m e (lineOf n (getD codes k 0) A E (k + 1)) r f → Put l from (linesOf n codes A E (k + 1)) r f
   unfolding linesOf
   lines-next n codes A E k p q = let a : k + 1 ≡ suc k = omega arith in rw a (put-then p (put-as q (ap (lineOf n (getD codes k 0) A E) a)))
 
@@ -38,23 +40,23 @@ pub lines-none : (l : List ℕ) (from n : ℕ) (codes : List ℕ) (A E : ℕ →
 unfolding linesOf
 lines-none l from n codes A E = put-none l from
 
-pub head-put : (n sweeps ticks : ℕ) {l₀ l₁ l₂ l₃ l₄ l₅ l₆ : List ℕ} {a b c d e f g : ℕ} → Put l₀ a (decimalOf n) l₁ b → Put l₁ b space l₂ c → Put l₂ c (decimalOf sweeps) l₃ d → Put l₃ d space l₄ e
-    → Put l₄ e (decimalOf ticks) l₅ f → Put l₅ f newline l₆ g → Put l₀ a (headOf n sweeps ticks) l₆ g
+pub head-put : (n sweeps ticks : ℕ) {l₀ l₁ l₂ l₃ l₄ l₅ l₆ : List ℕ} {a b c d e f g : ℕ} → Put l₀ a (decimalOf n) l₁ b → Put l₁ b space l₂ c
+    → Put l₂ c (decimalOf sweeps) l₃ d → Put l₃ d space l₄ e → Put l₄ e (decimalOf ticks) l₅ f → Put l₅ f newline l₆ g → Put l₀ a (headOf n sweeps ticks) l₆ g
 unfolding headOf
 head-put n sweeps ticks p q r s t u = put-then p (put-then q (put-then r (put-then s (put-then t u))))
 
-pub line-put : (n code : ℕ) (A E : ℕ → ℕ → Float) (k : ℕ) {x : Float} {l₀ l₁ l₂ l₃ l₄ : List ℕ} {a b c d e : ℕ} → Put l₀ a (decimalOf code) l₁ b → Put l₁ b (fieldOf x) l₂ c
-    → Put l₂ c (columnOf E k n) l₃ d → Put l₃ d newline l₄ e → x ≡ A k k → Put l₀ a (lineOf n code A E k) l₄ e
+pub line-put : (n code : ℕ) (A E : ℕ → ℕ → Float) (k : ℕ) {x : Float} {l₀ l₁ l₂ l₃ l₄ : List ℕ} {a b c d e : ℕ} → Put l₀ a (decimalOf code) l₁ b
+    → Put l₁ b (valueField x) l₂ c → Put l₂ c (columnOf E k n) l₃ d → Put l₃ d newline l₄ e → x ≡ A k k → Put l₀ a (lineOf n code A E k) l₄ e
 unfolding lineOf
-line-put n code A E k p q r s z = put-then p (put-then (put-as q (ap fieldOf z)) (put-then r s))
+line-put n code A E k p q r s z = put-then p (put-then (put-as q (ap valueField z)) (put-then r s))
 
 -- ---- what is printable
 module _ (n sweeps ticks codes matrix vectors room : ℕ) where
-  pub no-1 : noOrder n ≡ true → false ≡ printable n sweeps ticks codes matrix vectors room
+  pub no-1 : isOrder n ≡ false → false ≡ printable n sweeps ticks codes matrix vectors room
   unfolding printable
   no-1 o = rw o
 
-  module _ (o : noOrder n ≡ false) where
+  module _ (o : isOrder n ≡ true) where
     pub no-2 : 10000 ≤ sweeps → false ≡ printable n sweeps ticks codes matrix vectors room
     unfolding printable
     no-2 h = rw (o, le-ltb sweeps 10000 h)
@@ -79,52 +81,53 @@ module _ (n sweeps ticks codes matrix vectors room : ℕ) where
             unfolding printable
             no-6 h = rw (o, lt-ltb sweeps 10000 s, lt-ltb ticks 10000 t, eq-eqb codes n c, eq-eqb matrix (n * n) m, ne-eqb vectors (n * n) h)
 
-            pub by-room : vectors ≡ n * n → leb (15 + 566 * n) room ≡ printable n sweeps ticks codes matrix vectors room
+            pub by-room : vectors ≡ n * n → {m : ℕ} → m ≡ roomFor n → leb m room ≡ printable n sweeps ticks codes matrix vectors room
             unfolding printable
-            by-room h = rw (o, lt-ltb sweeps 10000 s, lt-ltb ticks 10000 t, eq-eqb codes n c, eq-eqb matrix (n * n) m, eq-eqb vectors (n * n) h)
+            by-room h z = rw (z, o, lt-ltb sweeps 10000 s, lt-ltb ticks 10000 t, eq-eqb codes n c, eq-eqb matrix (n * n) m, eq-eqb vectors (n * n) h)
 
 pub record Sizes (n codes matrix vectors room : ℕ) : Type 0 where
-  pub order : noOrder n ≡ false
+  pub order : isOrder n ≡ true
   pub codes-long : codes ≡ n
   pub matrix-long : matrix ≡ n * n
   pub vectors-long : vectors ≡ n * n
-  pub enough : 15 + 566 * n ≤ room
+  pub enough : roomFor n ≤ room
 
 pub sizes : (n sweeps ticks codes matrix vectors room : ℕ) → printable n sweeps ticks codes matrix vectors room ≡ true → Sizes n codes matrix vectors room
 unfolding printable
 sizes n sweeps ticks codes matrix vectors room e =
-    go (noOrder n) (ltb sweeps 10000) (ltb ticks 10000) (eqb codes n) (eqb matrix (n * n)) (eqb vectors (n * n)) (leb (15 + 566 * n) room) refl refl refl refl refl e
+    go (isOrder n) (ltb sweeps 10000) (ltb ticks 10000) (eqb codes n) (eqb matrix (n * n)) (eqb vectors (n * n)) (leb (roomFor n) room)
+    refl refl refl refl refl e
   where
-    go : (a b c d f g h : Bool) → noOrder n ≡ a → eqb codes n ≡ d → eqb matrix (n * n) ≡ f → eqb vectors (n * n) ≡ g → leb (15 + 566 * n) room ≡ h
-        → (not a && (b && (c && (d && (f && (g && h)))))) ≡ true → Sizes n codes matrix vectors room
-    go true b c d f g h o p q r s e = absurd (true≢false (sym e))
-    go false false c d f g h o p q r s e = absurd (true≢false (sym e))
-    go false true false d f g h o p q r s e = absurd (true≢false (sym e))
-    go false true true false f g h o p q r s e = absurd (true≢false (sym e))
-    go false true true true false g h o p q r s e = absurd (true≢false (sym e))
-    go false true true true true false h o p q r s e = absurd (true≢false (sym e))
-    go false true true true true true false o p q r s e = absurd (true≢false (sym e))
-    go false true true true true true true o p q r s e =
+    go : (a b c d f g h : Bool) → isOrder n ≡ a → eqb codes n ≡ d → eqb matrix (n * n) ≡ f → eqb vectors (n * n) ≡ g → leb (roomFor n) room ≡ h
+        → (a && (b && (c && (d && (f && (g && h)))))) ≡ true → Sizes n codes matrix vectors room
+    go false b c d f g h o p q r s e = absurd (true≢false (sym e))
+    go true false c d f g h o p q r s e = absurd (true≢false (sym e))
+    go true true false d f g h o p q r s e = absurd (true≢false (sym e))
+    go true true true false f g h o p q r s e = absurd (true≢false (sym e))
+    go true true true true false g h o p q r s e = absurd (true≢false (sym e))
+    go true true true true true false h o p q r s e = absurd (true≢false (sym e))
+    go true true true true true true false o p q r s e = absurd (true≢false (sym e))
+    go true true true true true true true o p q r s e =
         record { order = o; codes-long = eqb-true _ _ p; matrix-long = eqb-true _ _ q; vectors-long = eqb-true _ _ r; enough = leb-true _ _ s }
 
 -- ---- the whole
+whole : (b s r : List ℕ) (f : ℕ) → Put b 0 s r f → printing f r ≡ printing (length s) (s ++ drop (length s) b)
+whole b s r f p = let w = put-whole b s r f p in rw (w .0, w .1)
+
 module _ (n sweeps ticks : ℕ) (codes : List ℕ) (l e : List Float) (b : List ℕ) where
   pub not-printed : printable n sweeps ticks (length codes) (length l) (length e) (length b) ≡ false → printing 0 b ≡ printOf n sweeps ticks codes l e b
   unfolding printOf
   not-printed z = rw z
 
-  pub printed : {m r : List ℕ} {d f : ℕ} → printable n sweeps ticks (length codes) (length l) (length e) (length b) ≡ true → Put b 0 (headOf n sweeps ticks) m d
-      → Put m d (linesOf n codes (at n l) (at n e) n) r f → printing f r ≡ printOf n sweeps ticks codes l e b
+  pub printed : {m r : List ℕ} {d f : ℕ} → printable n sweeps ticks (length codes) (length l) (length e) (length b) ≡ true
+      → Put b 0 (headOf n sweeps ticks) m d → Put m d (linesOf n codes (at n l) (at n e) n) r f → printing f r ≡ printOf n sweeps ticks codes l e b
   unfolding printOf
-  printed {m} {r} {d} {f} z p q = rw z (together (put-whole b (printedOf n sweeps ticks codes (at n l) (at n e)) r f (unfold printedOf in (put-then p q))))
-    where
-      together : (f ≡ length (printedOf n sweeps ticks codes (at n l) (at n e))) × (r ≡ printedOf n sweeps ticks codes (at n l) (at n e) ++ drop (length (printedOf n sweeps ticks codes (at n l) (at n e))) b)
-          → printing f r ≡ printing (length (printedOf n sweeps ticks codes (at n l) (at n e))) (printedOf n sweeps ticks codes (at n l) (at n e) ++ drop (length (printedOf n sweeps ticks codes (at n l) (at n e))) b)
-      together w = rw (w .0, w .1)
+  printed {m} {r} {d} {f} z p q = rw z (whole b (printedOf n sweeps ticks codes (at n l) (at n e)) r f (unfold printedOf in (put-then p q)))
 
 -- ---- a refusal
-pub word-put : {l₀ l₁ l₂ l₃ l₄ l₅ l₆ l₇ l₈ : List ℕ} {a b c d e f g h i : ℕ} → Put l₀ a (114 ∷ []) l₁ b → Put l₁ b (101 ∷ []) l₂ c → Put l₂ c (102 ∷ []) l₃ d → Put l₃ d (117 ∷ []) l₄ e
-    → Put l₄ e (115 ∷ []) l₅ f → Put l₅ f (101 ∷ []) l₆ g → Put l₆ g (100 ∷ []) l₇ h → Put l₇ h space l₈ i → Put l₀ a refusedWord l₈ i
+pub word-put : {l₀ l₁ l₂ l₃ l₄ l₅ l₆ l₇ l₈ : List ℕ} {a b c d e f g h i : ℕ} → Put l₀ a (114 ∷ []) l₁ b → Put l₁ b (101 ∷ []) l₂ c
+    → Put l₂ c (102 ∷ []) l₃ d → Put l₃ d (117 ∷ []) l₄ e → Put l₄ e (115 ∷ []) l₅ f → Put l₅ f (101 ∷ []) l₆ g → Put l₆ g (100 ∷ []) l₇ h
+    → Put l₇ h space l₈ i → Put l₀ a refusedWord l₈ i
 word-put p q r s t u v w = put-then p (put-then q (put-then r (put-then s (put-then t (put-then u (put-then v w))))))
 
 module _ (r : Refusal) (b : List ℕ) where
@@ -132,11 +135,8 @@ module _ (r : Refusal) (b : List ℕ) where
   unfolding refusalOf
   refusal-not-printed h = rw (lt-ltb (length b) 13 h)
 
-  pub refusal-printed : {k : ℕ} {l m o : List ℕ} {d e f : ℕ} → 13 ≤ length b → k ≡ numberOf r → Put b 0 refusedWord l d → Put l d (decimalOf k) m e → Put m e newline o f → printing f o ≡ refusalOf r b
+  pub refusal-printed : {k : ℕ} {l m o : List ℕ} {d e f : ℕ} → 13 ≤ length b → k ≡ numberOf r → Put b 0 refusedWord l d
+      → Put l d (decimalOf k) m e → Put m e newline o f → printing f o ≡ refusalOf r b
   unfolding refusalOf
   refusal-printed {k} {l} {m} {o} {d} {e} {f} h z p q s =
-      rw (le-ltb (length b) 13 h) (together (put-whole b (refusedText (numberOf r)) o f (put-then p (put-then (put-as q (ap decimalOf z)) s))))
-    where
-      together : (f ≡ length (refusedText (numberOf r))) × (o ≡ refusedText (numberOf r) ++ drop (length (refusedText (numberOf r))) b)
-          → printing f o ≡ printing (length (refusedText (numberOf r))) (refusedText (numberOf r) ++ drop (length (refusedText (numberOf r))) b)
-      together w = rw (w .0, w .1)
+      rw (le-ltb (length b) 13 h) (whole b (refusedText (numberOf r)) o f (put-then p (put-then (put-as q (ap decimalOf z)) s)))

@@ -1,24 +1,24 @@
 -- Document 01, "The printed sheet". Definitions only.
 use Prim.Native.Nat.{ℕ, zero, suc, _+_, _*_}
-use mathlib.Core.Bool.{Bool, not, cond, _&&_}
+use mathlib.Core.Bool.{Bool, cond, _&&_}
 use mathlib.Core.List.{List, [], _∷_, _++_}
 use lib.Dec.{eqb, ltb, leb}
 use lib.ListN.{length, getD, drop}
 use lib.Ieee.{Float, binary64, toBits}
 use Rattle.refusal.specs.Refusal.{numberOf}
 use Rattle.refusal.specs.declared.Refusal.{Refusal}
-use Rattle.ordering.specs.Pairs.{noOrder}
+use Rattle.sizes.specs.Sizes.{isOrder}
 use Rattle.matrix.specs.Matrix.{at}
-use Rattle.listing_text.specs.Text.{decimalOf, hexOf, space, newline}
+use Rattle.text.specs.Text.{decimalOf, hexOf, space, newline}
 
 -- A space and the bits of a value.
-unfoldable pub fieldOf : Float → List ℕ
-fieldOf x = space ++ hexOf 16 (toBits binary64 x)
+unfoldable pub valueField : Float → List ℕ
+valueField x = space ++ hexOf 16 (toBits binary64 x)
 
 -- The fields of column c, of the rows 1 to k.
 unfoldable pub columnOf : (ℕ → ℕ → Float) → ℕ → ℕ → List ℕ
 columnOf E c zero = []
-columnOf E c (suc k) = columnOf E c k ++ fieldOf (E (suc k) c)
+columnOf E c (suc k) = columnOf E c k ++ valueField (E (suc k) c)
 
 -- The first line.
 unfoldable pub headOf : ℕ → ℕ → ℕ → List ℕ
@@ -26,7 +26,7 @@ headOf n sweeps ticks = decimalOf n ++ (space ++ (decimalOf sweeps ++ (space ++ 
 
 -- The line of a code and its line k: the code, its diagonal entry, and that column of the eigenvectors from the top.
 unfoldable pub lineOf : ℕ → ℕ → (ℕ → ℕ → Float) → (ℕ → ℕ → Float) → ℕ → List ℕ
-lineOf n code A E k = decimalOf code ++ (fieldOf (A k k) ++ (columnOf E k n ++ newline))
+lineOf n code A E k = decimalOf code ++ (valueField (A k k) ++ (columnOf E k n ++ newline))
 
 -- The first k lines.
 unfoldable pub linesOf : ℕ → List ℕ → (ℕ → ℕ → Float) → (ℕ → ℕ → Float) → ℕ → List ℕ
@@ -36,14 +36,18 @@ linesOf n codes A E (suc k) = linesOf n codes A E k ++ lineOf n (getD codes k 0)
 unfoldable pub printedOf : ℕ → ℕ → ℕ → List ℕ → (ℕ → ℕ → Float) → (ℕ → ℕ → Float) → List ℕ
 printedOf n sweeps ticks codes A E = headOf n sweeps ticks ++ linesOf n codes A E n
 
--- Bytes that are enough for a line of 15 and n of 566.
+-- Bytes that are enough for the line of a code: 4 for the code, 17 for the diagonal entry, 17 for each value of the column, and a newline.
+abbrev pub lineRoom : ℕ → ℕ
+lineRoom n = 22 + 17 * n
+
+-- Bytes that are enough for a first line of 15 and n lines of codes.
 abbrev pub roomFor : ℕ → ℕ
-roomFor n = 15 + 566 * n
+roomFor n = 15 + n * lineRoom n
 
 -- The sizes are those of a run, the numbers have at most 4 digits, and the bytes are enough.
 unfoldable pub printable : ℕ → ℕ → ℕ → ℕ → ℕ → ℕ → ℕ → Bool
 printable n sweeps ticks codes matrix vectors room =
-    not (noOrder n) && (ltb sweeps 10000 && (ltb ticks 10000 && (eqb codes n && (eqb matrix (n * n) && (eqb vectors (n * n) && leb (roomFor n) room)))))
+    isOrder n && (ltb sweeps 10000 && (ltb ticks 10000 && (eqb codes n && (eqb matrix (n * n) && (eqb vectors (n * n) && leb (roomFor n) room)))))
 
 -- How many bytes are printed, and what the lent bytes hold.
 pub record Printing : Type 0 where

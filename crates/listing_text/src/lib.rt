@@ -3,12 +3,15 @@ ghost use mathlib.Core.Path.{_≡_};
 ghost use Prim.Native.Nat.{_+_, _*_, _≤_};
 ghost use lib.ListN.{length};
 ghost use Rattle.matrix.specs.Matrix.{at};
-ghost use Rattle.ordering.specs.Pairs.{limit};
-ghost use Rattle.listing_text.specs.Text.{Put};
-ghost use Rattle.listing_text.specs.Printed.{fieldOf, columnOf, headOf, lineOf, linesOf, printable, printing, printOf, refusedWord, refusalOf};
+ghost use Rattle.sizes.specs.Sizes.{largestOrder};
+ghost use Rattle.text.specs.Text.{Put};
+ghost use Rattle.listing_text.specs.Printed.{valueField, columnOf, headOf, lineOf, linesOf, lineRoom};
+ghost use Rattle.listing_text.specs.Printed.{roomFor, printable, printing, printOf, refusedWord, refusalOf};
 use refusal::Refusal;
+use sizes::LARGEST_ORDER;
 
-mod text;
+// The room for the printed sheet of the largest order.
+pub const LONGEST: usize = 15 + LARGEST_ORDER * (22 + 17 * LARGEST_ORDER);
 
 // Prints what a run has given into lent bytes, and answers how many they are. Nothing is printed where the order, the numbers or the
 // lengths are not those of a run, or there may be too little room.
@@ -21,7 +24,8 @@ pub fn print(
     vectors: &[f64],
     out: &mut [u8],
 ) -> usize
-    ensures { λ r. ⌜ printing r (now (out .exit)) ≡ printOf n sweeps ticks (now (codes .entry)) (now (matrix .entry)) (now (vectors .entry)) (now (out .entry)) ⌝ }
+    ensures { λ r. ⌜ printing r (now (out .exit))
+        ≡ printOf n sweeps ticks (now (codes .entry)) (now (matrix .entry)) (now (vectors .entry)) (now (out .entry)) ⌝ }
 {
     if !is_printable(
         n,
@@ -48,6 +52,14 @@ pub fn print_refusal(refused: Refusal, out: &mut [u8]) -> usize
     let word = put_word(out);
     let number = text::put_decimal(refusal::number(refused) as u64, word, out);
     text::put(b'\n', number, out)
+}
+
+// The bytes that are enough for the printed sheet of an order.
+pub fn room_for(n: usize) -> usize
+    requires { ⌜ n ≤ largestOrder ⌝ }
+    ensures { λ r. ⌜ r ≡ roomFor n ⌝ }
+{
+    15 + n * (22 + 17 * n)
 }
 
 // The word refused, and a space.
@@ -78,7 +90,7 @@ fn is_printable(
 ) -> bool
     ensures { λ r. ⌜ r ≡ printable n sweeps ticks codes matrix vectors room ⌝ }
 {
-    if ordering::is_no_order(n) {
+    if !sizes::is_order(n) {
         return false;
     }
     if sweeps >= 10000 {
@@ -96,7 +108,7 @@ fn is_printable(
     if vectors != n * n {
         return false;
     }
-    room >= 15 + 566 * n
+    room >= room_for(n)
 }
 
 // The first line.
@@ -122,8 +134,10 @@ fn put_lines(
     from: usize,
     out: &mut [u8],
 ) -> usize
-    requires { ⌜ (n ≤ limit) × (length (now codes) ≡ n) × (length (now matrix) ≡ n * n) × (length (now vectors) ≡ n * n) × (from + 566 * n ≤ length (now out)) ⌝ }
-    ensures { λ r. ⌜ Put (now (out .entry)) from (linesOf n (now (codes .entry)) (at n (now (matrix .entry))) (at n (now (vectors .entry))) n) (now (out .exit)) r ⌝ }
+    requires { ⌜ (length (now codes) ≡ n) × (length (now matrix) ≡ n * n) × (length (now vectors) ≡ n * n)
+        × (from + n * lineRoom n ≤ length (now out)) ⌝ }
+    ensures { λ r. ⌜ Put (now (out .entry)) from
+        (linesOf n (now (codes .entry)) (at n (now (matrix .entry))) (at n (now (vectors .entry))) n) (now (out .exit)) r ⌝ }
 {
     let mut end = from;
     for k in 0..n {
@@ -142,9 +156,11 @@ fn put_line(
     from: usize,
     out: &mut [u8],
 ) -> usize
-    requires { ⌜ (n ≤ limit) × (1 ≤ k) × (k ≤ n) × (length (now matrix) ≡ n * n) × (length (now vectors) ≡ n * n) × (from + 566 ≤ length (now out)) ⌝ }
-    ensures { λ r. ⌜ Put (now (out .entry)) from (lineOf n code (at n (now (matrix .entry))) (at n (now (vectors .entry))) k) (now (out .exit)) r ⌝ }
-    ensures { λ r. ⌜ r ≤ from + 566 ⌝ }
+    requires { ⌜ (1 ≤ k) × (k ≤ n) × (length (now matrix) ≡ n * n) × (length (now vectors) ≡ n * n)
+        × (from + lineRoom n ≤ length (now out)) ⌝ }
+    ensures { λ r. ⌜ Put (now (out .entry)) from
+        (lineOf n code (at n (now (matrix .entry))) (at n (now (vectors .entry))) k) (now (out .exit)) r ⌝ }
+    ensures { λ r. ⌜ r ≤ from + lineRoom n ⌝ }
 {
     let number = text::put_decimal(code as u64, from, out);
     let diagonal = put_field(matrix::entry(n, k, k, matrix), number, out);
@@ -154,9 +170,9 @@ fn put_line(
 
 // The bits of the values in column c, from the top.
 fn put_column(n: usize, c: usize, vectors: &[f64], from: usize, out: &mut [u8]) -> usize
-    requires { ⌜ (n ≤ limit) × (1 ≤ c) × (c ≤ n) × (length (now vectors) ≡ n * n) × (from + 17 * limit ≤ length (now out)) ⌝ }
+    requires { ⌜ (1 ≤ c) × (c ≤ n) × (length (now vectors) ≡ n * n) × (from + 17 * n ≤ length (now out)) ⌝ }
     ensures { λ r. ⌜ Put (now (out .entry)) from (columnOf (at n (now (vectors .entry))) c n) (now (out .exit)) r ⌝ }
-    ensures { λ r. ⌜ r ≤ from + 17 * limit ⌝ }
+    ensures { λ r. ⌜ r ≡ from + 17 * n ⌝ }
 {
     let mut end = from;
     for r in 0..n {
@@ -168,7 +184,7 @@ fn put_column(n: usize, c: usize, vectors: &[f64], from: usize, out: &mut [u8]) 
 // A space and the bits of a value.
 fn put_field(x: f64, from: usize, out: &mut [u8]) -> usize
     requires { ⌜ from + 17 ≤ length (now out) ⌝ }
-    ensures { λ r. ⌜ Put (now (out .entry)) from (fieldOf x) (now (out .exit)) r ⌝ }
+    ensures { λ r. ⌜ Put (now (out .entry)) from (valueField x) (now (out .exit)) r ⌝ }
     ensures { λ r. ⌜ r ≡ from + 17 ⌝ }
 {
     let digits = text::put(b' ', from, out);

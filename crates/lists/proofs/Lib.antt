@@ -2,3 +2,4 @@ pub mod Tabulated
 pub mod Filled
 pub mod Replaced
 pub mod Over
+pub mod Bounded

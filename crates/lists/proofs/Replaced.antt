@@ -45,7 +45,12 @@ module _ {A : Type 0} {z : A} {f : ℕ → A} {old : List A} where
 
   -- an element that stays
   pub replaced-skip : (k : ℕ) (l : List A) → Replaced z f old k l → getD old k z ≡ f k → Replaced z f old (k + 1) l
-  replaced-skip k l h e = record { long = h .long; done = λ i b. up-to (λ i. getD l i z ≡ f i) k i b (h .done i) (h .kept k (omega arith) ∙ e); kept = λ i o. h .kept i (omega arith) }
+  replaced-skip k l h e =
+      record {
+        long = h .long;
+        done = λ i b. up-to (λ i. getD l i z ≡ f i) k i b (h .done i) (h .kept k (omega arith) ∙ e);
+        kept = λ i o. h .kept i (omega arith);
+      }
 
   pub replaced-each : (k : ℕ) (l : List A) → Replaced z f old k l → ((i : ℕ) → k ≤ i → getD old i z ≡ f i) → (i : ℕ) → getD l i z ≡ f i
   replaced-each k l h rest i = go (ltb i k) refl
@@ -58,7 +63,8 @@ module _ {A : Type 0} {z : A} {f : ℕ → A} {old : List A} where
   replaced-all k l h rest = tabulated (length old) f l z (h .long) (λ i o. replaced-each k l h rest i)
 
   -- a part that the formula leaves alone
-  pub replaced-part : {B : Type 0} (g : A → B) (k : ℕ) (l : List A) (i : ℕ) → g (f i) ≡ g (getD old i z) → Replaced z f old k l → g (getD l i z) ≡ g (getD old i z)
+  pub replaced-part : {B : Type 0} (g : A → B) (k : ℕ) (l : List A) (i : ℕ) → g (f i) ≡ g (getD old i z) → Replaced z f old k l
+      → g (getD l i z) ≡ g (getD old i z)
   replaced-part g k l i e h = go (ltb i k) refl
     where
       go : (b : Bool) → ltb i k ≡ b → g (getD l i z) ≡ g (getD old i z)

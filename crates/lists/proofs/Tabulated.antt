@@ -20,17 +20,25 @@ getD-tabulate (suc n) f (suc k) z l = getD-tabulate n (λ k. f (suc k)) k z (ome
 
 -- a list of n elements, each what the formula says, is the list of the formula
 pub tabulated : {A : Type 0} (n : ℕ) (f : ℕ → A) (xs : List A) (z : A) → length xs ≡ n → ((k : ℕ) → k < n → getD xs k z ≡ f k) → xs ≡ tabulate n f
-tabulated n f xs z e g = ext-getD z xs (tabulate n f) (e ∙ sym (length-tabulate n f)) (λ k l. let h : k < n = omega arith in g k h ∙ sym (getD-tabulate n f k z h))
+tabulated n f xs z e g =
+    ext-getD z xs (tabulate n f) (e ∙ sym (length-tabulate n f)) (λ k l. let h : k < n = omega arith in g k h ∙ sym (getD-tabulate n f k z h))
 
 pub tabulate-ext : {A : Type 0} (n : ℕ) (f g : ℕ → A) → ((k : ℕ) → k < n → f k ≡ g k) → tabulate n f ≡ tabulate n g
 unfolding tabulate
 tabulate-ext zero f g e = refl
-tabulate-ext (suc n) f g e = ap (λ (x : _). x ∷ tabulate n (λ k. f (suc k))) (e 0 (omega arith)) ∙ ap (λ (l : List _). g 0 ∷ l) (tabulate-ext n (λ k. f (suc k)) (λ k. g (suc k)) (λ k l. e (suc k) (omega arith)))
+tabulate-ext (suc n) f g e =
+    ap (λ (x : _). x ∷ tabulate n (λ k. f (suc k))) (e 0 (omega arith))
+    ∙ ap (λ (l : List _). g 0 ∷ l) (tabulate-ext n (λ k. f (suc k)) (λ k. g (suc k)) (λ k l. e (suc k) (omega arith)))
 
 -- one element changed
-pub set-tabulate : {A : Type 0} (n : ℕ) (f g : ℕ → A) (k : ℕ) (v : A) → k < n → v ≡ g k → ((i : ℕ) → i < n → ¬ (i ≡ k) → f i ≡ g i) → set (tabulate n f) k v ≡ tabulate n g
+pub set-tabulate : {A : Type 0} (n : ℕ) (f g : ℕ → A) (k : ℕ) (v : A) → k < n → v ≡ g k → ((i : ℕ) → i < n → ¬ (i ≡ k) → f i ≡ g i)
+    → set (tabulate n f) k v ≡ tabulate n g
 unfolding tabulate
 set-tabulate zero f g k v l e o = absurd (omega arith)
-set-tabulate (suc n) f g zero v l e o = ap (λ (x : _). x ∷ tabulate n (λ k. f (suc k))) e ∙ ap (λ (t : List _). g 0 ∷ t) (tabulate-ext n (λ k. f (suc k)) (λ k. g (suc k)) (λ i p. o (suc i) (omega arith) (λ z. omega arith)))
+set-tabulate (suc n) f g zero v l e o =
+    ap (λ (x : _). x ∷ tabulate n (λ k. f (suc k))) e
+    ∙ ap (λ (t : List _). g 0 ∷ t) (tabulate-ext n (λ k. f (suc k)) (λ k. g (suc k)) (λ i p. o (suc i) (omega arith) (λ z. omega arith)))
 set-tabulate (suc n) f g (suc k) v l e o =
-    ap (λ (x : _). x ∷ set (tabulate n (λ k. f (suc k))) k v) (o 0 (omega arith) (λ z. omega arith)) ∙ ap (λ (t : List _). g 0 ∷ t) (set-tabulate n (λ k. f (suc k)) (λ k. g (suc k)) k v (omega arith) e (λ i p q. o (suc i) (omega arith) (λ z. q (omega arith))))
+    ap (λ (x : _). x ∷ set (tabulate n (λ k. f (suc k))) k v) (o 0 (omega arith) (λ z. omega arith))
+    ∙ ap (λ (t : List _). g 0 ∷ t)
+    (set-tabulate n (λ k. f (suc k)) (λ k. g (suc k)) k v (omega arith) e (λ i p q. o (suc i) (omega arith) (λ z. q (omega arith))))

@@ -1,2 +1,3 @@
 pub mod Tabulate
 pub mod Over
+pub mod Bounded

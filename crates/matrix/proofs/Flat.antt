@@ -27,7 +27,8 @@ unfolding flat
 flat-length n A = length-tabulate (n * n) _
 
 pub at-flat : (n : ℕ) (A : ℕ → ℕ → Float) (i j : ℕ) → i < n → j < n → at n (flat n A) (i + 1) (j + 1) ≡ A (i + 1) (j + 1)
-at-flat n A i j h k = at-offset n (flat n A) i j ∙ unfold flat in (getD-tabulate (n * n) _ (i * n + j) nan (digits-lt h k) ∙ rw (digits-div i k, digits-mod i k))
+at-flat n A i j h k =
+    at-offset n (flat n A) i j ∙ unfold flat in (getD-tabulate (n * n) _ (i * n + j) nan (digits-lt h k) ∙ rw (digits-div i k, digits-mod i k))
 
 -- an offset of the list is that of a row and a column
 pub row-lt : (n k : ℕ) → k < n * n → k / n < n

@@ -1,7 +1,7 @@
 pub mod Flat
 pub mod Within
-pub mod First
+pub mod EntryTests
 pub mod Answers
 pub mod Same
-pub mod Accepted
-pub mod Transposing
+pub mod AcceptedEntries
+pub mod Transposition

@@ -21,7 +21,7 @@ isLine n p = cond (eqb p 0) false (leb p n)
 
 -- r and c are lines, and a length is that of the matrix.
 unfoldable pub isPlace : ℕ → ℕ → ℕ → ℕ → Bool
-isPlace n r c length = isLine n r && (isLine n c && eqb length (n * n))
+isPlace n r c long = isLine n r && (isLine n c && eqb long (n * n))
 
 -- The entry in row r and column c, and NaN where there is none.
 unfoldable pub entryOf : ℕ → List Float → ℕ → ℕ → Float

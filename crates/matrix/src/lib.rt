@@ -6,7 +6,7 @@ ghost use lib.Dec.{eqb};
 ghost use lib.Ieee.{Float};
 ghost use Rattle.float64.specs.Values.{plusZero};
 ghost use Rattle.lists.specs.Tabulate.{tabulate};
-ghost use Rattle.refusal.specs.Refusal.{toldAnswer};
+ghost use Rattle.refusal.specs.Answers.{answered};
 ghost use Rattle.matrix.specs.Matrix.{flat, isLine, isPlace, entryOf};
 ghost use Rattle.matrix.specs.Transposed.{transposedIn, exchanged, across, upTo};
 ghost use Rattle.matrix.specs.Entries.{firstPlace, notFiniteAt, notMirroredAt, entriesOf};
@@ -15,7 +15,7 @@ use refusal::Refusal;
 
 // Refusals 3, 5 and 6 of a matrix of order n.
 pub fn tested(n: usize, a: &[f64]) -> Answer
-    ensures { λ r. ⌜ toldAnswer r ≡ entriesOf n (now (a .entry)) ⌝ }
+    ensures { λ r. ⌜ answered r ≡ entriesOf n (now (a .entry)) ⌝ }
 {
     if !is_square(n, a.len()) {
         return Answer::Refused(Refusal::Length);
@@ -27,13 +27,13 @@ pub fn tested(n: usize, a: &[f64]) -> Answer
 }
 
 // Whether a length is n * n, which may be too large for the type.
-pub fn is_square(n: usize, length: usize) -> bool
-    ensures { λ r. ⌜ r ≡ eqb length (n * n) ⌝ }
+pub fn is_square(n: usize, long: usize) -> bool
+    ensures { λ r. ⌜ r ≡ eqb long (n * n) ⌝ }
 {
     if n > 0xffff_ffff {
         return false;
     }
-    length == n * n
+    long == n * n
 }
 
 // The entry in row r and column c, and NaN where there is none.
@@ -47,8 +47,8 @@ pub fn entry(n: usize, r: usize, c: usize, a: &[f64]) -> f64
 }
 
 // Whether r and c are lines of a matrix of order n, and a length is that of the matrix.
-pub fn is_place(n: usize, r: usize, c: usize, length: usize) -> bool
-    ensures { λ x. ⌜ x ≡ isPlace n r c length ⌝ }
+pub fn is_place(n: usize, r: usize, c: usize, long: usize) -> bool
+    ensures { λ x. ⌜ x ≡ isPlace n r c long ⌝ }
 {
     if !is_line(n, r) {
         return false;
@@ -56,7 +56,7 @@ pub fn is_place(n: usize, r: usize, c: usize, length: usize) -> bool
     if !is_line(n, c) {
         return false;
     }
-    is_square(n, length)
+    is_square(n, long)
 }
 
 // Whether p is a line of a matrix of order n.
@@ -71,7 +71,7 @@ fn is_line(n: usize, p: usize) -> bool
 
 fn first_not_finite(n: usize, a: &[f64]) -> Answer
     requires { ⌜ length (now a) ≡ n * n ⌝ }
-    ensures { λ r. ⌜ toldAnswer r ≡ firstPlace n (notFiniteAt n (now (a .entry))) ⌝ }
+    ensures { λ r. ⌜ answered r ≡ firstPlace n (notFiniteAt n (now (a .entry))) ⌝ }
 {
     let mut found = Answer::Accepted;
     'rows: for i in 0..n {
@@ -87,7 +87,7 @@ fn first_not_finite(n: usize, a: &[f64]) -> Answer
 
 fn first_not_mirrored(n: usize, a: &[f64]) -> Answer
     requires { ⌜ length (now a) ≡ n * n ⌝ }
-    ensures { λ r. ⌜ toldAnswer r ≡ firstPlace n (notMirroredAt n (now (a .entry))) ⌝ }
+    ensures { λ r. ⌜ answered r ≡ firstPlace n (notMirroredAt n (now (a .entry))) ⌝ }
 {
     let mut found = Answer::Accepted;
     'rows: for i in 0..n {

@@ -1,5 +1,5 @@
 pub mod Two
 pub mod Lines
-pub mod Turned
+pub mod TurnedLists
 pub mod Same
 pub mod Still

@@ -82,7 +82,8 @@ module _ {n N : ℕ} (ix : ℕ → ℕ → ℕ) (g : Grid n N ix) (P : Parameter
 
       place : (b : Bool) → eqb i p ≡ b → (d : Bool) → eqb i q ≡ d
           → getD (placesTurned P (ix r p) (ix r q) l) (ix r i) nan
-          ≡ cond b (turnOf P (getD l (ix r p) nan) (getD l (ix r q) nan) .left) (cond d (turnOf P (getD l (ix r p) nan) (getD l (ix r q) nan) .right) (getD l (ix r i) nan))
+          ≡ cond b (turnOf P (getD l (ix r p) nan) (getD l (ix r q) nan) .left)
+          (cond d (turnOf P (getD l (ix r p) nan) (getD l (ix r q) nan) .right) (getD l (ix r i) nan))
       place true f d h = rw (eqb-true i p f) (places-first P (ix r p) (ix r q) l (λ u. pq (g .apart r p r q hr pn hr qn u .1)) bp)
       place false f true h = rw (eqb-true i q h) (places-second P (ix r p) (ix r q) l bq)
       place false f false h =

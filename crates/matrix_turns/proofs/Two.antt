@@ -40,7 +40,14 @@ module _ (n p q d : ℕ) where
       go false false x y e = absurd (true≢false (sym e))
       go false true x y e =
           let t = are-place n p q d y in
-          record { first-above = t .row-above; first-within = t .row-within; second-above = t .column-above; second-within = t .column-within; apart = eqb-false _ _ x; long = t .square }
+          record {
+            first-above = t .row-above;
+            first-within = t .row-within;
+            second-above = t .column-above;
+            second-within = t .column-within;
+            apart = eqb-false _ _ x;
+            long = t .square;
+          }
 
   pub two-are : Two n p q d → twoLines n p q d ≡ true
   unfolding twoLines

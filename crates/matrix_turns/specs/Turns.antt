@@ -42,7 +42,7 @@ columnTurnAll P p q A r c = turnedAt P p q c (A r p) (A r q) (A r c)
 
 -- p and q are two different lines, and a length is that of the matrix.
 unfoldable pub twoLines : ℕ → ℕ → ℕ → ℕ → Bool
-twoLines n p q length = not (eqb p q) && isPlace n p q length
+twoLines n p q long = not (eqb p q) && isPlace n p q long
 
 -- A list with the matrix in it turned, where it has the lines p and q.
 unfoldable pub onLines : ℕ → ℕ → ℕ → ((ℕ → ℕ → Float) → ℕ → ℕ → Float) → List Float → List Float

@@ -45,13 +45,13 @@ pub fn turn_columns(parameters: Parameters, n: usize, p: usize, q: usize, a: &mu
 }
 
 // Whether p and q are two different lines of a matrix of order n, and a length is that of the matrix.
-pub fn are_lines(n: usize, p: usize, q: usize, length: usize) -> bool
-    ensures { λ r. ⌜ r ≡ twoLines n p q length ⌝ }
+pub fn are_lines(n: usize, p: usize, q: usize, long: usize) -> bool
+    ensures { λ r. ⌜ r ≡ twoLines n p q long ⌝ }
 {
     if p == q {
         return false;
     }
-    matrix::is_place(n, p, q, length)
+    matrix::is_place(n, p, q, long)
 }
 
 // Turns the values at i and j of the first of n lines, and those `step` farther in each line after it.

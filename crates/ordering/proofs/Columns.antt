@@ -11,33 +11,35 @@ use Rattle.lists.specs.Tabulate.{tabulate}
 use Rattle.lists.proofs.Tabulated.{getD-tabulate, tabulate-ext, set-tabulate}
 use Rattle.systolic.specs.Slots.{left, right, Slot, slot}
 use Rattle.ordering.specs.declared.Registers.{Registers}
-use Rattle.ordering.specs.Registers.{column, registersOf, most}
+use Rattle.ordering.specs.Registers.{column, registersOf}
+use Rattle.sizes.specs.Sizes.{mostProcessors}
 use Rattle.ordering.specs.Pairs.{noRegisters}
 
-pub column-at : (N : ℕ) (f : ℕ → ℕ) (k : ℕ) → k < N → N ≤ most → getD (column N f) k 0 ≡ f k
+pub column-at : (N : ℕ) (f : ℕ → ℕ) (k : ℕ) → k < N → N ≤ mostProcessors → getD (column N f) k 0 ≡ f k
 unfolding column
-column-at N f k l h = getD-tabulate most (λ k. cond (ltb k N) (f k) 0) k 0 (omega arith) ∙ ap (λ (b : Bool). cond b (f k) 0) (lt-ltb k N l)
+column-at N f k l h = getD-tabulate mostProcessors (λ k. cond (ltb k N) (f k) 0) k 0 (omega arith) ∙ ap (λ (b : Bool). cond b (f k) 0) (lt-ltb k N l)
 
-pub column-above : (N : ℕ) (f : ℕ → ℕ) (k : ℕ) → N ≤ k → k < most → getD (column N f) k 0 ≡ 0
+pub column-above : (N : ℕ) (f : ℕ → ℕ) (k : ℕ) → N ≤ k → k < mostProcessors → getD (column N f) k 0 ≡ 0
 unfolding column
-column-above N f k l h = getD-tabulate most (λ k. cond (ltb k N) (f k) 0) k 0 h ∙ ap (λ (b : Bool). cond b (f k) 0) (le-ltb k N l)
+column-above N f k l h = getD-tabulate mostProcessors (λ k. cond (ltb k N) (f k) 0) k 0 h ∙ ap (λ (b : Bool). cond b (f k) 0) (le-ltb k N l)
 
 pub column-ext : (N : ℕ) (f g : ℕ → ℕ) → ((k : ℕ) → k < N → f k ≡ g k) → column N f ≡ column N g
 unfolding column
-column-ext N f g e = tabulate-ext most _ _ (λ k _. go k (ltb k N) refl)
+column-ext N f g e = tabulate-ext mostProcessors _ _ (λ k _. go k (ltb k N) refl)
   where
     go : (k : ℕ) (b : Bool) → ltb k N ≡ b → cond b (f k) 0 ≡ cond b (g k) 0
     go k true z = e k (ltb-true _ _ z)
     go k false z = refl
 
 -- no processor yet, and one more
-pub column-none : (f : ℕ → ℕ) → tabulate most (λ k. 0) ≡ column 0 f
+pub column-none : (f : ℕ → ℕ) → tabulate mostProcessors (λ k. 0) ≡ column 0 f
 unfolding column
-column-none f = tabulate-ext most _ _ (λ k _. sym (ap (λ (b : Bool). cond b (f k) 0) (le-ltb k 0 (omega arith))))
+column-none f = tabulate-ext mostProcessors _ _ (λ k _. sym (ap (λ (b : Bool). cond b (f k) 0) (le-ltb k 0 (omega arith))))
 
-pub column-next : (xs : List ℕ) (N : ℕ) (f : ℕ → ℕ) (v : ℕ) → xs ≡ column N f → N < most → v ≡ f N → set xs N v ≡ column (N + 1) f
+pub column-next : (xs : List ℕ) (N : ℕ) (f : ℕ → ℕ) (v : ℕ) → xs ≡ column N f → N < mostProcessors → v ≡ f N → set xs N v ≡ column (N + 1) f
 unfolding column
-column-next xs N f v z l e = rw z (set-tabulate most _ _ N v l (e ∙ sym (ap (λ (b : Bool). cond b (f N) 0) (lt-ltb N (N + 1) (omega arith)))) (λ i _ n. other i n))
+column-next xs N f v z l e =
+    rw z (set-tabulate mostProcessors _ _ N v l (e ∙ sym (ap (λ (b : Bool). cond b (f N) 0) (lt-ltb N (N + 1) (omega arith)))) (λ i _ n. other i n))
   where
     other : (i : ℕ) → ¬ (i ≡ N) → cond (ltb i N) (f i) 0 ≡ cond (ltb i (N + 1)) (f i) 0
     other i n = go (ltb i N) refl
@@ -52,6 +54,6 @@ pub registers-are : {ls rs : List ℕ} (N k : ℕ) (L : Slot → ℕ) → k ≡ 
 unfolding registersOf
 registers-are N k L z e f = rw (e, f, z)
 
-pub none-are : _≡_ {A = Registers} (record { left = tabulate most (λ k. 0); right = tabulate most (λ k. 0) }) noRegisters
+pub none-are : _≡_ {A = Registers} (record { left = tabulate mostProcessors (λ k. 0); right = tabulate mostProcessors (λ k. 0) }) noRegisters
 unfolding noRegisters
 none-are = registers-are 0 0 (λ u. 0) refl (column-none _) (column-none _)

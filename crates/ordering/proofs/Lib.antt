@@ -1,5 +1,5 @@
 pub mod Columns
-pub mod Coming
-pub mod Orders
+pub mod Movement
+pub mod OrderRegisters
 pub mod Meetings
-pub mod Standing
+pub mod RegisterLines

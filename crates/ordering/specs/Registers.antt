@@ -6,15 +6,12 @@ use lib.Dec.{ltb}
 use lib.ListN.{getD}
 use Rattle.lists.specs.Tabulate.{tabulate}
 use Rattle.systolic.specs.Slots.{Side, left, right, Slot, slot, cameFrom}
+use Rattle.sizes.specs.Sizes.{mostProcessors}
 use Rattle.ordering.specs.declared.Registers.{Registers}
-
--- The most processors: as many as an array of registers holds.
-abbrev pub most : ℕ
-most = 16
 
 -- Registers of N processors, where L says which line stands in a slot: zeros above the last processor.
 unfoldable pub column : ℕ → (ℕ → ℕ) → List ℕ
-column N f = tabulate most (λ k. cond (ltb k N) (f k) 0)
+column N f = tabulate mostProcessors (λ k. cond (ltb k N) (f k) 0)
 
 unfoldable pub registersOf : ℕ → (Slot → ℕ) → Registers
 registersOf N L = record { left = column N (λ k. L (slot k left)); right = column N (λ k. L (slot k right)) }

@@ -1,5 +1,5 @@
-pub mod Spots
-pub mod Places
-pub mod Turning
-pub mod Alike
-pub mod There
+pub mod TurnedEntries
+pub mod EntrySet
+pub mod TurnedStates
+pub mod AlikeStates
+pub mod PairLines

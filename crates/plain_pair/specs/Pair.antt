@@ -6,40 +6,29 @@ use mathlib.Core.List.{List}
 use lib.Dec.{eqb}
 use lib.ListN.{length}
 use lib.Ieee.{Float}
-use Rattle.float64.specs.Values.{plusZero}
+use Rattle.systolic.specs.Sequential.{pairBlock, place}
 use Rattle.rotation.specs.declared.Parameters.{Parameters}
-use Rattle.rotation.specs.Rotation.{diagonalOf}
 use Rattle.matrix.specs.Matrix.{at, flat}
 use Rattle.matrix.specs.Transposed.{transposed}
+use Rattle.runs.specs.State.{State, state}
+use Rattle.runs.specs.Blocks.{matrixBlock}
 use Rattle.matrix_turns.specs.Turns.{parametersOf, rowTurn, columnTurn, columnTurnAll, twoLines}
-
--- The two matrices of a run, by row and column from 1.
-pub record State : Type 0 where
-  pub matrix : ℕ → ℕ → Float
-  pub vectors : ℕ → ℕ → Float
-
-abbrev pub state : (ℕ → ℕ → Float) → (ℕ → ℕ → Float) → State
-state A E = record { matrix = A; vectors = E }
 
 -- A matrix with x in row p and column q.
 unfoldable pub withEntry : ℕ → ℕ → Float → (ℕ → ℕ → Float) → ℕ → ℕ → Float
 withEntry p q x A r c = cond (eqb r p && eqb c q) x (A r c)
 
--- The row turn, then the column turn, then the new a_pp and a_qq, and +0 for a_pq and a_qp. A is the matrix before.
+-- The row turn, then the column turn, then the four entries of the pair. A is the matrix before.
 unfoldable pub pairTurned : Parameters → ℕ → ℕ → (ℕ → ℕ → Float) → ℕ → ℕ → Float
-pairTurned P p q A =
-    withEntry q p plusZero
-    (withEntry p q plusZero
-    (withEntry q q (diagonalOf P (A p p) (A q q) (A p q) .right)
-    (withEntry p p (diagonalOf P (A p p) (A q q) (A p q) .left) (columnTurn P p q (rowTurn P p q A)))))
+pairTurned P p q A = place (matrixBlock P (pairBlock p q A)) p q (columnTurn P p q (rowTurn P p q A))
 
 -- Both matrices turned: the eigenvectors get the column turn on all rows.
 abbrev pub stateTurned : Parameters → ℕ → ℕ → State → State
 stateTurned P p q X = state (pairTurned P p q (X .matrix)) (columnTurnAll P p q (X .vectors))
 
 -- One pair, by its own parameters.
-unfoldable pub pairStep : ℕ → ℕ → State → State
-pairStep p q X = stateTurned (parametersOf p q (X .matrix)) p q X
+unfoldable pub pairRotated : ℕ → ℕ → State → State
+pairRotated p q X = stateTurned (parametersOf p q (X .matrix)) p q X
 
 -- The state in two lent lists, and two lists that hold a state. The second list has the eigenvectors as rows.
 unfoldable pub stateOf : ℕ → List Float → List Float → State

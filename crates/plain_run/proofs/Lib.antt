@@ -1,9 +1,8 @@
-pub mod Starts
-pub mod Steps
-pub mod Ahead
-pub mod Endings
-pub mod Verdicts
-pub mod Mirrors
-pub mod Persists
+pub mod CopiedLists
+pub mod HeldStates
+pub mod StepParameters
+pub mod RunEnd
+pub mod MirrorEntries
+pub mod SpoiledRuns
 pub mod Outcomes
 pub mod Sequence

@@ -1,69 +1,43 @@
 -- From the parts of a run to its outcome. Assumes nothing.
-use Prim.Native.Nat.{ℕ, _+_, _-_, _*_, _/_, _%_, _^_, _≤_, _<_}
+use Prim.Native.Nat.{ℕ, _+_, _-_, _*_, _/_, _%_, _<_}
 use mathlib.Core.Path.{_≡_, refl, sym, ap, _∙_}
-use mathlib.Core.Bool.{Bool, true, false, not, cond, _||_, _&&_}
+use mathlib.Core.Bool.{Bool, true, false, not, cond, _||_}
 use mathlib.Core.List.{List}
 use native.Mathlib.Omega.{arith}
-use native.Mathlib.Nat.{div-add-mod', mul-le-mul}
-use borrow.Author.Tests.{eqb-true, ltb-false, not-false}
+use native.Mathlib.Nat.{div-add-mod'}
+use borrow.Author.Tests.{not-false}
 use lib.Arith.{digits-lt}
-use lib.Dec.{T, eqb, ltb}
+use lib.Dec.{T, eqb}
 use lib.ListN.{length, getD}
 use lib.Ieee.{Float, nan, binary64, fits, ofBits}
-use Rattle.refusal.specs.Refusal.{given, refused, told}
-use Rattle.refusal.specs.declared.Refusal.the-variants.{Order, Sweeps, Length}
+use Rattle.refusal.specs.Answers.{given, refused}
 use Rattle.float64.specs.Values.{plusZero, one, finite}
-use Rattle.systolic.specs.Slots.{any}
-use Rattle.systolic.proofs.Bounded.{or-false, false-or, same-bool, any-to, any-from}
-use Rattle.ordering.specs.Pairs.{noOrder, limit}
-use Rattle.ordering.proofs.Orders.{order-is}
+use Rattle.lists.specs.Bounded.{any}
+use Rattle.lists.proofs.Bounded.{or-false, false-or, same-bool, any-to, any-from}
+use Rattle.sizes.specs.Sizes.{stepsOf}
 use Rattle.matrix.specs.Matrix.{at, flat}
-use Rattle.matrix.specs.Entries.{entriesOf}
 use Rattle.matrix.specs.Transposed.{transposedIn}
 use Rattle.matrix.proofs.Flat.{row-lt, column-lt, at-offset, flat-length, at-flat}
-use Rattle.matrix.proofs.Transposing.{transposed-again}
+use Rattle.matrix.proofs.Transposition.{transposed-again}
 use Rattle.matrix.proofs.Same.{Finite, Mirrored, read-again, flat-again}
-use Rattle.matrix.proofs.Accepted.{refused-given, accepted-finite, accepted-mirrored}
-use Rattle.plain_pair.specs.Pair.{State, stateOf, Held}
-use Rattle.plain_pair.proofs.Alike.{Alike, held-alike}
-use Rattle.plain_run.specs.State.{identity, after, notFinite, spoiled}
-use Rattle.plain_run.specs.Run.{mostSweeps, stepsOf, beforeRun, Outcome, outcome, startOf, someNotFinite, finishOf, ranOf, runOf}
-use Rattle.plain_run.proofs.Starts.{identity-mirrored}
-use Rattle.plain_run.proofs.Steps.{after-alike}
-use Rattle.plain_run.proofs.Persists.{FiniteState, finite-state, state-finite, spoiled-at-end}
-
--- ---- the refusals before a run
-pub record Begins (n sweeps : ℕ) (l : List Float) (lr lv : ℕ) : Type 0 where
-  pub order : noOrder n ≡ false
-  pub few : sweeps ≤ mostSweeps
-  pub result-long : lr ≡ n * n
-  pub vectors-long : lv ≡ n * n
-  pub entries : entriesOf n l ≡ given tt
-
-pub begins : (n sweeps : ℕ) (l : List Float) (lr lv : ℕ) → beforeRun n sweeps l lr lv ≡ given tt → Begins n sweeps l lr lv
-unfolding beforeRun
-begins n sweeps l lr lv e = go (noOrder n) (ltb mostSweeps sweeps) (eqb lr (n * n)) (eqb lv (n * n)) refl refl refl refl e
-  where
-    go : (a b c d : Bool) → noOrder n ≡ a → ltb mostSweeps sweeps ≡ b → eqb lr (n * n) ≡ c → eqb lv (n * n) ≡ d
-        → cond a (told Order) (cond b (told Sweeps) (cond (c && d) (entriesOf n l) (told Length))) ≡ given tt → Begins n sweeps l lr lv
-    go true b c d x y z w e = refused-given e
-    go false true c d x y z w e = refused-given e
-    go false false false d x y z w e = refused-given e
-    go false false true false x y z w e = refused-given e
-    go false false true true x y z w e =
-        record { order = x; few = ltb-false mostSweeps sweeps y; result-long = eqb-true _ _ z; vectors-long = eqb-true _ _ w; entries = e }
-
-pub order-above : (n : ℕ) → noOrder n ≡ false → 2 ≤ n
-order-above n e = order-is n e .1
-
--- sweeps times steps is small
-pub product-fits : (a b : ℕ) → a ≤ mostSweeps → b ≤ limit → a * b < 2 ^ 64
-product-fits a b h k = let w : a * b ≤ mostSweeps * limit = mul-le-mul h k in omega arith
+use Rattle.matrix.proofs.AcceptedEntries.{accepted-finite, accepted-mirrored}
+use Rattle.runs.specs.State.{State, identity, startOf}
+use Rattle.plain_pair.specs.Pair.{stateOf, Held}
+use Rattle.plain_pair.proofs.AlikeStates.{Alike, held-alike}
+use Rattle.plain_run.specs.State.{after, notFinite, spoiled}
+use Rattle.runs.specs.Outcome.{beforeRun, Outcome, outcome}
+use Rattle.plain_run.specs.Run.{someNotFinite, finishOf, ranOf, runOf}
+use Rattle.runs.proofs.Verdicts.{Begins}
+use Rattle.runs.proofs.Starts.{identity-mirrored}
+use Rattle.plain_run.proofs.HeldStates.{after-alike}
+use Rattle.plain_run.proofs.SpoiledRuns.{FiniteState, finite-state, state-finite, spoiled-at-end}
 
 -- ---- the two lists at the end
 module _ (n : ℕ) where
   finite-of-list : (A : ℕ → ℕ → Float) (l : List Float) → l ≡ flat n A → length l ≡ n * n → someNotFinite l ≡ false → Finite n A
-  finite-of-list A l e long f r c hr hc = rw (← (read-again n A r c hr hc), ← e) (not-false _ (unfold someNotFinite at in (any-to (length l) _ f ((r - 1) * n + (c - 1)) inside)))
+  finite-of-list A l e long f r c hr hc =
+      rw (← (read-again n A r c hr hc), ← e)
+      (not-false _ (unfold someNotFinite at in (any-to (length l) _ f ((r - 1) * n + (c - 1)) inside)))
     where
       inside : (r - 1) * n + (c - 1) < length l
       inside = rw long (digits-lt {q = r - 1} {m = n} {r = c - 1} {c = n} (omega arith) (omega arith))
@@ -114,7 +88,10 @@ module _ (n sweeps : ℕ) (l : List Float) (fitting : (k : ℕ) → T (fits bina
   start-alike : (e : List Float) → e ≡ flat n identity → Alike n (stateOf n l e) (startOf n l)
   unfolding stateOf startOf
   start-alike e z =
-      record { matrices = λ r c hr hc. refl; eigenvectors = λ r c hr hc. ap (λ (e : List Float). at n e c r) z ∙ read-again n identity c r hc hr ∙ identity-mirrored r c }
+      record {
+        matrices = λ r c hr hc. refl;
+        eigenvectors = λ r c hr hc. ap (λ (e : List Float). at n e c r) z ∙ read-again n identity c r hc hr ∙ identity-mirrored r c;
+      }
 
   pub start-finite : FiniteState n (startOf n l)
   unfolding startOf
@@ -140,11 +117,12 @@ module _ (n sweeps : ℕ) (l : List Float) (fitting : (k : ℕ) → T (fits bina
 -- no sweeps: the matrix as lent, and the identity
 pub no-sweeps : (n : ℕ) (l : List Float) → length l ≡ n * n → ranOf n 0 l ≡ outcome (given tt) l (flat n identity)
 unfolding ranOf spoiled any after startOf
-no-sweeps n l long = let z : 0 * (n - 1) ≡ 0 = omega arith in rw (z, ← (flat-again n l long))
+no-sweeps n l long = let z : stepsOf n 0 ≡ 0 = omega arith in rw (z, ← (flat-again n l long))
 
 -- ---- a refused run, and one that is not
 module _ (n sweeps : ℕ) (l r v : List Float) where
-  pub run-refused : {k : ℕ} {values : List ℕ} → refused k values ≡ beforeRun n sweeps l (length r) (length v) → outcome (refused k values) r v ≡ runOf n sweeps l r v
+  pub run-refused : {k : ℕ} {values : List ℕ} → refused k values ≡ beforeRun n sweeps l (length r) (length v)
+      → outcome (refused k values) r v ≡ runOf n sweeps l r v
   unfolding runOf
   run-refused e = rw (← e)
 

@@ -1,27 +1,24 @@
 -- Document 01, "Plain run": what the steps do to the matrix and the eigenvectors. Definitions only.
-use Prim.Native.Nat.{ℕ, zero, suc, _+_, _/_}
-use mathlib.Core.Bool.{Bool, not, cond, _||_}
+use Prim.Native.Nat.{ℕ, zero, suc, _+_}
+use mathlib.Core.Bool.{Bool, not, _||_}
 use mathlib.Core.List.{List}
-use lib.Dec.{eqb}
 use lib.ListN.{getD}
-use lib.Ieee.{Float}
-use Rattle.float64.specs.Values.{plusZero, one, finite}
-use Rattle.systolic.specs.Slots.{any}
+use Rattle.float64.specs.Values.{finite}
+use Rattle.lists.specs.Bounded.{any}
 use Rattle.ordering.specs.Pairs.{registersAt}
-use Rattle.plain_pair.specs.Pair.{State, pairStep}
-
-unfoldable pub identity : ℕ → ℕ → Float
-identity r c = cond (eqb r c) one plusZero
+use Rattle.runs.specs.State.{State}
+use Rattle.plain_pair.specs.Pair.{pairRotated}
+use Rattle.sizes.specs.Sizes.{processorsOf}
 
 -- The pairs of the first k processors in order, where ls are the left registers and rs the right.
-unfoldable pub pairsStep : List ℕ → List ℕ → ℕ → State → State
-pairsStep ls rs zero X = X
-pairsStep ls rs (suc k) X = pairStep (getD ls k 0) (getD rs k 0) (pairsStep ls rs k X)
+unfoldable pub pairsRotated : List ℕ → List ℕ → ℕ → State → State
+pairsRotated ls rs zero X = X
+pairsRotated ls rs (suc k) X = pairRotated (getD ls k 0) (getD rs k 0) (pairsRotated ls rs k X)
 
 -- After k steps of an order n.
 unfoldable pub after : ℕ → ℕ → State → State
 after n zero X = X
-after n (suc k) X = pairsStep (registersAt n k .left) (registersAt n k .right) (n / 2) (after n k X)
+after n (suc k) X = pairsRotated (registersAt n k .left) (registersAt n k .right) (processorsOf n) (after n k X)
 
 -- An entry of either matrix isn't finite.
 unfoldable pub notFinite : ℕ → State → Bool

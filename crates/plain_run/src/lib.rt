@@ -1,23 +1,26 @@
 // The plain run (document 01, "Pairs and their movement").
 ghost use mathlib.Core.Path.{_≡_};
-ghost use mathlib.Core.Bool.{true, false, not, _||_};
-ghost use Prim.Native.Nat.{ℕ, _+_, _*_, _/_, _<_, _≤_};
+ghost use mathlib.Core.Bool.{true, not, _||_};
+ghost use Prim.Native.Nat.{ℕ, _*_, _<_, _≤_};
 ghost use lib.ListN.{length, getD};
 ghost use lib.Ieee.{nan};
-ghost use Rattle.refusal.specs.Refusal.{given, told, toldAnswer};
+ghost use Rattle.refusal.specs.Answers.{given, refusedBy, answered};
 ghost use Rattle.refusal.specs.declared.Refusal.the-variants.{Spoiled};
-ghost use Rattle.ordering.specs.Pairs.{noOrder, limit};
+ghost use Rattle.sizes.specs.Sizes.{isOrder, largestOrder, processorsOf};
 ghost use Rattle.rotation.specs.declared.Parameters.the-variants.{Still};
 ghost use Rattle.rotation.specs.Rotation.{ofTangent};
 ghost use Rattle.matrix.specs.Matrix.{flat, entryOf};
 ghost use Rattle.matrix_turns.specs.Turns.{pairTangent, parametersOf, twoLines};
 ghost use Rattle.plain_pair.specs.Pair.{stateOf, Held};
-ghost use Rattle.plain_run.specs.State.{identity, pairsStep, after};
-ghost use Rattle.plain_run.specs.Run.{beforeRun, outcome, zeros, someNotFinite, finishOf, ranOf, runOf};
+ghost use Rattle.runs.specs.State.{identity, zeros};
+ghost use Rattle.plain_run.specs.State.{pairsRotated, after};
+ghost use Rattle.runs.specs.Outcome.{beforeRun, outcome};
+ghost use Rattle.plain_run.specs.Run.{someNotFinite, finishOf, ranOf, runOf};
 use ordering::Registers;
 use refusal::Answer;
 use refusal::Refusal;
 use rotation::Parameters;
+use sizes::MOST_PROCESSORS;
 
 // Runs a number of sweeps on a matrix of order n and leaves the last matrix and the eigenvectors in the two results.
 pub fn run(
@@ -27,31 +30,13 @@ pub fn run(
     result: &mut [f64],
     vectors: &mut [f64],
 ) -> Answer
-    ensures { λ r. ⌜ outcome (toldAnswer r) (now (result .exit)) (now (vectors .exit)) ≡ runOf n sweeps (now (matrix .entry)) (now (result .entry)) (now (vectors .entry)) ⌝ }
+    ensures { λ r. ⌜ outcome (answered r) (now (result .exit)) (now (vectors .exit))
+        ≡ runOf n sweeps (now (matrix .entry)) (now (result .entry)) (now (vectors .entry)) ⌝ }
 {
-    match verdict(n, sweeps, matrix, result.len(), vectors.len()) {
+    match runs::verdict(n, sweeps, matrix, result.len(), vectors.len()) {
         Answer::Accepted => run_accepted(n, sweeps, matrix, result, vectors),
         Answer::Refused(refused) => Answer::Refused(refused),
     }
-}
-
-// Refusals 1, 2, 3, 5 and 6 of a run whose two results have the lengths first and second.
-pub fn verdict(n: usize, sweeps: usize, matrix: &[f64], first: usize, second: usize) -> Answer
-    ensures { λ r. ⌜ toldAnswer r ≡ beforeRun n sweeps (now (matrix .entry)) first second ⌝ }
-{
-    if ordering::is_no_order(n) {
-        return Answer::Refused(Refusal::Order);
-    }
-    if sweeps > 16 {
-        return Answer::Refused(Refusal::Sweeps);
-    }
-    if !matrix::is_square(n, first) {
-        return Answer::Refused(Refusal::Length);
-    }
-    if !matrix::is_square(n, second) {
-        return Answer::Refused(Refusal::Length);
-    }
-    matrix::tested(n, matrix)
 }
 
 // A run that is not refused before it. The eigenvectors are rows until all steps are made; the identity is its own transpose.
@@ -63,11 +48,11 @@ fn run_accepted(
     vectors: &mut [f64],
 ) -> Answer
     requires { ⌜ beforeRun n sweeps (now matrix) (length (now result)) (length (now vectors)) ≡ given tt ⌝ }
-    ensures { λ r. ⌜ outcome (toldAnswer r) (now (result .exit)) (now (vectors .exit)) ≡ ranOf n sweeps (now (matrix .entry)) ⌝ }
+    ensures { λ r. ⌜ outcome (answered r) (now (result .exit)) (now (vectors .exit)) ≡ ranOf n sweeps (now (matrix .entry)) ⌝ }
 {
     copy(matrix, result);
     set_identity(n, vectors);
-    make_steps(n, sweeps * (n - 1), result, vectors);
+    make_steps(n, sizes::steps_of(n, sweeps), result, vectors);
     matrix::transpose(n, vectors);
     finish(n, result, vectors)
 }
@@ -86,24 +71,14 @@ fn set_identity(n: usize, a: &mut [f64])
     ensures { λ _. ⌜ now (a .exit) ≡ flat n identity ⌝ }
 {
     for k in 0..a.len() {
-        a[k] = identity(k / n + 1, k % n + 1);
+        a[k] = runs::identity(k / n + 1, k % n + 1);
     }
-}
-
-// The entry of the identity in row r and column c.
-pub fn identity(r: usize, c: usize) -> f64
-    ensures { λ x. ⌜ x ≡ identity r c ⌝ }
-{
-    if r == c {
-        return 1.0;
-    }
-    0.0
 }
 
 // Makes the steps 0 to count - 1. All tangents of a step are found before any cosine, and all cosines before any turn, so that the
 // processor need not wait for one root to begin the next.
 fn make_steps(n: usize, count: usize, a: &mut [f64], vectors: &mut [f64])
-    requires { ⌜ (noOrder n ≡ false) × (length (now a) ≡ n * n) × (length (now vectors) ≡ n * n) ⌝ }
+    requires { ⌜ (isOrder n ≡ true) × (length (now a) ≡ n * n) × (length (now vectors) ≡ n * n) ⌝ }
     ensures { λ _. ⌜ Held n (now (a .exit)) (now (vectors .exit)) (after n count (stateOf n (now (a .entry)) (now (vectors .entry)))) ⌝ }
 {
     let mut registers = Registers::of_order(n);
@@ -119,27 +94,30 @@ fn make_steps(n: usize, count: usize, a: &mut [f64], vectors: &mut [f64])
 }
 
 // The tangents of the pairs of all processors.
-fn tangents_of(n: usize, registers: Registers, a: &[f64]) -> [f64; 16]
-    requires { ⌜ n ≤ limit ⌝ }
-    ensures { λ r. ⌜ ((k : ℕ) → k < n / 2 → getD r k nan ≡ pairTangent (getD (registers .left) k 0) (getD (registers .right) k 0) (entryOf n (now (a .entry)))) ⌝ }
+fn tangents_of(n: usize, registers: Registers, a: &[f64]) -> [f64; MOST_PROCESSORS]
+    requires { ⌜ n ≤ largestOrder ⌝ }
+    ensures { λ r. ⌜ ((k : ℕ) → k < processorsOf n →
+        getD r k nan ≡ pairTangent (getD (registers .left) k 0) (getD (registers .right) k 0) (entryOf n (now (a .entry)))) ⌝ }
 {
     let lefts = registers.left;
     let rights = registers.right;
-    let mut tangents = [0.0; 16];
-    for k in 0..n / 2 {
+    let mut tangents = [0.0; MOST_PROCESSORS];
+    let processors = sizes::processors_of(n);
+    for k in 0..processors {
         tangents[k] = matrix_turns::tangent(n, lefts[k], rights[k], a);
     }
     tangents
 }
 
 // The parameters of pairs with these tangents.
-fn parameters_of(n: usize, tangents: [f64; 16]) -> [Parameters; 16]
-    requires { ⌜ n ≤ limit ⌝ }
-    ensures { λ r. ⌜ ((k : ℕ) → k < n / 2 → getD r k Still ≡ ofTangent (getD tangents k nan)) ⌝ }
+fn parameters_of(n: usize, tangents: [f64; MOST_PROCESSORS]) -> [Parameters; MOST_PROCESSORS]
+    requires { ⌜ n ≤ largestOrder ⌝ }
+    ensures { λ r. ⌜ ((k : ℕ) → k < processorsOf n → getD r k Still ≡ ofTangent (getD tangents k nan)) ⌝ }
 {
     let still = Parameters::Still;
-    let mut found = [still; 16];
-    for k in 0..n / 2 {
+    let mut found = [still; MOST_PROCESSORS];
+    let processors = sizes::processors_of(n);
+    for k in 0..processors {
         let parameters = rotation::of_tangent(tangents[k]);
         found[k] = parameters;
     }
@@ -150,18 +128,22 @@ fn parameters_of(n: usize, tangents: [f64; 16]) -> [Parameters; 16]
 fn make_pairs(
     n: usize,
     registers: Registers,
-    found: [Parameters; 16],
+    found: [Parameters; MOST_PROCESSORS],
     a: &mut [f64],
     vectors: &mut [f64],
 )
-    requires { ⌜ (n ≤ limit) × (length (now a) ≡ n * n) × (length (now vectors) ≡ n * n) ⌝ }
-    requires { ⌜ ((k : ℕ) → k < n / 2 → twoLines n (getD (registers .left) k 0) (getD (registers .right) k 0) (n * n) ≡ true) ⌝ }
-    requires { ⌜ ((k : ℕ) → k < n / 2 → getD found k Still ≡ parametersOf (getD (registers .left) k 0) (getD (registers .right) k 0) (pairsStep (registers .left) (registers .right) k (stateOf n (now a) (now vectors)) .matrix)) ⌝ }
-    ensures { λ _. ⌜ Held n (now (a .exit)) (now (vectors .exit)) (pairsStep (registers .left) (registers .right) (n / 2) (stateOf n (now (a .entry)) (now (vectors .entry)))) ⌝ }
+    requires { ⌜ (n ≤ largestOrder) × (length (now a) ≡ n * n) × (length (now vectors) ≡ n * n) ⌝ }
+    requires { ⌜ ((k : ℕ) → k < processorsOf n → twoLines n (getD (registers .left) k 0) (getD (registers .right) k 0) (n * n) ≡ true) ⌝ }
+    requires { ⌜ ((k : ℕ) → k < processorsOf n →
+        getD found k Still ≡ parametersOf (getD (registers .left) k 0) (getD (registers .right) k 0)
+        (pairsRotated (registers .left) (registers .right) k (stateOf n (now a) (now vectors)) .matrix)) ⌝ }
+    ensures { λ _. ⌜ Held n (now (a .exit)) (now (vectors .exit))
+        (pairsRotated (registers .left) (registers .right) (processorsOf n) (stateOf n (now (a .entry)) (now (vectors .entry)))) ⌝ }
 {
     let lefts = registers.left;
     let rights = registers.right;
-    for k in 0..n / 2 {
+    let processors = sizes::processors_of(n);
+    for k in 0..processors {
         plain_pair::turn(found[k], n, lefts[k], rights[k], a, vectors);
     }
 }
@@ -169,7 +151,7 @@ fn make_pairs(
 // Refusal 8 if an entry is not finite, and then +0 everywhere.
 fn finish(n: usize, a: &mut [f64], vectors: &mut [f64]) -> Answer
     requires { ⌜ (length (now a) ≡ n * n) × (length (now vectors) ≡ n * n) ⌝ }
-    ensures { λ r. ⌜ outcome (toldAnswer r) (now (a .exit)) (now (vectors .exit)) ≡ finishOf n (now (a .entry)) (now (vectors .entry)) ⌝ }
+    ensures { λ r. ⌜ outcome (answered r) (now (a .exit)) (now (vectors .exit)) ≡ finishOf n (now (a .entry)) (now (vectors .entry)) ⌝ }
 {
     if !both_finite(a, vectors) {
         return spoil(n, a, vectors);
@@ -199,7 +181,7 @@ fn all_finite(a: &[f64]) -> bool
 
 fn spoil(n: usize, a: &mut [f64], vectors: &mut [f64]) -> Answer
     requires { ⌜ (length (now a) ≡ n * n) × (length (now vectors) ≡ n * n) ⌝ }
-    ensures { λ r. ⌜ outcome (toldAnswer r) (now (a .exit)) (now (vectors .exit)) ≡ outcome (told Spoiled) (zeros n) (zeros n) ⌝ }
+    ensures { λ r. ⌜ outcome (answered r) (now (a .exit)) (now (vectors .exit)) ≡ outcome (refusedBy Spoiled) (zeros n) (zeros n) ⌝ }
 {
     matrix::clear(a);
     matrix::clear(vectors);

@@ -1,6 +1,6 @@
 // The refusals of document 01, "Refused, by place".
 ghost use mathlib.Core.Path.{_≡_};
-ghost use Rattle.refusal.specs.Refusal.{numberOf};
+ghost use Rattle.refusal.specs.Refusal.{numberOf, valuesOf, placeValues};
 
 // 5 and 6 carry the row and the column, from 1, of the entry that is refused.
 pub enum Refusal {
@@ -21,6 +21,12 @@ pub enum Answer {
     Refused(Refusal),
 }
 
+// The row and the column beside a refusal, if it has them.
+pub enum Place {
+    Nowhere,
+    At(usize, usize),
+}
+
 // The number that document 01 gives the refusal.
 pub fn number(refusal: Refusal) -> u8
     ensures { λ r. ⌜ r ≡ numberOf refusal ⌝ }
@@ -35,5 +41,22 @@ pub fn number(refusal: Refusal) -> u8
         Refusal::TooShort => 7,
         Refusal::Spoiled => 8,
         Refusal::NoRoot => 9,
+    }
+}
+
+// The place that the refusal carries.
+pub fn place_of(refusal: Refusal) -> Place
+    ensures { λ r. ⌜ placeValues r ≡ valuesOf refusal ⌝ }
+{
+    match refusal {
+        Refusal::Order => Place::Nowhere,
+        Refusal::Sweeps => Place::Nowhere,
+        Refusal::Length => Place::Nowhere,
+        Refusal::Code => Place::Nowhere,
+        Refusal::NotFinite(row, column) => Place::At(row, column),
+        Refusal::NotMirrored(row, column) => Place::At(row, column),
+        Refusal::TooShort => Place::Nowhere,
+        Refusal::Spoiled => Place::Nowhere,
+        Refusal::NoRoot => Place::Nowhere,
     }
 }

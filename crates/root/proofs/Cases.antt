@@ -8,7 +8,7 @@ use borrow.Author.Tests.{lt-ltb}
 use lib.Dec.{eqb·suc-zero}
 use lib.Ieee.{Float, nan, inf, fin}
 use lib.Ieee.Positive.{positive, above}
-use Rattle.refusal.specs.Refusal.{given, refused}
+use Rattle.refusal.specs.Answers.{given, refused}
 use Rattle.float64.specs.Values.{finite, isZero}
 use Rattle.float64.specs.Units.{unitsOf}
 use Rattle.root.specs.Sqrt.{rootUnits, sqrtOf}

@@ -8,7 +8,7 @@ use lib.Dec.{T}
 use lib.Pow.{pow-mono, shl-lt}
 use lib.Ieee.{Float, nan, inf, fin, binary64, le, fits, ofBits}
 use lib.Ieee.Positive.{positive}
-use Rattle.refusal.specs.Refusal.{given}
+use Rattle.refusal.specs.Answers.{given}
 use Rattle.float64.specs.Values.{one, finite}
 use Rattle.float64.specs.Units.{unitsOf}
 use Rattle.float64.proofs.Grid.{Top, top-of, power-grid, power-lt-back}
@@ -79,7 +79,8 @@ nearest x r y h f t =
 -- Larger values have roots that are no smaller.
 pub ordered : (x y r s : Float) → RootOf x r → RootOf y s → T (le x y) → T (le r s)
 ordered x y r s h k l =
-    le-of-units r s (h .root) (k .root) (rooted-mono (unitsOf x) (unitsOf y) (unitsOf r) (unitsOf s) (h .rooted) (k .rooted) (units-of-le x y (h .value) (k .value) l))
+    le-of-units r s (h .root) (k .root)
+    (rooted-mono (unitsOf x) (unitsOf y) (unitsOf r) (unitsOf s) (h .rooted) (k .rooted) (units-of-le x y (h .value) (k .value) l))
 
 -- The root of 1 is 1.
 pub root-of-one : sqrtOf one ≡ given one
@@ -99,7 +100,8 @@ pub at-least-one : (x r : Float) → RootOf x r → T (le one x) → T (le one r
 at-least-one x r h l =
     le-of-units one r one-magnitude (h .root)
     (subst (λ (n : ℕ). n ≤ unitsOf r) (sym one-units)
-    (rooted-ge (unitsOf x) (unitsOf r) (2 ^ 1074) (h .rooted) (power-grid 1074) (mul-le-mul-right (2 ^ 1074) (subst (λ (n : ℕ). n ≤ unitsOf x) one-units (units-of-le one x one-magnitude (h .value) l)))))
+    (rooted-ge (unitsOf x) (unitsOf r) (2 ^ 1074) (h .rooted) (power-grid 1074)
+    (mul-le-mul-right (2 ^ 1074) (subst (λ (n : ℕ). n ≤ unitsOf x) one-units (units-of-le one x one-magnitude (h .value) l)))))
 
 -- A value of binary64 whose square is x is the root.
 pub exact : (x r y : Float) → RootOf x r → Magnitude y → unitsOf y * unitsOf y ≡ unitsOf x * 2 ^ 1074 → r ≡ y

@@ -30,7 +30,8 @@ four-next k i = ap (λ (x : ℕ). x * k) (ap (λ (x : ℕ). 4 ^ x) (add-one i) �
 
 module _ (k left rest root i : ℕ) (a : At k left rest root i) (h : i < 54) where
   -- a digit 1
-  pub taken : (rest' root' : ℕ) → root * 4 + 1 ≤ rest * 4 + left / 2 ^ 62 → rest' ≡ rest * 4 + left / 2 ^ 62 - (root * 4 + 1) → root' ≡ root * 2 + 1 → At k (left % 2 ^ 62 * 4) rest' root' (i + 1)
+  pub taken : (rest' root' : ℕ) → root * 4 + 1 ≤ rest * 4 + left / 2 ^ 62 → rest' ≡ rest * 4 + left / 2 ^ 62 - (root * 4 + 1) → root' ≡ root * 2 + 1
+      → At k (left % 2 ^ 62 * 4) rest' root' (i + 1)
   taken rest' root' t p q =
       let e = two-next i in
       let f = four-next k i in
@@ -38,7 +39,8 @@ module _ (k left rest root i : ℕ) (a : At k left rest root i) (h : i < 54) whe
       record { turn = omega arith; left-lt = omega arith; rest-le = omega arith; root-lt = omega arith; value = omega arith }
 
   -- a digit 0
-  pub passed : (rest' root' : ℕ) → rest * 4 + left / 2 ^ 62 < root * 4 + 1 → rest' ≡ rest * 4 + left / 2 ^ 62 → root' ≡ root * 2 → At k (left % 2 ^ 62 * 4) rest' root' (i + 1)
+  pub passed : (rest' root' : ℕ) → rest * 4 + left / 2 ^ 62 < root * 4 + 1 → rest' ≡ rest * 4 + left / 2 ^ 62 → root' ≡ root * 2
+      → At k (left % 2 ^ 62 * 4) rest' root' (i + 1)
   passed rest' root' t p q =
       let e = two-next i in
       let f = four-next k i in

@@ -13,7 +13,8 @@ use Rattle.root.proofs.Squares.{next-square, twice-square, twice-next-s
 abbrev pub Floor : ℕ → ℕ → Type 0
 Floor n r = (r * r ≤ n) × (n < (r + 1) * (r + 1))
 
-floor-step : (n s : ℕ) → Floor (n / 4) s → (b : Bool) → (T b → (2 * s + 1) * (2 * s + 1) ≤ n) → (T (not b) → n < (2 * s + 1) * (2 * s + 1)) → Floor n (cond b (2 * s + 1) (2 * s))
+floor-step : (n s : ℕ) → Floor (n / 4) s → (b : Bool) → (T b → (2 * s + 1) * (2 * s + 1) ≤ n) → (T (not b) → n < (2 * s + 1) * (2 * s + 1))
+    → Floor n (cond b (2 * s + 1) (2 * s))
 floor-step n s f true y z =
     let e = next-square (2 * s + 1) in
     let d = twice-next-square s in
@@ -26,7 +27,8 @@ unfolding wholeRoot
 whole-root-floor zero n h = (omega arith, omega arith)
 whole-root-floor (suc k) n h =
     let s = wholeRoot k (n / 4) in
-    floor-step n s (whole-root-floor k (n / 4) (let p = pow-succ' 4 k in omega arith)) (leb ((2 * s + 1) * (2 * s + 1)) n) (leb→le ((2 * s + 1) * (2 * s + 1)) n) (nleb→lt ((2 * s + 1) * (2 * s + 1)) n)
+    floor-step n s (whole-root-floor k (n / 4) (let p = pow-succ' 4 k in omega arith)) (leb ((2 * s + 1) * (2 * s + 1)) n)
+    (leb→le ((2 * s + 1) * (2 * s + 1)) n) (nleb→lt ((2 * s + 1) * (2 * s + 1)) n)
 
 -- ---- q is the whole number nearest to the root of w: (2 q - 1) ^ 2 < 4 w < (2 q + 1) ^ 2
 abbrev pub Nearest : ℕ → ℕ → Type 0
@@ -52,13 +54,15 @@ pub nearest-root : (w : ℕ) → 0 < w → w < 4 ^ 53 → Nearest w (nearestRoot
 unfolding nearestRoot
 nearest-root w h l =
     let r = wholeRoot 53 w in
-    go r (whole-root-floor 53 w l) (ltb ((2 * r + 1) * (2 * r + 1)) (4 * w)) (ltb→lt ((2 * r + 1) * (2 * r + 1)) (4 * w)) (nltb→le ((2 * r + 1) * (2 * r + 1)) (4 * w))
+    go r (whole-root-floor 53 w l) (ltb ((2 * r + 1) * (2 * r + 1)) (4 * w)) (ltb→lt ((2 * r + 1) * (2 * r + 1)) (4 * w))
+    (nltb→le ((2 * r + 1) * (2 * r + 1)) (4 * w))
   where
     strict : (r : ℕ) → r * r ≤ w → r * r < w + r
     strict zero g = omega arith
     strict (suc r) g = omega arith
 
-    go : (r : ℕ) → Floor w r → (b : Bool) → (T b → (2 * r + 1) * (2 * r + 1) < 4 * w) → (T (not b) → 4 * w ≤ (2 * r + 1) * (2 * r + 1)) → Nearest w (cond b (r + 1) r)
+    go : (r : ℕ) → Floor w r → (b : Bool) → (T b → (2 * r + 1) * (2 * r + 1) < 4 * w) → (T (not b) → 4 * w ≤ (2 * r + 1) * (2 * r + 1))
+        → Nearest w (cond b (r + 1) r)
     go r f true y z =
         let a = y tt in
         let e = twice-next-square r in

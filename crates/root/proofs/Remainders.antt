@@ -29,7 +29,8 @@ module _ (w q left : ℕ) (e : left + q * q ≡ w + 3 * q) where
   pub settled : 1 ≤ q → 2 < left → left ≤ q * 6 + 2 → Nearest w (q - 1 + boolByte (ltb (q * 2) left) + boolByte (ltb (q * 4) left))
   settled p h k = go (ltb (q * 2) left) (ltb (q * 4) left) (ltb→lt (q * 2) left) (nltb→le (q * 2) left) (ltb→lt (q * 4) left) (nltb→le (q * 4) left)
     where
-      go : (a b : Bool) → (T a → q * 2 < left) → (T (not a) → left ≤ q * 2) → (T b → q * 4 < left) → (T (not b) → left ≤ q * 4) → Nearest w (q - 1 + boolByte a + boolByte b)
+      go : (a b : Bool) → (T a → q * 2 < left) → (T (not a) → left ≤ q * 2) → (T b → q * 4 < left) → (T (not b) → left ≤ q * 4)
+          → Nearest w (q - 1 + boolByte a + boolByte b)
       go true true a a' b b' = let u : q + 1 ≡ q - 1 + 1 + 1 = omega arith in subst (λ (x : ℕ). Nearest w x) u (above (b tt) k)
       go true false a a' b b' = let u : q ≡ q - 1 + 1 + 0 = omega arith in subst (λ (x : ℕ). Nearest w x) u (there (a tt) (b' tt))
       go false false a a' b b' = let u : q - 1 ≡ q - 1 + 0 + 0 = omega arith in subst (λ (x : ℕ). Nearest w x) u (below p h (a' tt))

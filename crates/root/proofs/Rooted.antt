@@ -1,7 +1,8 @@
 -- Roots in units of 2 ^ -1074: the root is nearer to the exact root than any other value of 53 digits. Assumes nothing.
 use mathlib.Core.Path.{_≡_, refl, sym, ap, _∙_, subst}
 use Prim.Native.Nat.{ℕ, suc, _+_, _-_, _*_, _/_, _^_, _≤_, _<_}
-use native.Mathlib.Nat.{add-mul, add-comm, suc-mul, mul-assoc, mul-mul-mul-comm, mul-pos, mul-le-mul-right, mul-lt-mul-of-pos-right, eq-of-mul-eq-mul-right, le-of-eq, le-trans, le-antisymm, lt-of-lt-of-le, lt-of-le-of-lt}
+use native.Mathlib.Nat.{add-mul, add-comm, suc-mul, mul-assoc, mul-mul-mul-comm, mul-pos, mul-le-mul-right}
+use native.Mathlib.Nat.{mul-lt-mul-of-pos-right, eq-of-mul-eq-mul-right, le-of-eq, le-trans, le-antisymm, lt-of-lt-of-le, lt-of-le-of-lt}
 use native.Mathlib.Decide.{decLe}
 use native.Mathlib.Omega.{arith}
 use lib.Pow.{pow-add, pow-pos}
@@ -35,7 +36,8 @@ module _ (w q u : ℕ) (p : 0 < u) where
   over h =
       let s = twice-next-square q in
       let l : 4 * w < (2 * q + 1) * (2 * q + 1) = omega arith in
-      subst (λ (x : ℕ). 4 * (w * (u * u)) < x) (sym middle) (subst (λ (x : ℕ). x < (2 * q + 1) * (2 * q + 1) * (u * u)) (mul-assoc 4 w (u * u)) (mul-lt-mul-of-pos-right l (mul-pos p p)))
+      subst (λ (x : ℕ). 4 * (w * (u * u)) < x) (sym middle)
+      (subst (λ (x : ℕ). x < (2 * q + 1) * (2 * q + 1) * (u * u)) (mul-assoc 4 w (u * u)) (mul-lt-mul-of-pos-right l (mul-pos p p)))
 
   -- below q + 1
   under : suc q * suc q < w + suc q → (q * u + suc q * u) * (q * u + suc q * u) < 4 * (w * (u * u))
@@ -43,7 +45,8 @@ module _ (w q u : ℕ) (p : 0 < u) where
       let s = twice-next-square q in
       let t : suc q * suc q ≡ q * q + 2 * q + 1 = ap (λ (x : ℕ). x * x) next ∙ next-square q in
       let l : (2 * q + 1) * (2 * q + 1) < 4 * w = omega arith in
-      subst (λ (x : ℕ). x < 4 * (w * (u * u))) (sym middle) (subst (λ (x : ℕ). (2 * q + 1) * (2 * q + 1) * (u * u) < x) (mul-assoc 4 w (u * u)) (mul-lt-mul-of-pos-right l (mul-pos p p)))
+      subst (λ (x : ℕ). x < 4 * (w * (u * u))) (sym middle)
+      (subst (λ (x : ℕ). (2 * q + 1) * (2 * q + 1) * (u * u) < x) (mul-assoc 4 w (u * u)) (mul-lt-mul-of-pos-right l (mul-pos p p)))
     where
       next : suc q ≡ q + 1
       next = omega arith
@@ -58,7 +61,10 @@ module _ (n R : ℕ) (r : Rooted n R) (p : ℕ) (g : Grid p) where
       let u = 2 ^ (r .k) in
       let s : suc (r .q) * u ≤ p = next-above (r .q) (r .k) p (r .q-ge) g (subst (λ (x : ℕ). x < p) (r .is) h) in
       let o : r .q * u + suc (r .q) * u ≤ R + p = sum-le (r .q * u) (suc (r .q) * u) R p (le-of-eq (sym (r .is))) s in
-      lt-of-lt-of-le (subst (λ (x : ℕ). 4 * x < (r .q * u + suc (r .q) * u) * (r .q * u + suc (r .q) * u)) (sym (r .scale)) (over (r .w) (r .q) u (pow-pos (r .k)) (r .nearest .1))) (square-le (r .q * u + suc (r .q) * u) (R + p) o)
+      lt-of-lt-of-le
+      (subst (λ (x : ℕ). 4 * x < (r .q * u + suc (r .q) * u) * (r .q * u + suc (r .q) * u)) (sym (r .scale))
+      (over (r .w) (r .q) u (pow-pos (r .k)) (r .nearest .1)))
+      (square-le (r .q * u + suc (r .q) * u) (R + p) o)
 
   -- q = q' + 1, above 2 ^ 52
   below-next : (q : ℕ) → r .q ≡ suc q → 2 ^ 52 < r .q → p < R → (R + p) * (R + p) < 4 * (n * 2 ^ 1074)
@@ -69,14 +75,17 @@ module _ (n R : ℕ) (r : Rooted n R) (p : ℕ) (g : Grid p) where
       let b' : p ≤ q * u = (let s = suc-mul q u in omega arith) in
       let o : p + R ≤ q * u + suc q * u = sum-le p R (q * u) (suc q * u) b' (le-of-eq (r .is ∙ f)) in
       lt-of-le-of-lt (subst (λ (x : ℕ). x * x ≤ (q * u + suc q * u) * (q * u + suc q * u)) (add-comm p R) (square-le (p + R) (q * u + suc q * u) o))
-      (subst (λ (x : ℕ). (q * u + suc q * u) * (q * u + suc q * u) < 4 * x) (sym (r .scale)) (under (r .w) q u (pow-pos (r .k)) (subst (λ (x : ℕ). x * x < r .w + x) e (r .nearest .0))))
+      (subst (λ (x : ℕ). (q * u + suc q * u) * (q * u + suc q * u) < 4 * x) (sym (r .scale))
+      (under (r .w) q u (pow-pos (r .k)) (subst (λ (x : ℕ). x * x < r .w + x) e (r .nearest .0))))
 
   -- q = 2 ^ 52: the next value below is nearer by half, and R is at most the exact root
   below-power : r .q ≡ 2 ^ 52 → p < R → (R + p) * (R + p) < 4 * (n * 2 ^ 1074)
   below-power e h =
       let u = 2 ^ (r .k) in
       let s : r .q * r .q ≤ r .w = le-trans (le-of-eq (ap (λ (x : ℕ). x * x) e)) (r .w-ge) in
-      let RR : R * R ≤ n * 2 ^ 1074 = le-trans (le-of-eq (ap (λ (x : ℕ). x * x) (r .is) ∙ mul-mul-mul-comm (r .q) u (r .q) u)) (le-trans (mul-le-mul-right (u * u) s) (le-of-eq (sym (r .scale)))) in
+      let RR : R * R ≤ n * 2 ^ 1074 =
+      le-trans (le-of-eq (ap (λ (x : ℕ). x * x) (r .is) ∙ mul-mul-mul-comm (r .q) u (r .q) u))
+      (le-trans (mul-le-mul-right (u * u) s) (le-of-eq (sym (r .scale)))) in
       last ((R + p) * (R + p)) (2 * R * (2 * R)) (R * R) (n * 2 ^ 1074) (square-lt (R + p) (2 * R) (omega arith)) (twice-square R) RR
     where
       last : (a b c d : ℕ) → a < b → b ≡ 4 * c → c ≤ d → a < 4 * d
@@ -103,7 +112,8 @@ pub rooted-mono : (n n' R R' : ℕ) → Rooted n R → Rooted n' R' → n ≤ n'
 rooted-mono n n' R R' r r' h = unless (λ (l : R' < R).
     let a : (R + R') * (R + R') < 4 * (n * 2 ^ 1074) = nearest-below n R r R' (rooted-grid n' R' r') l in
     let b : 4 * (n' * 2 ^ 1074) < (R' + R) * (R' + R) = nearest-above n' R' r' R (rooted-grid n R r) l in
-    clash (n * 2 ^ 1074) (n' * 2 ^ 1074) ((R + R') * (R + R')) ((R' + R) * (R' + R)) a b (mul-le-mul-right (2 ^ 1074) h) (ap (λ (x : ℕ). x * x) (add-comm R' R)))
+    clash (n * 2 ^ 1074) (n' * 2 ^ 1074) ((R + R') * (R + R')) ((R' + R) * (R' + R)) a b (mul-le-mul-right (2 ^ 1074) h)
+    (ap (λ (x : ℕ). x * x) (add-comm R' R)))
   where
     unless : (R' < R → ⊥) → R ≤ R'
     unless f = omega arith
@@ -114,7 +124,9 @@ rooted-mono n n' R R' r r' h = unless (λ (l : R' < R).
 -- ---- a value whose square is at most n is at most the root, and one whose square is at least n at least it
 module _ (n R p : ℕ) (r : Rooted n R) (g : Grid p) where
   pub rooted-ge : p * p ≤ n * 2 ^ 1074 → p ≤ R
-  rooted-ge h = unless (λ (l : R < p). clash (n * 2 ^ 1074) (p * p) ((R + p) * (R + p)) (2 * p * (2 * p)) (nearest-above n R r p g l) (square-lt (R + p) (2 * p) (omega arith)) (twice-square p) h)
+  rooted-ge h =
+      unless (λ (l : R < p). clash (n * 2 ^ 1074) (p * p) ((R + p) * (R + p)) (2 * p * (2 * p)) (nearest-above n R r p g l)
+      (square-lt (R + p) (2 * p) (omega arith)) (twice-square p) h)
     where
       unless : (R < p → ⊥) → p ≤ R
       unless f = omega arith
@@ -123,7 +135,9 @@ module _ (n R p : ℕ) (r : Rooted n R) (g : Grid p) where
       clash x y s t a b c d = omega arith
 
   pub rooted-le : n * 2 ^ 1074 ≤ p * p → R ≤ p
-  rooted-le h = unless (λ (l : p < R). clash (n * 2 ^ 1074) (p * p) ((R + p) * (R + p)) (2 * p * (2 * p)) (nearest-below n R r p g l) (square-le (2 * p) (R + p) (omega arith)) (twice-square p) h)
+  rooted-le h =
+      unless (λ (l : p < R). clash (n * 2 ^ 1074) (p * p) ((R + p) * (R + p)) (2 * p * (2 * p)) (nearest-below n R r p g l)
+      (square-le (2 * p) (R + p) (omega arith)) (twice-square p) h)
     where
       unless : (p < R → ⊥) → R ≤ p
       unless f = omega arith

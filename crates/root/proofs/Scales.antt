@@ -48,7 +48,9 @@ scaled-by-four n m z e =
     sym (mul-assoc n (2 ^ 53) (2 ^ 53))
     ∙ ap (λ (x : ℕ). x * 2 ^ 53) e
     ∙ mul-assoc m (2 ^ z) (2 ^ 53)
-    ∙ ap (λ (x : ℕ). m * x) (sym (pow-add 2 z 53) ∙ ap (λ (x : ℕ). 2 ^ x) (sums z) ∙ pow-add 2 (1 - z % 2 + 52) (h + h) ∙ ap (λ (x : ℕ). x * 2 ^ (h + h)) (pow-add 2 (1 - z % 2) 52))
+    ∙ ap (λ (x : ℕ). m * x)
+    (sym (pow-add 2 z 53) ∙ ap (λ (x : ℕ). 2 ^ x) (sums z) ∙ pow-add 2 (1 - z % 2 + 52) (h + h)
+    ∙ ap (λ (x : ℕ). x * 2 ^ (h + h)) (pow-add 2 (1 - z % 2) 52))
     ∙ sym (mul-assoc m (2 ^ (1 - z % 2) * 2 ^ 52) (2 ^ (h + h)))
     ∙ ap (λ (x : ℕ). x * 2 ^ (h + h)) (sym (mul-assoc m (2 ^ (1 - z % 2)) (2 ^ 52)) ∙ ap (λ (x : ℕ). m * x * 2 ^ 52) (sym (parity z)))
     ∙ ap (λ (x : ℕ). kOf m z * 2 ^ 52 * x) (pow-add 2 h h ∙ sym (four-power h))
@@ -79,7 +81,8 @@ pub root-units-at : (n m z : ℕ) → n * 2 ^ 53 ≡ m * 2 ^ z → 2 ^ 52 ≤ m 
 unfolding rootUnits
 root-units-at n m z e lo hi p =
     sym (ap (λ (x : ℕ). odd 53 false (nearestRoot (n * 4 ^ 53 / 4 ^ ((x + 1) / 2))) (484 + (x + 1) / 2) 1074) (size-at n m z e lo hi p)
-    ∙ ap (λ (x : ℕ). odd 53 false (nearestRoot x) (484 + (z + 1) / 2) 1074) (ap (λ (x : ℕ). x / 4 ^ ((z + 1) / 2)) (scaled-by-four n m z e) ∙ mul-div-cancel (kOf m z * 2 ^ 52) (four-above ((z + 1) / 2))))
+    ∙ ap (λ (x : ℕ). odd 53 false (nearestRoot x) (484 + (z + 1) / 2) 1074)
+    (ap (λ (x : ℕ). x / 4 ^ ((z + 1) / 2)) (scaled-by-four n m z e) ∙ mul-div-cancel (kOf m z * 2 ^ 52) (four-above ((z + 1) / 2))))
 
 -- ---- bringing the digits of n to the top, one place a turn
 pub record Raising (n m z : ℕ) : Type 0 where

@@ -1,12 +1,14 @@
 -- Identities and bounds on squares of whole numbers. Assumes nothing.
 use mathlib.Core.Path.{_≡_, ap, _∙_}
 use Prim.Native.Nat.{ℕ, _+_, _-_, _*_, _/_, _%_, _^_, _≤_, _<_}
-use native.Mathlib.Nat.{mul-add, add-mul, mul-comm, mul-right-comm, mul-mul-mul-comm, mul-le-mul, mul-le-mul-left, mul-lt-mul-of-pos-right, le-of-lt, lt-of-le-of-lt}
+use native.Mathlib.Nat.{mul-add, add-mul, mul-comm, mul-right-comm, mul-mul-mul-comm}
+use native.Mathlib.Nat.{mul-le-mul, mul-le-mul-left, mul-lt-mul-of-pos-right, le-of-lt, lt-of-le-of-lt}
 use native.Mathlib.Omega.{arith}
 
 pub next-square : (a : ℕ) → (a + 1) * (a + 1) ≡ a * a + 2 * a + 1
 next-square a =
-    let e : (a + 1) * (a + 1) ≡ a * a + a * 1 + (1 * a + 1 * 1) = add-mul a 1 (a + 1) ∙ ap (λ (x : ℕ). x + 1 * (a + 1)) (mul-add a a 1) ∙ ap (λ (x : ℕ). a * a + a * 1 + x) (mul-add 1 a 1) in
+    let e : (a + 1) * (a + 1) ≡ a * a + a * 1 + (1 * a + 1 * 1) =
+    add-mul a 1 (a + 1) ∙ ap (λ (x : ℕ). x + 1 * (a + 1)) (mul-add a a 1) ∙ ap (λ (x : ℕ). a * a + a * 1 + x) (mul-add 1 a 1) in
     omega arith
 
 pub previous-square : (a : ℕ) → 1 ≤ a → a * a ≡ (a - 1) * (a - 1) + 2 * (a - 1) + 1
@@ -34,7 +36,8 @@ square-lt a b h = lt-of-le-of-lt (mul-le-mul-left a (le-of-lt h)) (mul-lt-mul-of
 square-of : (a b : ℕ) → (a * 2 ^ 27 + b) * (a * 2 ^ 27 + b) ≡ a * a * 2 ^ 54 + a * b * 2 ^ 28 + b * b
 square-of a b =
     let x = a * 2 ^ 27 in
-    let e : (x + b) * (x + b) ≡ x * x + x * b + (b * x + b * b) = add-mul x b (x + b) ∙ ap (λ (y : ℕ). y + b * (x + b)) (mul-add x x b) ∙ ap (λ (y : ℕ). x * x + x * b + y) (mul-add b x b) in
+    let e : (x + b) * (x + b) ≡ x * x + x * b + (b * x + b * b) =
+    add-mul x b (x + b) ∙ ap (λ (y : ℕ). y + b * (x + b)) (mul-add x x b) ∙ ap (λ (y : ℕ). x * x + x * b + y) (mul-add b x b) in
     let p : x * x ≡ a * a * 2 ^ 54 = mul-mul-mul-comm a (2 ^ 27) a (2 ^ 27) in
     let q : x * b ≡ a * b * 2 ^ 27 = mul-right-comm a (2 ^ 27) b in
     let r : b * x ≡ a * b * 2 ^ 27 = mul-comm b x ∙ q in

@@ -4,7 +4,7 @@ use mathlib.Core.Bool.{true, false, cond}
 use mathlib.Core.List.{[]}
 use lib.Dec.{leb, ltb}
 use lib.Ieee.{Float, nan, inf, fin, size, odd}
-use Rattle.refusal.specs.Refusal.{Told, given, refused, told}
+use Rattle.refusal.specs.Answers.{Answered, given, refused, refusedBy}
 use Rattle.float64.specs.Units.{unitsOf}
 use Rattle.root.specs.declared.Root.{Root}
 use Rattle.root.specs.declared.Root.the-variants.{Of, Refused}
@@ -26,7 +26,7 @@ unfolding size odd nearestRoot
 rootUnits n = let h = (size n + 1) / 2 in odd 53 false (nearestRoot (n * 4 ^ 53 / 4 ^ h)) (484 + h) 1074
 
 -- The zeros and +infinity give themselves; a NaN and every value below zero are refused by 9.
-unfoldable pub sqrtOf : Float → Told Float
+unfoldable pub sqrtOf : Float → Answered Float
 unfolding rootUnits
 sqrtOf nan = refused 9 []
 sqrtOf (inf true) = refused 9 []
@@ -35,7 +35,7 @@ sqrtOf (fin s zero e) = given (fin s zero e)
 sqrtOf (fin true (suc m) e) = refused 9 []
 sqrtOf (fin false (suc m) e) = given (rootUnits (unitsOf (fin false (suc m) e)))
 
--- What an answer tells.
-abbrev pub toldRoot : Root → Told Float
-toldRoot (Of y) = given y
-toldRoot (Refused r) = told r
+-- An answer in the numbers of document 01.
+abbrev pub rootAnswered : Root → Answered Float
+rootAnswered (Of y) = given y
+rootAnswered (Refused r) = refusedBy r

@@ -6,7 +6,7 @@ ghost use mathlib.Core.Bool.{false};
 ghost use Prim.Native.Nat.{_+_, _*_, _^_, _<_, _≤_};
 ghost use lib.Ieee.{binary64, odd, ofBits};
 ghost use Rattle.float64.specs.Units.{unitsOf};
-ghost use Rattle.root.specs.Sqrt.{nearestRoot, rootUnits, sqrtOf, toldRoot};
+ghost use Rattle.root.specs.Sqrt.{nearestRoot, rootUnits, sqrtOf, rootAnswered};
 use refusal::Refusal;
 
 pub enum Root {
@@ -16,7 +16,7 @@ pub enum Root {
 
 // The square root of x.
 pub fn sqrt(x: f64) -> Root
-    ensures { λ r. ⌜ toldRoot r ≡ sqrtOf x ⌝ }
+    ensures { λ r. ⌜ rootAnswered r ≡ sqrtOf x ⌝ }
 {
     if x > 0.0 {
         let b = f64::to_bits(x);

@@ -2,7 +2,7 @@
 -- Each operation is rounded, in the order of document 003, (5.1).
 use mathlib.Core.Bool.{cond}
 use lib.Ieee.{Float, nan, binary64, neg, add, sub, mul, div, lt, ofBits}
-use Rattle.refusal.specs.Refusal.{Told, given, refused}
+use Rattle.refusal.specs.Answers.{valueOr}
 use Rattle.float64.specs.Values.{plusZero, one, isZero, magnitude}
 use Rattle.root.specs.Sqrt.{sqrtOf}
 use Rattle.rotation.specs.declared.Parameters.{Parameters}
@@ -14,12 +14,8 @@ abbrev pub two : Float
 two = ofBits binary64 0x4000_0000_0000_0000
 
 -- The root of x, or the NaN where it is refused.
-abbrev pub valueOr : Told Float → Float
-valueOr (given y) = y
-valueOr (refused n values) = nan
-
 unfoldable pub rootOf : Float → Float
-rootOf x = valueOr (sqrtOf x)
+rootOf x = valueOr (sqrtOf x) nan
 
 -- 1 where ξ is a zero of either sign
 unfoldable pub signum : Float → Float

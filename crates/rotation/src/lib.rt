@@ -75,7 +75,7 @@ impl Angle {
 }
 
 // The tangent that a diagonal tile passes on.
-pub fn passed_on(p: Parameters) -> f64
+pub fn sent(p: Parameters) -> f64
     ensures { λ r. ⌜ r ≡ sent p ⌝ }
 {
     match p {

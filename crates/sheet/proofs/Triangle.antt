@@ -6,8 +6,8 @@ use native.Mathlib.Nat.{mul-add, mul-one, suc-mul, mul-assoc, mul-comm, mul-le-m
 use native.Mathlib.Omega.{arith}
 use borrow.Author.Tests.{lt-ltb, le-ltb, ltb-true, ltb-false}
 use lib.Dec.{ltb}
-use Rattle.ordering.specs.Pairs.{limit}
-use Rattle.sheet.specs.Format.{sheetLength, entriesFrom, nextPlace, placeOf, entriesTo, numberOf}
+use Rattle.sizes.specs.Sizes.{largestOrder}
+use Rattle.sheet.specs.Format.{sheetLength, entriesFrom, nextPlace, entryPlace, entriesTo, entryNumber}
 
 -- ---- how many there are
 pub closed : (i : ℕ) → 2 * entriesTo i ≡ i * (i + 1)
@@ -28,11 +28,11 @@ length-is n =
     let a : 4 * n * (n + 1) ≡ 4 * (n * (n + 1)) = mul-assoc 4 n (n + 1) in
     omega arith
 
-pub few-entries : (n : ℕ) → n ≤ limit → (n ≤ limit) × (n * n ≤ limit * limit) × (4 * n * (n + 1) ≤ 4 * limit * (limit + 1))
+pub few-entries : (n : ℕ) → n ≤ largestOrder → (n * n ≤ largestOrder * largestOrder) × (4 * n * (n + 1) ≤ 4 * largestOrder * (largestOrder + 1))
 few-entries n h =
-    let a : 4 * n ≤ 4 * limit = omega arith in
-    let b : n + 1 ≤ limit + 1 = omega arith in
-    (h, mul-le-mul h h, mul-le-mul a b)
+    let a : 4 * n ≤ 4 * largestOrder = omega arith in
+    let b : n + 1 ≤ largestOrder + 1 = omega arith in
+    (mul-le-mul h h, mul-le-mul a b)
 
 row-length : (i : ℕ) → 1 ≤ i → entriesTo i ≡ entriesTo (i - 1) + i
 row-length zero h = absurd (omega arith)
@@ -62,41 +62,41 @@ rows-grow a b h = go (ltb a b) refl
     go true e = let w = rows-below a b (ltb-true _ _ e) in omega arith
     go false e = let w : b ≤ a = ltb-false _ _ e in let d : a ≡ b = omega arith in rw d (omega arith)
 
-pub number-below : (n r c : ℕ) → 1 ≤ c → c ≤ r → r ≤ n → numberOf r c < entriesTo n
-unfolding numberOf
+pub number-below : (n r c : ℕ) → 1 ≤ c → c ≤ r → r ≤ n → entryNumber r c < entriesTo n
+unfolding entryNumber
 number-below n r c h k o = let w = rows-below (r - 1) n (omega arith) in omega arith
 
 -- ---- places and numbers
-in-row : (i : ℕ) → placeOf (entriesTo i) ≡ (suc i, 1) → (j : ℕ) → j ≤ i → placeOf (entriesTo i + j) ≡ (suc i, suc j)
-unfolding placeOf
+in-row : (i : ℕ) → entryPlace (entriesTo i) ≡ (suc i, 1) → (j : ℕ) → j ≤ i → entryPlace (entriesTo i + j) ≡ (suc i, suc j)
+unfolding entryPlace
 in-row i s zero h = let e : entriesTo i + 0 ≡ entriesTo i = omega arith in rw e s
 in-row i s (suc j) h =
     let e : entriesTo i + suc j ≡ suc (entriesTo i + j) = omega arith in
     rw (e, in-row i s j (omega arith), lt-ltb (suc j) (suc i) (omega arith))
 
-row-start : (i : ℕ) → placeOf (entriesTo i) ≡ (suc i, 1)
-unfolding placeOf entriesTo
+row-start : (i : ℕ) → entryPlace (entriesTo i) ≡ (suc i, 1)
+unfolding entryPlace entriesTo
 row-start zero = refl
 row-start (suc i) =
     let e : entriesTo i + suc i ≡ suc (entriesTo i + i) = omega arith in
     rw (e, in-row i (row-start i) i (omega arith), le-ltb (suc i) (suc i) (omega arith))
 
 -- rows and columns from 0
-pub place-at : (i j : ℕ) → j ≤ i → placeOf (entriesTo i + j) ≡ (suc i, suc j)
+pub place-at : (i j : ℕ) → j ≤ i → entryPlace (entriesTo i + j) ≡ (suc i, suc j)
 place-at i j h = in-row i (row-start i) j h
 
 -- each number is that of its place
 pub record Numbered (e : ℕ) (p : ℕ × ℕ) : Type 0 where
   pub above : 1 ≤ p .1
   pub within : p .1 ≤ p .0
-  pub number : numberOf (p .0) (p .1) ≡ e
+  pub number : entryNumber (p .0) (p .1) ≡ e
 
-same-row : (i j e : ℕ) → 1 ≤ j → numberOf i j ≡ e → numberOf i (suc j) ≡ suc e
-unfolding numberOf
+same-row : (i j e : ℕ) → 1 ≤ j → entryNumber i j ≡ e → entryNumber i (suc j) ≡ suc e
+unfolding entryNumber
 same-row i j e h z = omega arith
 
-new-row : (i e : ℕ) → 1 ≤ i → numberOf i i ≡ e → numberOf (suc i) 1 ≡ suc e
-unfolding numberOf
+new-row : (i e : ℕ) → 1 ≤ i → entryNumber i i ≡ e → entryNumber (suc i) 1 ≡ suc e
+unfolding entryNumber
 new-row i e h z =
     let a : suc i - 1 ≡ i = omega arith in
     let x : entriesTo i ≡ entriesTo (i - 1) + i = row-length i h in
@@ -116,29 +116,29 @@ number-next e p h = go (ltb (p .1) (p .0)) refl
         let d : p .1 ≡ p .0 = omega arith in
         record { above = omega arith; within = omega arith; number = new-row (p .0) e (omega arith) (rw d at (h .number)) }
 
-pub numbered : (e : ℕ) → Numbered e (placeOf e)
-unfolding placeOf
-numbered zero = unfold numberOf entriesTo in (record { above = omega arith; within = omega arith; number = refl })
-numbered (suc e) = number-next e (placeOf e) (numbered e)
+pub numbered : (e : ℕ) → Numbered e (entryPlace e)
+unfolding entryPlace
+numbered zero = unfold entryNumber entriesTo in (record { above = omega arith; within = omega arith; number = refl })
+numbered (suc e) = number-next e (entryPlace e) (numbered e)
 
-pub place-of-number : (i j : ℕ) → 1 ≤ j → j ≤ i → placeOf (numberOf i j) ≡ (i, j)
-unfolding numberOf
+pub place-of-number : (i j : ℕ) → 1 ≤ j → j ≤ i → entryPlace (entryNumber i j) ≡ (i, j)
+unfolding entryNumber
 place-of-number i j h k =
     let a : suc (i - 1) ≡ i = omega arith in
     let b : suc (j - 1) ≡ j = omega arith in
     place-at (i - 1) (j - 1) (omega arith) ∙ rw (a, b)
 
 -- the first entries stand in the first rows
-pub place-within : (n e : ℕ) → e < entriesTo n → placeOf e .0 ≤ n
-place-within n e h = go (ltb n (placeOf e .0)) refl
+pub place-within : (n e : ℕ) → e < entriesTo n → entryPlace e .0 ≤ n
+place-within n e h = go (ltb n (entryPlace e .0)) refl
   where
-    p : Numbered e (placeOf e)
+    p : Numbered e (entryPlace e)
     p = numbered e
 
-    go : (b : Bool) → ltb n (placeOf e .0) ≡ b → placeOf e .0 ≤ n
+    go : (b : Bool) → ltb n (entryPlace e .0) ≡ b → entryPlace e .0 ≤ n
     go true z =
-        let w : n < placeOf e .0 = ltb-true _ _ z in
-        let u : entriesTo n ≤ entriesTo (placeOf e .0 - 1) = rows-grow n (placeOf e .0 - 1) (omega arith) in
-        let v : entriesTo (placeOf e .0 - 1) + (placeOf e .1 - 1) ≡ e = unfold numberOf in (p .number) in
+        let w : n < entryPlace e .0 = ltb-true _ _ z in
+        let u : entriesTo n ≤ entriesTo (entryPlace e .0 - 1) = rows-grow n (entryPlace e .0 - 1) (omega arith) in
+        let v : entriesTo (entryPlace e .0 - 1) + (entryPlace e .1 - 1) ≡ e = unfold entryNumber in (p .number) in
         absurd (omega arith)
     go false z = ltb-false _ _ z

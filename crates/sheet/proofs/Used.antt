@@ -7,8 +7,8 @@ use native.Mathlib.Omega.{arith}
 use borrow.Author.Tests.{eq-eqb, ne-eqb}
 use lib.Dec.{eqb}
 use lib.ListN.{length, getD, List·getD-eq-default}
-use Rattle.systolic.specs.Slots.{any}
-use Rattle.systolic.proofs.Bounded.{any-hit, any-within}
+use Rattle.lists.specs.Bounded.{any}
+use Rattle.lists.proofs.Bounded.{any-hit, any-within}
 use Rattle.sheet.specs.Codes.{badCode, badCodes}
 
 -- beyond the end there is none

@@ -4,7 +4,7 @@ use mathlib.Core.Bool.{Bool, _||_}
 use mathlib.Core.List.{List}
 use lib.Dec.{eqb}
 use lib.ListN.{getD}
-use Rattle.systolic.specs.Slots.{any}
+use Rattle.lists.specs.Bounded.{any}
 
 -- Of the bytes from o on, number k is zero or stands before it. A byte that is not there is zero.
 unfoldable pub badCode : List ℕ → ℕ → ℕ → Bool

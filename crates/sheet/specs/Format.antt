@@ -21,9 +21,9 @@ abbrev pub nextPlace : ℕ × ℕ → ℕ × ℕ
 nextPlace p = cond (ltb (p .1) (p .0)) (p .0, suc (p .1)) (suc (p .0), 1)
 
 -- The row and the column of entry e, from 0.
-unfoldable pub placeOf : ℕ → ℕ × ℕ
-placeOf zero = (1, 1)
-placeOf (suc e) = nextPlace (placeOf e)
+unfoldable pub entryPlace : ℕ → ℕ × ℕ
+entryPlace zero = (1, 1)
+entryPlace (suc e) = nextPlace (entryPlace e)
 
 -- How many entries the rows 1 to i have.
 unfoldable pub entriesTo : ℕ → ℕ
@@ -31,8 +31,8 @@ entriesTo zero = 0
 entriesTo (suc i) = entriesTo i + suc i
 
 -- The number of the entry in row i and column j.
-unfoldable pub numberOf : ℕ → ℕ → ℕ
-numberOf i j = entriesTo (i - 1) + (j - 1)
+unfoldable pub entryNumber : ℕ → ℕ → ℕ
+entryNumber i j = entriesTo (i - 1) + (j - 1)
 
 -- ---- words of 8 bytes, the highest first
 unfoldable pub byteOf : ℕ → ℕ → ℕ
@@ -50,7 +50,7 @@ sheetByte n sweeps codes A k =
     cond (eqb k 0) n
     (cond (eqb k 1) sweeps
     (cond (ltb k (entriesFrom n)) (getD codes (k - 2) 0)
-    (let place = placeOf ((k - entriesFrom n) / 8) in byteOf (toBits binary64 (A (place .0) (place .1))) ((k - entriesFrom n) % 8))))
+    (let place = entryPlace ((k - entriesFrom n) / 8) in byteOf (toBits binary64 (A (place .0) (place .1))) ((k - entriesFrom n) % 8))))
 
 unfoldable pub sheetOf : ℕ → ℕ → List ℕ → (ℕ → ℕ → Float) → List ℕ
 sheetOf n sweeps codes A = tabulate (sheetLength n) (sheetByte n sweeps codes A)
@@ -67,7 +67,7 @@ codesIn b = tabulate (orderIn b) (λ k. getD b (2 + k) 0)
 
 -- The pattern of the stored entry in row i and column j, for j up to i.
 unfoldable pub patternIn : List ℕ → ℕ → ℕ → ℕ
-patternIn b i j = wordFrom b (entriesFrom (orderIn b) + 8 * numberOf i j) 8
+patternIn b i j = wordFrom b (entriesFrom (orderIn b) + 8 * entryNumber i j) 8
 
 -- The matrix: above the diagonal the mirror bits.
 unfoldable pub entryIn : List ℕ → ℕ → ℕ → Float

@@ -1,8 +1,22 @@
-// The line codes of a sheet (document 01, "A sheet").
+// The length of a sheet and its line codes (document 01, "A sheet").
 ghost use mathlib.Core.Path.{_≡_};
-ghost use Prim.Native.Nat.{_+_};
+ghost use Prim.Native.Nat.{_+_, _≤_};
 ghost use lib.ListN.{getD};
+ghost use Rattle.sizes.specs.Sizes.{largestOrder};
+ghost use Rattle.sheet.specs.Format.{sheetLength};
 ghost use Rattle.sheet.specs.Codes.{badCode, badCodes};
+use sizes::LARGEST_ORDER;
+
+// The length of the longest sheet.
+pub const LONGEST: usize = 2 + LARGEST_ORDER + 4 * LARGEST_ORDER * (LARGEST_ORDER + 1);
+
+// How many bytes a sheet of order n has.
+pub fn length_of(n: usize) -> usize
+    requires { ⌜ n ≤ largestOrder ⌝ }
+    ensures { λ r. ⌜ r ≡ sheetLength n ⌝ }
+{
+    2 + n + 4 * n * (n + 1)
+}
 
 // Whether one of the n codes from `first` on is zero, or used before. A code that is not there counts as zero.
 pub fn has_bad_code(bytes: &[u8], first: usize, n: usize) -> bool

@@ -1,7 +1,7 @@
 -- What is read from a sheet. Assumes nothing.
 use Prim.Native.Nat.{ℕ, _+_, _-_, _*_, _/_, _%_, _<_, _≤_}
-use mathlib.Core.Path.{_≡_}
-use mathlib.Core.Bool.{true, false}
+use mathlib.Core.Path.{_≡_, sym}
+use mathlib.Core.Bool.{Bool, true, false}
 use mathlib.Core.List.{List}
 use native.Mathlib.Nat.{mul-le-mul}
 use native.Mathlib.Omega.{arith}
@@ -9,30 +9,31 @@ use borrow.Author.Tests.{lt-ltb, le-ltb}
 use lib.ListN.{length, getD}
 use lib.Ieee.{Float, nan, binary64, ofBits}
 use Rattle.float64.specs.Values.{finite}
-use Rattle.refusal.specs.Refusal.{given, refused, told}
+use Rattle.refusal.specs.Answers.{Answered, given, refused, refusedBy, first}
 use Rattle.refusal.specs.declared.Refusal.the-variants.{NotFinite}
+use Rattle.refusal.proofs.FirstRefusal.{first-found}
 use Rattle.lists.proofs.Tabulated.{length-tabulate, getD-tabulate}
 use Rattle.lists.proofs.Filled.{Filled, filled-all}
-use Rattle.ordering.specs.Pairs.{limit}
+use Rattle.sizes.specs.Sizes.{largestOrder}
 use Rattle.matrix.specs.Matrix.{flat}
-use Rattle.sheet.specs.Format.{sheetLength, orderIn, sweepsIn, codesIn, numberOf, wordFrom, patternIn, entryIn}
+use Rattle.sheet.specs.Format.{sheetLength, orderIn, sweepsIn, codesIn, entryNumber, wordFrom, patternIn, entryIn}
 use Rattle.sheet.proofs.Triangle.{length-is, half-of, number-below}
-use Rattle.sheet_reader.specs.Reader.{notFiniteIn, readTold, ReadOutcome, readOutcome, contentOf, readOf}
+use Rattle.sheet_reader.specs.Reader.{notFiniteIn, storedRow, readAnswer, ReadOutcome, readOutcome, contentOf, readOf}
 
 -- ---- one stored entry
-pub few-before : (r : ℕ) → r ≤ limit → r * (r - 1) ≤ limit * limit
-few-before r h = let k : r - 1 ≤ limit = omega arith in mul-le-mul h k
+pub few-before : (r : ℕ) → r ≤ largestOrder → r * (r - 1) ≤ largestOrder * largestOrder
+few-before r h = let k : r - 1 ≤ largestOrder = omega arith in mul-le-mul h k
 
 module _ (n r c : ℕ) (c1 : 1 ≤ c) (cr : c ≤ r) (rn : r ≤ n) where
-  pub offset-is : r * (r - 1) / 2 + (c - 1) ≡ numberOf r c
-  unfolding numberOf
+  pub offset-is : r * (r - 1) / 2 + (c - 1) ≡ entryNumber r c
+  unfolding entryNumber
   offset-is = rw (half-of r (omega arith))
 
   pub offset-within : 2 + n + 8 * (r * (r - 1) / 2 + (c - 1)) + 8 ≤ sheetLength n
   offset-within = let e = offset-is in let w = number-below n r c c1 cr rn in let l = length-is n in omega arith
 
 module _ (b : List ℕ) where
-  pub pattern-read : {n w o : ℕ} (r c : ℕ) → n ≡ orderIn b → o ≡ numberOf r c → w ≡ wordFrom b (2 + n + 8 * o) 8 → w ≡ patternIn b r c
+  pub pattern-read : {n w o : ℕ} (r c : ℕ) → n ≡ orderIn b → o ≡ entryNumber r c → w ≡ wordFrom b (2 + n + 8 * o) 8 → w ≡ patternIn b r c
   unfolding patternIn
   pattern-read r c e f g = rw (← e, ← f) g
 
@@ -46,13 +47,29 @@ module _ (b : List ℕ) where
   up-to-diagonal r c h e = rw (le-ltb r c h, ← e)
 
   -- ---- the test
+  pub tested-as : {w : ℕ} {t : Bool} (r c : ℕ) → w ≡ patternIn b r c → t ≡ finite (ofBits binary64 w) → finite (ofBits binary64 (patternIn b r c)) ≡ t
+  tested-as r c e f = rw (← e) (sym f)
+
   pub is-finite : (r c : ℕ) → finite (ofBits binary64 (patternIn b r c)) ≡ true → notFiniteIn b r c ≡ given tt
   unfolding notFiniteIn
   is-finite r c e = rw e
 
-  pub is-not-finite : (r c : ℕ) → finite (ofBits binary64 (patternIn b r c)) ≡ false → notFiniteIn b r c ≡ told (NotFinite r c)
+  is-not-finite : (r c : ℕ) → finite (ofBits binary64 (patternIn b r c)) ≡ false → notFiniteIn b r c ≡ refusedBy (NotFinite r c)
   unfolding notFiniteIn
   is-not-finite r c e = rw e
+
+  -- ---- the rows from top to bottom
+  abbrev rowTested : ℕ → Answered Unit
+  rowTested r = first r (notFiniteIn b r)
+
+  pub none-found : (i : ℕ) → i ≡ orderIn b → first i rowTested ≡ given tt → given tt ≡ storedRow b
+  unfolding storedRow
+  none-found i e f = sym (rw e at f)
+
+  pub one-found : (i j : ℕ) → i < orderIn b → first i rowTested ≡ given tt → j < i + 1 → first j (notFiniteIn b (i + 1)) ≡ given tt
+      → finite (ofBits binary64 (patternIn b (i + 1) (j + 1))) ≡ false → refusedBy (NotFinite (i + 1) (j + 1)) ≡ storedRow b
+  unfolding storedRow
+  one-found i j h e k f g = sym (first-found rowTested _ _ _ i h e (first-found _ _ _ _ j k f (is-not-finite (i + 1) (j + 1) g)))
 
   -- ---- codes
   pub codes-count : length (codesIn b) ≡ orderIn b
@@ -72,16 +89,17 @@ module _ (b : List ℕ) where
   unfolding flat
   entries-read n k l h o = filled-all k l h o
 
-  pub all-read : {c : List ℕ} {m : List Float} → c ≡ codesIn b → m ≡ flat (orderIn b) (entryIn b) → readOutcome (given (orderIn b, sweepsIn b)) c m ≡ contentOf b
+  pub all-read : {c : List ℕ} {m : List Float} → c ≡ codesIn b → m ≡ flat (orderIn b) (entryIn b)
+      → readOutcome (given (orderIn b, sweepsIn b)) c m ≡ contentOf b
   unfolding contentOf
   all-read e f = rw (e, f)
 
 -- ---- a refused reading, and one that is not
 module _ (b c : List ℕ) (m : List Float) where
-  pub read-refused : {k : ℕ} {values : List ℕ} → refused k values ≡ readTold b (length c) (length m) → readOutcome (refused k values) c m ≡ readOf b c m
+  pub read-refused : {k : ℕ} {values : List ℕ} → refused k values ≡ readAnswer b (length c) (length m) → readOutcome (refused k values) c m ≡ readOf b c m
   unfolding readOf
   read-refused e = rw (← e)
 
-  pub read-accepted-as : {o : ReadOutcome} → given tt ≡ readTold b (length c) (length m) → o ≡ contentOf b → o ≡ readOf b c m
+  pub read-accepted-as : {o : ReadOutcome} → given tt ≡ readAnswer b (length c) (length m) → o ≡ contentOf b → o ≡ readOf b c m
   unfolding readOf
   read-accepted-as e f = rw (← e) f

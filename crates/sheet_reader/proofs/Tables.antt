@@ -1,98 +1,112 @@
 -- The refusals of the reader, in their order. Assumes nothing.
 use Prim.Native.Nat.{ℕ, _*_, _<_, _≤_}
-use mathlib.Core.Path.{_≡_, refl}
-use mathlib.Core.Bool.{Bool, true, false, cond, _&&_}
-use mathlib.Core.List.{List}
+use mathlib.Core.Path.{_≡_, refl, ap, _∙_}
+use mathlib.Core.Bool.{Bool, true, false, not, _&&_}
+use mathlib.Core.List.{List, [], _∷_}
 use borrow.Author.Tests.{lt-ltb, le-ltb, eq-eqb, ne-eqb, eqb-true, ltb-false}
 use lib.Dec.{eqb, ltb}
 use lib.ListN.{length}
-use Rattle.refusal.specs.Refusal.{Told, given, told}
-use Rattle.refusal.specs.declared.Refusal.the-variants.{Order, Sweeps, Length, Code}
-use Rattle.ordering.specs.Pairs.{noOrder}
-use Rattle.matrix.proofs.Accepted.{refused-given}
-use Rattle.plain_run.specs.Run.{mostSweeps}
+use Rattle.refusal.specs.Answers.{Answered, given, refused, refusedBy, orElse, row, table}
+use Rattle.refusal.specs.declared.Refusal.the-variants.{Length, Code}
+use Rattle.refusal.proofs.FirstRefusal.{refused-given, both-given, row-given, else-none}
+use Rattle.sizes.specs.Sizes.{isOrder, mostSweeps, sizesAnswer}
+use Rattle.sizes.proofs.Orders.{sizes-fine, sizes-given, sizes-first}
+use Rattle.matrix.specs.Entries.{isSquare}
 use Rattle.sheet.specs.Format.{sheetLength, orderIn, sweepsIn}
 use Rattle.sheet.specs.Codes.{badCodes}
-use Rattle.sheet_reader.specs.Reader.{storedOf, readTold}
+use Rattle.sheet_reader.specs.Reader.{storedRow, sheetAnswer, readAnswer}
 
-module _ (b : List ℕ) (lc lm : ℕ) where
-  pub head-short : length b < 2 → told Length ≡ readTold b lc lm
-  unfolding readTold
-  head-short h = rw (lt-ltb (length b) 2 h)
+module _ (b : List ℕ) where
+  -- the rows below those of the lengths
+  abbrev contentRows : List (Answered Unit)
+  contentRows = row (badCodes b 2 (orderIn b)) Code ∷ storedRow b ∷ []
 
-  module _ (head : 2 ≤ length b) where
-    pub read-1 : noOrder (orderIn b) ≡ true → told Order ≡ readTold b lc lm
-    unfolding readTold
-    read-1 e = rw (le-ltb (length b) 2 head, e)
+  module _ (lc lm : ℕ) where
+    -- the rows below those of the sizes
+    abbrev lengthRows : List (Answered Unit)
+    lengthRows = row (not (eqb lc (orderIn b) && (isSquare (orderIn b) lm && eqb (length b) (sheetLength (orderIn b))))) Length ∷ contentRows
 
-    module _ (order : noOrder (orderIn b) ≡ false) where
-      pub read-2 : mostSweeps < sweepsIn b → told Sweeps ≡ readTold b lc lm
-      unfolding readTold
-      read-2 h = rw (le-ltb (length b) 2 head, order, lt-ltb mostSweeps (sweepsIn b) h)
+    -- the whole table, with the rows of the sizes as one answer
+    by-head : orElse (row (ltb (length b) 2) Length) (orElse (sizesAnswer (orderIn b) (sweepsIn b)) (table lengthRows)) ≡ readAnswer b lc lm
+    unfolding readAnswer
+    by-head = ap (orElse (row (ltb (length b) 2) Length)) (sizes-first (orderIn b) (sweepsIn b) (table lengthRows))
 
-      module _ (few : sweepsIn b ≤ mostSweeps) where
-        pub codes-length : ¬ (lc ≡ orderIn b) → told Length ≡ readTold b lc lm
-        unfolding readTold
-        codes-length e = rw (le-ltb (length b) 2 head, order, le-ltb mostSweeps (sweepsIn b) few, ne-eqb lc (orderIn b) e)
+    pub head-short : length b < 2 → refusedBy Length ≡ readAnswer b lc lm
+    head-short h = rw (← by-head, lt-ltb (length b) 2 h)
+
+    module _ (head : 2 ≤ length b) where
+      by-sizes : {a : Answered Unit} → a ≡ orElse (sizesAnswer (orderIn b) (sweepsIn b)) (table lengthRows) → a ≡ readAnswer b lc lm
+      by-sizes z = rw (← by-head, le-ltb (length b) 2 head) z
+
+      pub sizes-refused : {k : ℕ} {values : List ℕ} → refused k values ≡ sizesAnswer (orderIn b) (sweepsIn b) → refused k values ≡ readAnswer b lc lm
+      sizes-refused e = by-sizes (rw (← e))
+
+      module _ (order : isOrder (orderIn b) ≡ true) (few : sweepsIn b ≤ mostSweeps) where
+        by-lengths : {a : Answered Unit} → a ≡ table lengthRows → a ≡ readAnswer b lc lm
+        by-lengths z = by-sizes (rw (← sizes-fine (orderIn b) (sweepsIn b) order few) z)
+
+        pub codes-length : ¬ (lc ≡ orderIn b) → refusedBy Length ≡ readAnswer b lc lm
+        codes-length e = by-lengths (rw (ne-eqb lc (orderIn b) e))
 
         module _ (codes-long : lc ≡ orderIn b) where
-          pub matrix-length : ¬ (lm ≡ orderIn b * orderIn b) → told Length ≡ readTold b lc lm
-          unfolding readTold
-          matrix-length e = rw (le-ltb (length b) 2 head, order, le-ltb mostSweeps (sweepsIn b) few, eq-eqb lc (orderIn b) codes-long, ne-eqb lm (orderIn b * orderIn b) e)
+          pub matrix-length : ¬ (lm ≡ orderIn b * orderIn b) → refusedBy Length ≡ readAnswer b lc lm
+          matrix-length e = by-lengths (rw (eq-eqb lc (orderIn b) codes-long, ne-eqb lm (orderIn b * orderIn b) e))
 
           module _ (matrix-long : lm ≡ orderIn b * orderIn b) where
-            pub sheet-length : ¬ (length b ≡ sheetLength (orderIn b)) → told Length ≡ readTold b lc lm
-            unfolding readTold
+            pub sheet-length : ¬ (length b ≡ sheetLength (orderIn b)) → refusedBy Length ≡ readAnswer b lc lm
             sheet-length e =
-                rw (le-ltb (length b) 2 head, order, le-ltb mostSweeps (sweepsIn b) few, eq-eqb lc (orderIn b) codes-long, eq-eqb lm (orderIn b * orderIn b) matrix-long, ne-eqb (length b) (sheetLength (orderIn b)) e)
+                let other = ne-eqb (length b) (sheetLength (orderIn b)) e in
+                by-lengths (rw (eq-eqb lc (orderIn b) codes-long, eq-eqb lm (orderIn b * orderIn b) matrix-long, other))
 
             module _ (sheet-long : length b ≡ sheetLength (orderIn b)) where
-              pub read-4 : badCodes b 2 (orderIn b) ≡ true → told Code ≡ readTold b lc lm
-              unfolding readTold
-              read-4 e =
-                  rw (le-ltb (length b) 2 head, order, le-ltb mostSweeps (sweepsIn b) few, eq-eqb lc (orderIn b) codes-long, eq-eqb lm (orderIn b * orderIn b) matrix-long, eq-eqb (length b) (sheetLength (orderIn b)) sheet-long, e)
+              by-content : {a : Answered Unit} → a ≡ table contentRows → a ≡ readAnswer b lc lm
+              by-content z =
+                  let all = eq-eqb (length b) (sheetLength (orderIn b)) sheet-long in
+                  by-lengths (rw (eq-eqb lc (orderIn b) codes-long, eq-eqb lm (orderIn b * orderIn b) matrix-long, all) z)
 
-              pub read-5 : {a : Told Unit} → badCodes b 2 (orderIn b) ≡ false → a ≡ storedOf b → a ≡ readTold b lc lm
-              unfolding readTold
-              read-5 e f =
-                  rw (le-ltb (length b) 2 head, order, le-ltb mostSweeps (sweepsIn b) few, eq-eqb lc (orderIn b) codes-long, eq-eqb lm (orderIn b * orderIn b) matrix-long, eq-eqb (length b) (sheetLength (orderIn b)) sheet-long, e)
-                  f
+              pub read-4 : badCodes b 2 (orderIn b) ≡ true → refusedBy Code ≡ readAnswer b lc lm
+              read-4 e = by-content (rw e)
+
+              pub read-5 : {a : Answered Unit} → badCodes b 2 (orderIn b) ≡ false → a ≡ storedRow b → a ≡ readAnswer b lc lm
+              read-5 e f = by-content (rw (e, else-none) f)
 
 -- what is known of a sheet that is accepted
 pub record Readable (b : List ℕ) (lc lm : ℕ) : Type 0 where
   pub head : 2 ≤ length b
-  pub order : noOrder (orderIn b) ≡ false
+  pub order : isOrder (orderIn b) ≡ true
   pub few : sweepsIn b ≤ mostSweeps
   pub codes-long : lc ≡ orderIn b
   pub matrix-long : lm ≡ orderIn b * orderIn b
   pub sheet-long : length b ≡ sheetLength (orderIn b)
   pub codes-good : badCodes b 2 (orderIn b) ≡ false
-  pub entries-good : storedOf b ≡ given tt
+  pub entries-good : storedRow b ≡ given tt
 
-pub readable : (b : List ℕ) (lc lm : ℕ) → readTold b lc lm ≡ given tt → Readable b lc lm
-unfolding readTold
+all-long : (p q r : Bool) → row (not (p && (q && r))) Length ≡ given tt → (p ≡ true) × (q ≡ true) × (r ≡ true)
+all-long false q r e = refused-given e
+all-long true false r e = refused-given e
+all-long true true false e = refused-given e
+all-long true true true e = (refl, refl, refl)
+
+pub readable : (b : List ℕ) (lc lm : ℕ) → readAnswer b lc lm ≡ given tt → Readable b lc lm
 readable b lc lm e =
-    go (ltb (length b) 2) (noOrder (orderIn b)) (ltb mostSweeps (sweepsIn b)) (eqb lc (orderIn b)) (eqb lm (orderIn b * orderIn b)) (eqb (length b) (sheetLength (orderIn b))) (badCodes b 2 (orderIn b)) refl refl refl refl refl refl refl e
-  where
-    go : (p q r s t u v : Bool) → ltb (length b) 2 ≡ p → noOrder (orderIn b) ≡ q → ltb mostSweeps (sweepsIn b) ≡ r → eqb lc (orderIn b) ≡ s → eqb lm (orderIn b * orderIn b) ≡ t
-        → eqb (length b) (sheetLength (orderIn b)) ≡ u → badCodes b 2 (orderIn b) ≡ v
-        → cond p (told Length) (cond q (told Order) (cond r (told Sweeps) (cond (s && (t && u)) (cond v (told Code) (storedOf b)) (told Length)))) ≡ given tt
-        → Readable b lc lm
-    go true q r s t u v a b′ c d f g h e = refused-given e
-    go false true r s t u v a b′ c d f g h e = refused-given e
-    go false false true s t u v a b′ c d f g h e = refused-given e
-    go false false false false t u v a b′ c d f g h e = refused-given e
-    go false false false true false u v a b′ c d f g h e = refused-given e
-    go false false false true true false v a b′ c d f g h e = refused-given e
-    go false false false true true true true a b′ c d f g h e = refused-given e
-    go false false false true true true false a b′ c d f g h e =
-        record {
-          head = ltb-false _ _ a;
-          order = b′;
-          few = ltb-false mostSweeps (sweepsIn b) c;
-          codes-long = eqb-true _ _ d;
-          matrix-long = eqb-true _ _ f;
-          sheet-long = eqb-true _ _ g;
-          codes-good = h;
-          entries-good = e;
-        }
+    let top = both-given (row (ltb (length b) 2) Length) _ (by-head b lc lm ∙ e) in
+    let below = both-given (sizesAnswer (orderIn b) (sweepsIn b)) (table (lengthRows b lc lm)) (top .1) in
+    let sizes = sizes-given (orderIn b) (sweepsIn b) (below .0) in
+    let lengths = both-given _ (table (contentRows b)) (below .1) in
+    let long = all-long (eqb lc (orderIn b)) (isSquare (orderIn b) lm) (eqb (length b) (sheetLength (orderIn b))) (lengths .0) in
+    let content = both-given (row (badCodes b 2 (orderIn b)) Code) (orElse (storedRow b) (given tt)) (lengths .1) in
+    record {
+      head = ltb-false _ _ (row-given _ Length (top .0));
+      order = sizes .0;
+      few = sizes .1;
+      codes-long = eqb-true _ _ (long .0);
+      matrix-long = eqb-true _ _ (long .1);
+      sheet-long = eqb-true _ _ (long .2);
+      codes-good = row-given _ Code (content .0);
+      entries-good = both-given (storedRow b) (given tt) (content .1) .0;
+    }
+
+-- where the codes and the matrix are lent in the right lengths, the sheet alone decides
+pub lent-right : (b : List ℕ) → readAnswer b (orderIn b) (orderIn b * orderIn b) ≡ sheetAnswer b
+unfolding readAnswer sheetAnswer
+lent-right b = rw (eq-eqb (orderIn b) (orderIn b) refl, eq-eqb (orderIn b * orderIn b) (orderIn b * orderIn b) refl)

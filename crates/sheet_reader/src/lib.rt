@@ -3,11 +3,11 @@ ghost use mathlib.Core.Path.{_≡_};
 ghost use Prim.Native.Nat.{_+_, _*_, _≤_};
 ghost use lib.ListN.{length};
 ghost use lib.Ieee.{binary64, ofBits};
-ghost use Rattle.refusal.specs.Refusal.{given, toldAnswer};
+ghost use Rattle.refusal.specs.Answers.{given, answered};
 ghost use Rattle.matrix.specs.Matrix.{flat};
-ghost use Rattle.ordering.specs.Pairs.{limit};
+ghost use Rattle.sizes.specs.Sizes.{largestOrder};
 ghost use Rattle.sheet.specs.Format.{sheetLength, orderIn, codesIn, wordFrom, patternIn, entryIn};
-ghost use Rattle.sheet_reader.specs.Reader.{storedOf, readTold, readOutcome, toldReading, contentOf, readOf};
+ghost use Rattle.sheet_reader.specs.Reader.{storedRow, readAnswer, readOutcome, readingAnswered, contentOf, readOf};
 use refusal::Answer;
 use refusal::Refusal;
 
@@ -19,7 +19,8 @@ pub enum Reading {
 
 // Reads a sheet into lent codes and a lent matrix.
 pub fn read(sheet: &[u8], codes: &mut [u8], matrix: &mut [f64]) -> Reading
-    ensures { λ r. ⌜ readOutcome (toldReading r) (now (codes .exit)) (now (matrix .exit)) ≡ readOf (now (sheet .entry)) (now (codes .entry)) (now (matrix .entry)) ⌝ }
+    ensures { λ r. ⌜ readOutcome (readingAnswered r) (now (codes .exit)) (now (matrix .exit))
+        ≡ readOf (now (sheet .entry)) (now (codes .entry)) (now (matrix .entry)) ⌝ }
 {
     match verdict(sheet, codes.len(), matrix.len()) {
         Answer::Accepted => read_accepted(sheet, codes, matrix),
@@ -29,17 +30,17 @@ pub fn read(sheet: &[u8], codes: &mut [u8], matrix: &mut [f64]) -> Reading
 
 // Refusals 3, 1, 2, 3, 4 and 5 of a sheet, where the lent codes and the lent matrix have these lengths.
 fn verdict(sheet: &[u8], codes: usize, matrix: usize) -> Answer
-    ensures { λ r. ⌜ toldAnswer r ≡ readTold (now (sheet .entry)) codes matrix ⌝ }
+    ensures { λ r. ⌜ answered r ≡ readAnswer (now (sheet .entry)) codes matrix ⌝ }
 {
     if sheet.len() < 2 {
         return Answer::Refused(Refusal::Length);
     }
     let n = sheet[0] as usize;
-    if ordering::is_no_order(n) {
-        return Answer::Refused(Refusal::Order);
-    }
-    if sheet[1] > 16 {
-        return Answer::Refused(Refusal::Sweeps);
+    match sizes::tested(n, sheet[1] as usize) {
+        Answer::Accepted => {}
+        Answer::Refused(refused) => {
+            return Answer::Refused(refused);
+        }
     }
     if codes != n {
         return Answer::Refused(Refusal::Length);
@@ -47,7 +48,7 @@ fn verdict(sheet: &[u8], codes: usize, matrix: usize) -> Answer
     if matrix != n * n {
         return Answer::Refused(Refusal::Length);
     }
-    if sheet.len() != 2 + n + 4 * n * (n + 1) {
+    if sheet.len() != sheet::length_of(n) {
         return Answer::Refused(Refusal::Length);
     }
     if sheet::has_bad_code(sheet, 2, n) {
@@ -58,8 +59,8 @@ fn verdict(sheet: &[u8], codes: usize, matrix: usize) -> Answer
 
 // The first stored entry that is not finite, by its pattern.
 fn first_not_finite(n: usize, sheet: &[u8]) -> Answer
-    requires { ⌜ (n ≡ orderIn (now sheet)) × (n ≤ limit) × (length (now sheet) ≡ sheetLength n) ⌝ }
-    ensures { λ r. ⌜ toldAnswer r ≡ storedOf (now (sheet .entry)) ⌝ }
+    requires { ⌜ (n ≡ orderIn (now sheet)) × (n ≤ largestOrder) × (length (now sheet) ≡ sheetLength n) ⌝ }
+    ensures { λ r. ⌜ answered r ≡ storedRow (now (sheet .entry)) ⌝ }
 {
     let mut found = Answer::Accepted;
     'rows: for i in 0..n {
@@ -75,7 +76,7 @@ fn first_not_finite(n: usize, sheet: &[u8]) -> Answer
 
 // The pattern of the stored entry in row r and column c, for c up to r.
 fn pattern(n: usize, r: usize, c: usize, sheet: &[u8]) -> u64
-    requires { ⌜ (n ≡ orderIn (now sheet)) × (n ≤ limit) × (length (now sheet) ≡ sheetLength n) × (1 ≤ c) × (c ≤ r) × (r ≤ n) ⌝ }
+    requires { ⌜ (n ≡ orderIn (now sheet)) × (n ≤ largestOrder) × (length (now sheet) ≡ sheetLength n) × (1 ≤ c) × (c ≤ r) × (r ≤ n) ⌝ }
     ensures { λ x. ⌜ x ≡ patternIn (now (sheet .entry)) r c ⌝ }
 {
     word_at(sheet, 2 + n + 8 * (r * (r - 1) / 2 + (c - 1)))
@@ -95,8 +96,8 @@ fn word_at(bytes: &[u8], at: usize) -> u64
 
 // Reads a sheet that is not refused.
 fn read_accepted(sheet: &[u8], codes: &mut [u8], matrix: &mut [f64]) -> Reading
-    requires { ⌜ readTold (now sheet) (length (now codes)) (length (now matrix)) ≡ given tt ⌝ }
-    ensures { λ r. ⌜ readOutcome (toldReading r) (now (codes .exit)) (now (matrix .exit)) ≡ contentOf (now (sheet .entry)) ⌝ }
+    requires { ⌜ readAnswer (now sheet) (length (now codes)) (length (now matrix)) ≡ given tt ⌝ }
+    ensures { λ r. ⌜ readOutcome (readingAnswered r) (now (codes .exit)) (now (matrix .exit)) ≡ contentOf (now (sheet .entry)) ⌝ }
 {
     let n = sheet[0] as usize;
     read_codes(sheet, codes);
@@ -114,7 +115,7 @@ fn read_codes(sheet: &[u8], codes: &mut [u8])
 }
 
 fn read_entries(n: usize, sheet: &[u8], matrix: &mut [f64])
-    requires { ⌜ (n ≡ orderIn (now sheet)) × (n ≤ limit) × (length (now sheet) ≡ sheetLength n) × (length (now matrix) ≡ n * n) ⌝ }
+    requires { ⌜ (n ≡ orderIn (now sheet)) × (n ≤ largestOrder) × (length (now sheet) ≡ sheetLength n) × (length (now matrix) ≡ n * n) ⌝ }
     ensures { λ _. ⌜ now (matrix .exit) ≡ flat n (entryIn (now (sheet .entry))) ⌝ }
 {
     for k in 0..matrix.len() {
@@ -124,7 +125,7 @@ fn read_entries(n: usize, sheet: &[u8], matrix: &mut [f64])
 
 // The pattern in row r and column c: above the diagonal that of the mirror entry.
 fn mirrored(n: usize, r: usize, c: usize, sheet: &[u8]) -> u64
-    requires { ⌜ (n ≡ orderIn (now sheet)) × (n ≤ limit) × (length (now sheet) ≡ sheetLength n) × (1 ≤ r) × (r ≤ n) × (1 ≤ c) × (c ≤ n) ⌝ }
+    requires { ⌜ (n ≡ orderIn (now sheet)) × (n ≤ largestOrder) × (length (now sheet) ≡ sheetLength n) × (1 ≤ r) × (r ≤ n) × (1 ≤ c) × (c ≤ n) ⌝ }
     ensures { λ x. ⌜ ofBits binary64 x ≡ entryIn (now (sheet .entry)) r c ⌝ }
 {
     if r < c {

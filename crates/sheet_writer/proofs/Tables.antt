@@ -1,62 +1,80 @@
 -- The refusals of the writer, in their order. Assumes nothing.
 use Prim.Native.Nat.{ℕ, _*_, _<_, _≤_}
-use mathlib.Core.Path.{_≡_, refl}
-use mathlib.Core.Bool.{Bool, true, false, cond, _&&_}
-use mathlib.Core.List.{List}
+use mathlib.Core.Path.{_≡_, refl, sym, _∙_}
+use mathlib.Core.Bool.{Bool, true, false, not, _&&_}
+use mathlib.Core.List.{List, [], _∷_}
 use borrow.Author.Tests.{lt-ltb, le-ltb, eq-eqb, ne-eqb, eqb-true, ltb-false}
 use lib.Dec.{eqb, ltb}
 use lib.ListN.{length}
 use lib.Ieee.{Float}
-use Rattle.refusal.specs.Refusal.{Told, given, refused, told}
-use Rattle.refusal.specs.declared.Refusal.the-variants.{Order, Sweeps, Length, Code, TooShort}
-use Rattle.ordering.specs.Pairs.{noOrder}
-use Rattle.matrix.specs.Entries.{orElse, entriesOf}
-use Rattle.matrix.proofs.Accepted.{refused-given}
-use Rattle.plain_run.specs.Run.{mostSweeps}
+use Rattle.refusal.specs.Answers.{Answered, given, refused, refusedBy, orElse, row, table}
+use Rattle.refusal.specs.declared.Refusal.the-variants.{Length, Code, TooShort}
+use Rattle.refusal.proofs.FirstRefusal.{refused-given, both-given, row-given, table-joined}
+use Rattle.sizes.specs.Sizes.{isOrder, mostSweeps, sizesAnswer}
+use Rattle.sizes.proofs.Orders.{sizes-fine, sizes-given, sizes-first}
+use Rattle.matrix.specs.Entries.{isSquare, finiteRow, mirrorRow, entriesOf}
 use Rattle.sheet.specs.Format.{sheetLength}
 use Rattle.sheet.specs.Codes.{badCodes}
-use Rattle.sheet_writer.specs.Writer.{writeTold}
+use Rattle.sheet_writer.specs.Writer.{writeAnswer}
 
 module _ (n sweeps : ℕ) (codes : List ℕ) (l : List Float) (lb : ℕ) where
-  pub write-1 : noOrder n ≡ true → told Order ≡ writeTold n sweeps codes l lb
-  unfolding writeTold
-  write-1 e = rw e
+  -- the last row, and the rows from the codes and from the lengths on
+  abbrev roomRows : List (Answered Unit)
+  roomRows = row (ltb lb (sheetLength n)) TooShort ∷ []
 
-  module _ (order : noOrder n ≡ false) where
-    pub write-2 : mostSweeps < sweeps → told Sweeps ≡ writeTold n sweeps codes l lb
-    unfolding writeTold
-    write-2 h = rw (order, lt-ltb mostSweeps sweeps h)
+  abbrev codeRows : List (Answered Unit)
+  codeRows = row (badCodes codes 0 n) Code ∷ finiteRow n l ∷ mirrorRow n l ∷ roomRows
 
-    module _ (few : sweeps ≤ mostSweeps) where
-      pub write-3 : ¬ (length codes ≡ n) → told Length ≡ writeTold n sweeps codes l lb
-      unfolding writeTold
-      write-3 e = rw (order, le-ltb mostSweeps sweeps few, ne-eqb (length codes) n e)
+  abbrev lengthRows : List (Answered Unit)
+  lengthRows = row (not (eqb (length codes) n && isSquare n (length l))) Length ∷ codeRows
 
-      module _ (codes-long : length codes ≡ n) where
-        pub write-3-too : ¬ (length l ≡ n * n) → told Length ≡ writeTold n sweeps codes l lb
-        unfolding writeTold
-        write-3-too e = rw (order, le-ltb mostSweeps sweeps few, eq-eqb (length codes) n codes-long, ne-eqb (length l) (n * n) e)
+  -- the whole table, with the rows of the sizes as one answer
+  by-sizes : orElse (sizesAnswer n sweeps) (table lengthRows) ≡ writeAnswer n sweeps codes l lb
+  unfolding writeAnswer
+  by-sizes = sizes-first n sweeps (table lengthRows)
 
-        module _ (matrix-long : length l ≡ n * n) where
-          pub write-4 : badCodes codes 0 n ≡ true → told Code ≡ writeTold n sweeps codes l lb
-          unfolding writeTold
-          write-4 e = rw (order, le-ltb mostSweeps sweeps few, eq-eqb (length codes) n codes-long, eq-eqb (length l) (n * n) matrix-long, e)
+  pub sizes-refused : {k : ℕ} {values : List ℕ} → refused k values ≡ sizesAnswer n sweeps → refused k values ≡ writeAnswer n sweeps codes l lb
+  sizes-refused e = rw (← by-sizes, ← e)
 
-          module _ (good : badCodes codes 0 n ≡ false) where
-            pub write-5-6 : {k : ℕ} {values : List ℕ} → refused k values ≡ entriesOf n l → refused k values ≡ writeTold n sweeps codes l lb
-            unfolding writeTold
-            write-5-6 e = rw (order, le-ltb mostSweeps sweeps few, eq-eqb (length codes) n codes-long, eq-eqb (length l) (n * n) matrix-long, good, ← e)
+  -- the rows of the entries as one answer
+  entries-first : length l ≡ n * n → orElse (entriesOf n l) (table roomRows) ≡ table (finiteRow n l ∷ mirrorRow n l ∷ roomRows)
+  unfolding entriesOf
+  entries-first e = rw (eq-eqb (length l) (n * n) e) (sym (table-joined (finiteRow n l ∷ mirrorRow n l ∷ []) roomRows))
 
-            pub write-7 : given tt ≡ entriesOf n l → lb < sheetLength n → told TooShort ≡ writeTold n sweeps codes l lb
-            unfolding writeTold
-            write-7 e h = rw (order, le-ltb mostSweeps sweeps few, eq-eqb (length codes) n codes-long, eq-eqb (length l) (n * n) matrix-long, good, ← e, lt-ltb lb (sheetLength n) h)
+  module _ (order : isOrder n ≡ true) (few : sweeps ≤ mostSweeps) where
+    by-lengths : {a : Answered Unit} → a ≡ table lengthRows → a ≡ writeAnswer n sweeps codes l lb
+    by-lengths z = rw (← by-sizes, ← sizes-fine n sweeps order few) z
 
-            pub write-all : given tt ≡ entriesOf n l → sheetLength n ≤ lb → given tt ≡ writeTold n sweeps codes l lb
-            unfolding writeTold
-            write-all e h = rw (order, le-ltb mostSweeps sweeps few, eq-eqb (length codes) n codes-long, eq-eqb (length l) (n * n) matrix-long, good, ← e, le-ltb lb (sheetLength n) h)
+    pub write-3 : ¬ (length codes ≡ n) → refusedBy Length ≡ writeAnswer n sweeps codes l lb
+    write-3 e = by-lengths (rw (ne-eqb (length codes) n e))
 
+    module _ (codes-long : length codes ≡ n) where
+      pub write-3-too : ¬ (length l ≡ n * n) → refusedBy Length ≡ writeAnswer n sweeps codes l lb
+      write-3-too e = by-lengths (rw (eq-eqb (length codes) n codes-long, ne-eqb (length l) (n * n) e))
+
+      module _ (matrix-long : length l ≡ n * n) where
+        by-codes : {a : Answered Unit} → a ≡ table codeRows → a ≡ writeAnswer n sweeps codes l lb
+        by-codes z = by-lengths (rw (eq-eqb (length codes) n codes-long, eq-eqb (length l) (n * n) matrix-long) z)
+
+        pub write-4 : badCodes codes 0 n ≡ true → refusedBy Code ≡ writeAnswer n sweeps codes l lb
+        write-4 e = by-codes (rw e)
+
+        module _ (good : badCodes codes 0 n ≡ false) where
+          by-entries : {a : Answered Unit} → a ≡ orElse (entriesOf n l) (table roomRows) → a ≡ writeAnswer n sweeps codes l lb
+          by-entries z = by-codes (rw good (z ∙ entries-first matrix-long))
+
+          pub write-5-6 : {k : ℕ} {values : List ℕ} → refused k values ≡ entriesOf n l → refused k values ≡ writeAnswer n sweeps codes l lb
+          write-5-6 e = by-entries (rw (← e))
+
+          pub write-7 : given tt ≡ entriesOf n l → lb < sheetLength n → refusedBy TooShort ≡ writeAnswer n sweeps codes l lb
+          write-7 e h = by-entries (rw (← e, lt-ltb lb (sheetLength n) h))
+
+          pub write-all : given tt ≡ entriesOf n l → sheetLength n ≤ lb → given tt ≡ writeAnswer n sweeps codes l lb
+          write-all e h = by-entries (rw (← e, le-ltb lb (sheetLength n) h))
+
+-- what is known of a sheet that is written
 pub record Writable (n sweeps : ℕ) (codes : List ℕ) (l : List Float) (lb : ℕ) : Type 0 where
-  pub order : noOrder n ≡ false
+  pub order : isOrder n ≡ true
   pub few : sweeps ≤ mostSweeps
   pub codes-long : length codes ≡ n
   pub matrix-long : length l ≡ n * n
@@ -64,28 +82,26 @@ pub record Writable (n sweeps : ℕ) (codes : List ℕ) (l : List Float) (lb : �
   pub entries-good : entriesOf n l ≡ given tt
   pub room : sheetLength n ≤ lb
 
-pub writable : (n sweeps : ℕ) (codes : List ℕ) (l : List Float) (lb : ℕ) → writeTold n sweeps codes l lb ≡ given tt → Writable n sweeps codes l lb
-unfolding writeTold
+both-long : (p q : Bool) → row (not (p && q)) Length ≡ given tt → (p ≡ true) × (q ≡ true)
+both-long false q e = refused-given e
+both-long true false e = refused-given e
+both-long true true e = (refl, refl)
+
+pub writable : (n sweeps : ℕ) (codes : List ℕ) (l : List Float) (lb : ℕ) → writeAnswer n sweeps codes l lb ≡ given tt → Writable n sweeps codes l lb
 writable n sweeps codes l lb e =
-    go (noOrder n) (ltb mostSweeps sweeps) (eqb (length codes) n) (eqb (length l) (n * n)) (badCodes codes 0 n) (entriesOf n l) (ltb lb (sheetLength n)) refl refl refl refl refl refl refl e
-  where
-    go : (p q r s t : Bool) (u : Told Unit) (v : Bool) → noOrder n ≡ p → ltb mostSweeps sweeps ≡ q → eqb (length codes) n ≡ r → eqb (length l) (n * n) ≡ s → badCodes codes 0 n ≡ t → entriesOf n l ≡ u
-        → ltb lb (sheetLength n) ≡ v
-        → cond p (told Order) (cond q (told Sweeps) (cond (r && s) (cond t (told Code) (orElse u (cond v (told TooShort) (given tt)))) (told Length))) ≡ given tt → Writable n sweeps codes l lb
-    go true q r s t u v a b c d f g h e = refused-given e
-    go false true r s t u v a b c d f g h e = refused-given e
-    go false false false s t u v a b c d f g h e = refused-given e
-    go false false true false t u v a b c d f g h e = refused-given e
-    go false false true true true u v a b c d f g h e = refused-given e
-    go false false true true false (refused k values) v a b c d f g h e = refused-given e
-    go false false true true false (given x) true a b c d f g h e = refused-given e
-    go false false true true false (given x) false a b c d f g h e =
-        record {
-          order = a;
-          few = ltb-false mostSweeps sweeps b;
-          codes-long = eqb-true _ _ c;
-          matrix-long = eqb-true _ _ d;
-          codes-good = f;
-          entries-good = g;
-          room = ltb-false _ _ h;
-        }
+    let below = both-given (sizesAnswer n sweeps) (table (lengthRows n sweeps codes l lb)) (by-sizes n sweeps codes l lb ∙ e) in
+    let sizes = sizes-given n sweeps (below .0) in
+    let lengths = both-given _ (table (codeRows n sweeps codes l lb)) (below .1) in
+    let long = both-long (eqb (length codes) n) (isSquare n (length l)) (lengths .0) in
+    let square = eqb-true (length l) (n * n) (long .1) in
+    let content = both-given (row (badCodes codes 0 n) Code) _ (lengths .1) in
+    let entries = both-given (entriesOf n l) (table (roomRows n sweeps codes l lb)) (entries-first n sweeps codes l lb square ∙ content .1) in
+    record {
+      order = sizes .0;
+      few = sizes .1;
+      codes-long = eqb-true _ _ (long .0);
+      matrix-long = square;
+      codes-good = row-given _ Code (content .0);
+      entries-good = entries .0;
+      room = ltb-false _ _ (row-given _ TooShort (both-given (row (ltb lb (sheetLength n)) TooShort) (given tt) (entries .1) .0));
+    }

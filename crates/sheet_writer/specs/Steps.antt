@@ -3,7 +3,7 @@ use Prim.Native.Nat.{ℕ, zero, suc, _+_, _*_}
 use mathlib.Core.List.{List}
 use lib.ListN.{getD, set}
 use lib.Ieee.{Float, binary64, toBits}
-use Rattle.sheet.specs.Format.{entriesFrom, placeOf, byteOf}
+use Rattle.sheet.specs.Format.{entriesFrom, entryPlace, byteOf}
 
 -- Bytes b with the first k bytes of a word from o on.
 unfoldable pub withBytes : ℕ → ℕ → ℕ → List ℕ → List ℕ
@@ -18,4 +18,4 @@ withCodes codes (suc k) b = set (withCodes codes k b) (2 + k) (getD codes k 0)
 -- With the first e entries of a matrix of order n.
 unfoldable pub withEntries : ℕ → (ℕ → ℕ → Float) → ℕ → List ℕ → List ℕ
 withEntries n A zero b = b
-withEntries n A (suc e) b = withBytes (toBits binary64 (A (placeOf e .0) (placeOf e .1))) (entriesFrom n + 8 * e) 8 (withEntries n A e b)
+withEntries n A (suc e) b = withBytes (toBits binary64 (A (entryPlace e .0) (entryPlace e .1))) (entriesFrom n + 8 * e) 8 (withEntries n A e b)

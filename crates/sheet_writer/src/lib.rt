@@ -2,18 +2,18 @@
 ghost use mathlib.Core.Path.{_≡_};
 ghost use Prim.Native.Nat.{_+_, _*_, _≤_};
 ghost use lib.ListN.{length};
-ghost use Rattle.refusal.specs.Refusal.{given, toldAnswer};
+ghost use Rattle.refusal.specs.Answers.{given, answered};
 ghost use Rattle.matrix.specs.Matrix.{at};
-ghost use Rattle.ordering.specs.Pairs.{limit};
+ghost use Rattle.sizes.specs.Sizes.{largestOrder};
 ghost use Rattle.sheet.specs.Format.{sheetLength, entriesTo};
 ghost use Rattle.sheet_writer.specs.Steps.{withBytes, withCodes, withEntries};
-ghost use Rattle.sheet_writer.specs.Writer.{writeTold, writeOutcome, writtenOver, writeOf};
+ghost use Rattle.sheet_writer.specs.Writer.{writeAnswer, writeOutcome, writtenOver, writeOf};
 use refusal::Answer;
 use refusal::Refusal;
 
 // Writes a sheet into lent bytes. A longer buffer keeps its tail.
 pub fn write(n: usize, sweeps: usize, codes: &[u8], matrix: &[f64], sheet: &mut [u8]) -> Answer
-    ensures { λ r. ⌜ writeOutcome (toldAnswer r) (now (sheet .exit)) ≡ writeOf n sweeps (now (codes .entry)) (now (matrix .entry)) (now (sheet .entry)) ⌝ }
+    ensures { λ r. ⌜ writeOutcome (answered r) (now (sheet .exit)) ≡ writeOf n sweeps (now (codes .entry)) (now (matrix .entry)) (now (sheet .entry)) ⌝ }
 {
     match verdict(n, sweeps, codes, matrix, sheet.len()) {
         Answer::Accepted => write_accepted(n, sweeps, codes, matrix, sheet),
@@ -23,13 +23,13 @@ pub fn write(n: usize, sweeps: usize, codes: &[u8], matrix: &[f64], sheet: &mut 
 
 // Refusals 1, 2, 3, 4, 5, 6 and 7, where so many bytes are lent.
 fn verdict(n: usize, sweeps: usize, codes: &[u8], matrix: &[f64], lent: usize) -> Answer
-    ensures { λ r. ⌜ toldAnswer r ≡ writeTold n sweeps (now (codes .entry)) (now (matrix .entry)) lent ⌝ }
+    ensures { λ r. ⌜ answered r ≡ writeAnswer n sweeps (now (codes .entry)) (now (matrix .entry)) lent ⌝ }
 {
-    if ordering::is_no_order(n) {
-        return Answer::Refused(Refusal::Order);
-    }
-    if sweeps > 16 {
-        return Answer::Refused(Refusal::Sweeps);
+    match sizes::tested(n, sweeps) {
+        Answer::Accepted => {}
+        Answer::Refused(refused) => {
+            return Answer::Refused(refused);
+        }
     }
     if codes.len() != n {
         return Answer::Refused(Refusal::Length);
@@ -46,7 +46,7 @@ fn verdict(n: usize, sweeps: usize, codes: &[u8], matrix: &[f64], lent: usize) -
             return Answer::Refused(refused);
         }
     }
-    if lent < 2 + n + 4 * n * (n + 1) {
+    if lent < sheet::length_of(n) {
         return Answer::Refused(Refusal::TooShort);
     }
     Answer::Accepted
@@ -54,8 +54,9 @@ fn verdict(n: usize, sweeps: usize, codes: &[u8], matrix: &[f64], lent: usize) -
 
 // Writes a sheet that is not refused.
 fn write_accepted(n: usize, sweeps: usize, codes: &[u8], matrix: &[f64], sheet: &mut [u8]) -> Answer
-    requires { ⌜ writeTold n sweeps (now codes) (now matrix) (length (now sheet)) ≡ given tt ⌝ }
-    ensures { λ r. ⌜ writeOutcome (toldAnswer r) (now (sheet .exit)) ≡ writeOutcome (given tt) (writtenOver n sweeps (now (codes .entry)) (now (matrix .entry)) (now (sheet .entry))) ⌝ }
+    requires { ⌜ writeAnswer n sweeps (now codes) (now matrix) (length (now sheet)) ≡ given tt ⌝ }
+    ensures { λ r. ⌜ writeOutcome (answered r) (now (sheet .exit))
+        ≡ writeOutcome (given tt) (writtenOver n sweeps (now (codes .entry)) (now (matrix .entry)) (now (sheet .entry))) ⌝ }
 {
     sheet[0] = n as u8;
     sheet[1] = sweeps as u8;
@@ -74,7 +75,7 @@ fn write_codes(codes: &[u8], sheet: &mut [u8])
 }
 
 fn write_entries(n: usize, matrix: &[f64], sheet: &mut [u8])
-    requires { ⌜ (n ≤ limit) × (length (now matrix) ≡ n * n) × (sheetLength n ≤ length (now sheet)) ⌝ }
+    requires { ⌜ (n ≤ largestOrder) × (length (now matrix) ≡ n * n) × (sheetLength n ≤ length (now sheet)) ⌝ }
     ensures { λ _. ⌜ now (sheet .exit) ≡ withEntries n (at n (now (matrix .entry))) (entriesTo n) (now (sheet .entry)) ⌝ }
 {
     let mut offset = 2 + n;

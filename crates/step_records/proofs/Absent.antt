@@ -6,11 +6,13 @@ use native.Mathlib.Omega.{arith}
 use lib.ListN.{length, List·getD-eq-default}
 use lib.Ieee.{Float}
 use Rattle.ordering.specs.declared.Registers.{Registers}
-use Rattle.ordering.specs.Registers.{most}
+use Rattle.sizes.specs.Sizes.{mostProcessors}
 use Rattle.matrix.specs.Matrix.{entryOf}
 use Rattle.matrix_turns.specs.Turns.{parametersOf}
 use Rattle.step_records.specs.Records.{recordOf, recordAt}
 
-pub no-processor : (n : ℕ) (l : List Float) (r : Registers) (k : ℕ) → length (r .left) ≡ most → length (r .right) ≡ most → most ≤ k → recordOf (parametersOf 0 0 (entryOf n l)) ≡ recordAt n l r k
+pub no-processor : (n : ℕ) (l : List Float) (r : Registers) (k : ℕ)
+    → length (r .left) ≡ mostProcessors → length (r .right) ≡ mostProcessors → mostProcessors ≤ k
+    → recordOf (parametersOf 0 0 (entryOf n l)) ≡ recordAt n l r k
 unfolding recordAt
-no-processor n l r k e f h = rw (List·getD-eq-default (r .left) 0 {n = k} (omega (arith, h, e)), List·getD-eq-default (r .right) 0 {n = k} (omega (arith, h, f)))
+no-processor n l r k e f h = rw (List·getD-eq-default (r .left) 0 {n = k} (omega arith), List·getD-eq-default (r .right) 0 {n = k} (omega arith))

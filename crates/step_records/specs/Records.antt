@@ -1,20 +1,21 @@
 -- Document 01, "One rotation", last paragraph: the records of a step. Definitions only.
-use Prim.Native.Nat.{ℕ, _/_}
-use mathlib.Core.Bool.{cond}
-use mathlib.Core.List.{List}
+use Prim.Native.Nat.{ℕ}
+use mathlib.Core.Bool.{not}
+use mathlib.Core.List.{List, [], _∷_}
 use lib.Dec.{ltb}
 use lib.ListN.{length, getD}
 use lib.Ieee.{Float}
-use Rattle.refusal.specs.Refusal.{Told, given, refused, told}
-use Rattle.refusal.specs.declared.Refusal.the-variants.{Order, TooShort}
+use Rattle.refusal.specs.Answers.{Answered, given, giving, valueOr, unlessRefused, row, table}
+use Rattle.refusal.specs.declared.Refusal.the-variants.{Length, TooShort}
 use Rattle.float64.specs.Values.{plusZero, one}
 use Rattle.lists.specs.Over.{over}
 use Rattle.rotation.specs.declared.Parameters.{Parameters}
 use Rattle.rotation.specs.declared.Parameters.the-variants.{Still, Turn}
 use Rattle.ordering.specs.declared.Registers.{Registers}
-use Rattle.ordering.specs.Pairs.{noOrder, registersAt}
+use Rattle.sizes.specs.Sizes.{processorsOf, orderRow}
+use Rattle.ordering.specs.Pairs.{registersAt}
 use Rattle.matrix.specs.Matrix.{entryOf}
-use Rattle.matrix.specs.Entries.{entriesOf, orElse}
+use Rattle.matrix.specs.Entries.{isSquare, finiteRow, mirrorRow}
 use Rattle.matrix_turns.specs.Turns.{parametersOf}
 use Rattle.step_records.specs.declared.Record.{Record}
 
@@ -28,27 +29,24 @@ unfoldable pub recordAt : ℕ → List Float → Registers → ℕ → Record
 recordAt n l r k = recordOf (parametersOf (getD (r .left) k 0) (getD (r .right) k 0) (entryOf n l))
 
 -- What is refused: the table of document 01 from top to bottom. room is the length of the row.
-unfoldable pub beforeRecords : ℕ → List Float → ℕ → Told Unit
-beforeRecords n l room = cond (noOrder n) (told Order) (orElse (entriesOf n l) (cond (ltb room (n / 2)) (told TooShort) (given tt)))
+unfoldable pub beforeRecords : ℕ → List Float → ℕ → Answered Unit
+beforeRecords n l room =
+    table
+    (orderRow n ∷ row (not (isSquare n (length l))) Length ∷ finiteRow n l ∷ mirrorRow n l ∷ row (ltb room (processorsOf n)) TooShort ∷ [])
 
 -- What a call answers, and what the row holds after it.
 pub record RowOutcome : Type 0 where
-  pub says : Told Unit
+  pub answer : Answered Unit
   pub row : List Record
 
-abbrev pub rowOutcome : Told Unit → List Record → RowOutcome
-rowOutcome a l = record { says = a; row = l }
-
--- A refusal leaves the row as it was.
-abbrev pub unlessRefused : Told Unit → List Record → List Record → RowOutcome
-unlessRefused (given x) new old = rowOutcome (given tt) new
-unlessRefused (refused k values) new old = rowOutcome (refused k values) old
+abbrev pub rowOutcome : Answered Unit → List Record → RowOutcome
+rowOutcome a l = record { answer = a; row = l }
 
 -- The outcome of a call with an order, a matrix and a step, from 0, where the row holds ys before: the first N records are written.
 unfoldable pub recordsOf : ℕ → List Float → ℕ → List Record → RowOutcome
-recordsOf n l step ys = unlessRefused (beforeRecords n l (length ys)) (over (n / 2) (recordAt n l (registersAt n step)) ys) ys
+recordsOf n l step ys =
+    unlessRefused (beforeRecords n l (length ys)) (rowOutcome (given tt) (over (processorsOf n) (recordAt n l (registersAt n step)) ys)) (λ a. rowOutcome a ys)
 
--- How many records are written.
-abbrev pub written : ℕ → Told Unit → ℕ
-written n (given x) = n / 2
-written n (refused k values) = 0
+-- How many records are written, by the answer.
+abbrev pub written : ℕ → Answered Unit → ℕ
+written n a = valueOr (giving (processorsOf n) a) 0

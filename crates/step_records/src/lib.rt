@@ -1,16 +1,17 @@
 // The records of a step (document 01, "One rotation", last paragraph).
 ghost use mathlib.Core.Path.{_≡_};
 ghost use mathlib.Core.Bool.{cond};
-ghost use Prim.Native.Nat.{_/_};
 ghost use lib.Dec.{ltb};
-ghost use Rattle.refusal.specs.Refusal.{told, given, toldAnswer};
+ghost use Rattle.refusal.specs.Answers.{refusedBy, given, answered};
 ghost use Rattle.refusal.specs.declared.Refusal.the-variants.{TooShort};
 ghost use Rattle.ordering.specs.Pairs.{orNone, registersAt};
 ghost use Rattle.step_records.specs.Records.{recordOf, recordAt, beforeRecords, rowOutcome, recordsOf, written};
+ghost use Rattle.sizes.specs.Sizes.{processorsOf};
 use ordering::Registers;
 use refusal::Answer;
 use refusal::Refusal;
 use rotation::Parameters;
+use sizes::MOST_PROCESSORS;
 
 // Tangent, cosine and sine of a pair.
 pub struct Record {
@@ -22,12 +23,12 @@ pub struct Record {
 // An answer, and the row beside it.
 pub struct Recorded {
     pub answer: Answer,
-    pub row: [Record; 16],
+    pub row: [Record; MOST_PROCESSORS],
 }
 
 // Writes the records of a step's N pairs to the front of a lent row.
 pub fn of_step(n: usize, matrix: &[f64], step: usize, row: &mut [Record]) -> Answer
-    ensures { λ r. ⌜ rowOutcome (toldAnswer r) (now (row .exit)) ≡ recordsOf n (now (matrix .entry)) step (now (row .entry)) ⌝ }
+    ensures { λ r. ⌜ rowOutcome (answered r) (now (row .exit)) ≡ recordsOf n (now (matrix .entry)) step (now (row .entry)) ⌝ }
 {
     let answer = verdict(n, matrix, row.len());
     let count = count(n, answer);
@@ -41,8 +42,8 @@ pub fn of_step(n: usize, matrix: &[f64], step: usize, row: &mut [Record]) -> Ans
 }
 
 // The same for a row that is handed over and given back.
-pub fn in_row(n: usize, matrix: &[f64], step: usize, row: [Record; 16]) -> Recorded
-    ensures { λ r. ⌜ rowOutcome (toldAnswer (r .answer)) (r .row) ≡ recordsOf n (now (matrix .entry)) step row ⌝ }
+pub fn in_row(n: usize, matrix: &[f64], step: usize, row: [Record; MOST_PROCESSORS]) -> Recorded
+    ensures { λ r. ⌜ rowOutcome (answered (r .answer)) (r .row) ≡ recordsOf n (now (matrix .entry)) step row ⌝ }
 {
     let mut written = row;
     let answer = of_step(n, matrix, step, &mut written);
@@ -54,9 +55,9 @@ pub fn in_row(n: usize, matrix: &[f64], step: usize, row: [Record; 16]) -> Recor
 
 // Refusals 1, 3, 5, 6 and 7 of a call that is lent a row of `room` records.
 pub fn verdict(n: usize, matrix: &[f64], room: usize) -> Answer
-    ensures { λ r. ⌜ toldAnswer r ≡ beforeRecords n (now (matrix .entry)) room ⌝ }
+    ensures { λ r. ⌜ answered r ≡ beforeRecords n (now (matrix .entry)) room ⌝ }
 {
-    if ordering::is_no_order(n) {
+    if !sizes::is_order(n) {
         return Answer::Refused(Refusal::Order);
     }
     match matrix::tested(n, matrix) {
@@ -67,9 +68,9 @@ pub fn verdict(n: usize, matrix: &[f64], room: usize) -> Answer
 
 // Refusal 7.
 fn with_room(n: usize, room: usize) -> Answer
-    ensures { λ r. ⌜ toldAnswer r ≡ cond (ltb room (n / 2)) (told TooShort) (given tt) ⌝ }
+    ensures { λ r. ⌜ answered r ≡ cond (ltb room (processorsOf n)) (refusedBy TooShort) (given tt) ⌝ }
 {
-    if room < n / 2 {
+    if room < sizes::processors_of(n) {
         return Answer::Refused(Refusal::TooShort);
     }
     Answer::Accepted
@@ -77,10 +78,10 @@ fn with_room(n: usize, room: usize) -> Answer
 
 // How many records are written.
 fn count(n: usize, answer: Answer) -> usize
-    ensures { λ r. ⌜ r ≡ written n (toldAnswer answer) ⌝ }
+    ensures { λ r. ⌜ r ≡ written n (answered answer) ⌝ }
 {
     match answer {
-        Answer::Accepted => n / 2,
+        Answer::Accepted => sizes::processors_of(n),
         Answer::Refused(_) => 0,
     }
 }
@@ -99,7 +100,7 @@ pub fn of_processor(n: usize, matrix: &[f64], registers: Registers, k: usize) ->
 {
     let lefts = registers.left;
     let rights = registers.right;
-    if k < 16 {
+    if k < MOST_PROCESSORS {
         return of_parameters(matrix_turns::parameters(n, lefts[k], rights[k], matrix));
     }
     of_parameters(matrix_turns::parameters(n, 0, 0, matrix))

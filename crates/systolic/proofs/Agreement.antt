@@ -4,12 +4,13 @@ use mathlib.Core.Path.{_≡_, refl, sym, _∙_, ap}
 use mathlib.Core.Logic.{_↔_}
 use mathlib.Core.Bool.{Bool, false, _||_}
 use native.Mathlib.Omega.{arith}
-use Rattle.systolic.specs.Slots.{Side, left, right, Slot, slot, cameFrom, prior, nextBy, lineAt, inOrder, any}
+use Rattle.systolic.specs.Slots.{Side, left, right, Slot, slot, cameFrom, prior, nextBy, lineAt, inOrder}
+use Rattle.lists.specs.Bounded.{any}
 use Rattle.systolic.specs.Blocks.{Block, cell, tab, pick}
 use Rattle.systolic.specs.Synchronous.{rotateAll, moveAll, blocksAt, rotatedAt}
 use Rattle.systolic.specs.Arrays.{arrayAfter}
 use Rattle.systolic.specs.Sequential.{Rules, sequential, failsIn, blockAt, anyFails, operationsOf}
-use Rattle.systolic.proofs.Bounded.{or-false, same-bool, any-to, any-from}
+use Rattle.lists.proofs.Bounded.{or-false, same-bool, any-to, any-from}
 use Rattle.systolic.proofs.Movement.{prior-le, nextBy-le}
 use Rattle.systolic.proofs.Lines.{Distinct, line-at, line-from, line-one, line-sweeps, inOrder-one, inOrder-in, inOrder-of}
 use Rattle.systolic.proofs.Cells.{cell-tab, tab-ext}
@@ -43,9 +44,11 @@ module _ {X H W : Type 0} (R : Rules X H W) (l : Slot → ℕ) (m : ℕ) (one : 
       ∙ step-agrees R k m (lineAt l m k) (line-one l m one k) (sequential R l m M k) l M x h w i j p q
 
   moved-agrees : (k : ℕ)
-      → ((i j : ℕ) → i ≤ m → j ≤ m → rotateAll (operationsOf R l M x h w) k (blocksAt (operationsOf R l M x h w) m k) i j ≡ blockAt (lineAt l m k) (sequential R l m M (suc k)) i j)
+      → ((i j : ℕ) → i ≤ m → j ≤ m → rotateAll (operationsOf R l M x h w) k (blocksAt (operationsOf R l M x h w) m k) i j
+      ≡ blockAt (lineAt l m k) (sequential R l m M (suc k)) i j)
       → (i j : ℕ) → i ≤ m → j ≤ m
-      → moveAll m (rotateAll (operationsOf R l M x h w) k (blocksAt (operationsOf R l M x h w) m k)) i j ≡ blockAt (lineAt l m (suc k)) (sequential R l m M (suc k)) i j
+      → moveAll m (rotateAll (operationsOf R l M x h w) k (blocksAt (operationsOf R l M x h w) m k)) i j
+      ≡ blockAt (lineAt l m (suc k)) (sequential R l m M (suc k)) i j
   unfolding moveAll pick blockAt lineAt prior slot
   moved-agrees k e i j p q =
       tab-ext _ _ (λ r s.
@@ -65,7 +68,8 @@ module _ {X H W : Type 0} (R : Rules X H W) (l : Slot → ℕ) (m : ℕ) (one : 
 
   -- after the last tick of n sweeps every tile holds its part of the sequential run's matrix
   pub block-agrees : (n i j : ℕ) → i ≤ m → j ≤ m
-      → arrayAfter (operationsOf R l M x h w) m (n * (2 * m + 1)) (3 * (n * (2 * m + 1)) + suc m) i j .cells ≡ blockAt l (sequential R l m M (n * (2 * m + 1))) i j
+      → arrayAfter (operationsOf R l M x h w) m (n * (2 * m + 1)) (3 * (n * (2 * m + 1)) + suc m) i j .cells
+      ≡ blockAt l (sequential R l m M (n * (2 * m + 1))) i j
   block-agrees n i j p q =
       cells-end (operationsOf R l M x h w) m (n * (2 * m + 1)) i j p q ∙ blocks-sequential (n * (2 * m + 1)) i j p q ∙ home n i j p q
     where
@@ -96,7 +100,8 @@ module _ {X H W : Type 0} (R : Rules X H W) (l : Slot → ℕ) (m : ℕ) (one : 
   unfolding blockAt
   block-to L A i j e r s = ap (R .fails) (sym (cell-tab _ r s)) ∙ each-to (blockAt L A i j) e r s
 
-  block-from : (L : Slot → ℕ) (A : ℕ → ℕ → X) (i j : ℕ) → ((r s : Side) → R .fails (A (L (slot i r)) (L (slot j s))) ≡ false) → anyFails R (blockAt L A i j) ≡ false
+  block-from : (L : Slot → ℕ) (A : ℕ → ℕ → X) (i j : ℕ) → ((r s : Side) → R .fails (A (L (slot i r)) (L (slot j s))) ≡ false)
+      → anyFails R (blockAt L A i j) ≡ false
   unfolding anyFails blockAt tab
   block-from L A i j f = four-from _ _ _ _ (f left left) (f left right) (f right left) (f right right)
 
@@ -135,7 +140,8 @@ module _ {X H W : Type 0} (R : Rules X H W) (l : Slot → ℕ) (m : ℕ) (one : 
 
 -- ---- the lines b to b + 2 N - 1 in order: some tile is marked exactly where some entry failed after a step
 module _ {X H W : Type 0} (R : Rules X H W) (b m : ℕ) (M : ℕ → ℕ → X) (x : X) (h : H) (w : W) where
-  fails-to : (A : ℕ → ℕ → X) → failsIn R b (2 * suc m) A ≡ false → (u z : Slot) → u .processor ≤ m → z .processor ≤ m → R .fails (A (inOrder b u) (inOrder b z)) ≡ false
+  fails-to : (A : ℕ → ℕ → X) → failsIn R b (2 * suc m) A ≡ false → (u z : Slot) → u .processor ≤ m → z .processor ≤ m
+      → R .fails (A (inOrder b u) (inOrder b z)) ≡ false
   unfolding failsIn
   fails-to A e u z p q =
       let o = inOrder-in b m u p in
@@ -144,7 +150,8 @@ module _ {X H W : Type 0} (R : Rules X H W) (b m : ℕ) (M : ℕ → ℕ → X) 
       let j : b + (inOrder b z - b) ≡ inOrder b z = omega (arith, o′) in
       rw (i, j) at (any-to (2 * suc m) _ (any-to (2 * suc m) _ e (inOrder b u - b) (omega (arith, o))) (inOrder b z - b) (omega (arith, o′)))
 
-  fails-from : (A : ℕ → ℕ → X) → ((u z : Slot) → u .processor ≤ m → z .processor ≤ m → R .fails (A (inOrder b u) (inOrder b z)) ≡ false) → failsIn R b (2 * suc m) A ≡ false
+  fails-from : (A : ℕ → ℕ → X) → ((u z : Slot) → u .processor ≤ m → z .processor ≤ m → R .fails (A (inOrder b u) (inOrder b z)) ≡ false)
+      → failsIn R b (2 * suc m) A ≡ false
   unfolding failsIn
   fails-from A f =
       any-from (2 * suc m) _ (λ r o. any-from (2 * suc m) _ (λ c o′.

@@ -1,4 +1,3 @@
-pub mod Bounded
 pub mod Cells
 pub mod Movement
 pub mod Lines

@@ -6,8 +6,9 @@ use native.Mathlib.Omega.{arith}
 use native.Mathlib.Nat.{div-add-mod', add-comm}
 use borrow.Author.Tests.{eqb-true, eqb-false, eq-eqb}
 use lib.Dec.{eqb}
-use Rattle.systolic.specs.Slots.{Side, left, right, Slot, slot, next, prior, nextBy, lineAt, inOrderAt, inOrder, count, meetIn, meetAt, Meet, in-order, reversed}
-use Rattle.systolic.proofs.Bounded.{any-hit, any-find, count-one}
+use Rattle.systolic.specs.Slots.{Side, left, right, Slot, slot, next, prior, nextBy, lineAt, inOrderAt, inOrder, meetIn, meetAt, Meet, in-order, reversed}
+use Rattle.lists.specs.Bounded.{count}
+use Rattle.lists.proofs.Bounded.{any-hit, any-find, count-one}
 use Rattle.systolic.proofs.Movement.{prior-next, next-prior, prior-le, nextBy-le, period, nextBy-one, meets}
 
 abbrev pub Distinct : ℕ → (Slot → ℕ) → Type 0
@@ -132,7 +133,8 @@ pub lines-meet-once : (l : Slot → ℕ) (m : ℕ) (one : Distinct m l) (z : ℕ
     → count (λ s. meetAt l m (z + s) (l u) (l w)) (2 * m + 1) ≡ 1
 lines-meet-once l m one z u w h k n =
     let f = lines-meet l m one z u w h k n in
-    count-one (λ s. meetAt l m (z + s) (l u) (l w)) (2 * m + 1) (f .0) (f .1) (meet-test l m (z + f .0) (l u) (l w) (f .2)) (λ t o e. f .3 t o (test-meet l m (z + t) (l u) (l w) e))
+    count-one (λ s. meetAt l m (z + s) (l u) (l w)) (2 * m + 1) (f .0) (f .1) (meet-test l m (z + f .0) (l u) (l w) (f .2))
+    (λ t o e. f .3 t o (test-meet l m (z + t) (l u) (l w) e))
 
 -- ---- the lines b to b + 2 N - 1 in order
 inOrderAt-one : (b : ℕ) (h g : Side) (i j : ℕ) → inOrderAt b h i ≡ inOrderAt b g j → slot i h ≡ slot j g

@@ -7,7 +7,8 @@ use lib.Dec.{eqb}
 use Rattle.systolic.specs.Slots.{Side}
 use Rattle.systolic.specs.Blocks.{Block, cell, pick}
 use Rattle.systolic.specs.Synchronous.{Operations}
-use Rattle.systolic.specs.Tiles.{distance, Tile, joined, Action, idle, first, rotate, second, third, final, stepAt, turnTile, newCells, newParameter, newTile, tickTile}
+use Rattle.systolic.specs.Tiles.{distance, Tile, joined, Action, idle, first, rotate, second}
+use Rattle.systolic.specs.Tiles.{third, final, stepAt, turnTile, newCells, newParameter, newTile, tickTile}
 use Rattle.systolic.specs.Arrays.{nearer, incoming, tick}
 use Rattle.systolic.proofs.Cells.{tab-ext}
 use Rattle.systolic.proofs.Wires.{joined-le, nearer-ok}
@@ -35,7 +36,8 @@ module _ {X H W : Type 0} (S : Operations X H W) (k i j : ℕ) (h h′ : H) (v v
   cells-same third b x = refl
   cells-same final b x = refl
 
-parameter-same : {X P : Type 0} (s : Block X → P) (i j : ℕ) (h h′ o : P) → (¬ (i ≡ j) → h ≡ h′) → (a : Action) (b x : Block X) → newParameter s i j a b x h o ≡ newParameter s i j a b x h′ o
+parameter-same : {X P : Type 0} (s : Block X → P) (i j : ℕ) (h h′ o : P) → (¬ (i ≡ j) → h ≡ h′) → (a : Action) (b x : Block X)
+    → newParameter s i j a b x h o ≡ newParameter s i j a b x h′ o
 unfolding newParameter
 parameter-same s i j h h′ o f idle b x = refl
 parameter-same s i j h h′ o f first b x = off-diagonal i j _ h h′ f
@@ -48,7 +50,11 @@ pub tile-same : {X H W : Type 0} (S : Operations X H W) (m k i j : ℕ) (a : Act
     → (¬ (i ≡ j) → h ≡ h′) → (¬ (i ≡ j) → v ≡ v′) → newTile S m k i j a o x h v ≡ newTile S m k i j a o x h′ v′
 unfolding newTile
 tile-same S m k i j a o x h h′ v v′ f g =
-    rw (cells-same S k i j h h′ v v′ f g a (o .cells) x, parameter-same (S .sendsRow k i) i j h h′ (o .rowLine) f a (o .cells) x, parameter-same (S .sendsColumn k i) i j v v′ (o .columnLine) g a (o .cells) x)
+    rw (
+      cells-same S k i j h h′ v v′ f g a (o .cells) x,
+      parameter-same (S .sendsRow k i) i j h h′ (o .rowLine) f a (o .cells) x,
+      parameter-same (S .sendsColumn k i) i j v v′ (o .columnLine) g a (o .cells) x,
+    )
 
 -- Two arrays are alike in one tile and in the lines that lead to it: no parameter line leads to a diagonal tile.
 pub record Alike {X H W : Type 0} (m : ℕ) (A B : ℕ → ℕ → Tile X H W) (i j : ℕ) : Type 0 where
@@ -58,7 +64,8 @@ pub record Alike {X H W : Type 0} (m : ℕ) (A B : ℕ → ℕ → Tile X H W) (
   pub column : ¬ (i ≡ j) → A (nearer j i) j .columnLine ≡ B (nearer j i) j .columnLine
 
 -- They are alike in that tile, and so in its outgoing lines, after the tick.
-pub neighbourhood : {X H W : Type 0} (S : Operations X H W) (m K t : ℕ) (A B : ℕ → ℕ → Tile X H W) (i j : ℕ) → Alike m A B i j → tick S m K t A i j ≡ tick S m K t B i j
+pub neighbourhood : {X H W : Type 0} (S : Operations X H W) (m K t : ℕ) (A B : ℕ → ℕ → Tile X H W) (i j : ℕ) → Alike m A B i j
+    → tick S m K t A i j ≡ tick S m K t B i j
 unfolding tick tickTile incoming
 neighbourhood S m K t A B i j e =
     rw (e .tile, tab-ext _ _ (e .lines)) (tile-same S m (stepAt (distance i j) t) i j _ _ _ _ _ _ _ (e .row) (e .column))

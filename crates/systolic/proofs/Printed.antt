@@ -26,7 +26,8 @@ joined-twice m left zero l = refl
 joined-twice m left (suc i) l = rw (ne-eqb i m (λ e. omega arith))
 joined-twice m right i l = go (eqb i m) refl
   where
-    go : (b : Bool) → eqb i m ≡ b → joined m (cond b (slot m right) (slot (suc i) left) .side) (cond b (slot m right) (slot (suc i) left) .processor) ≡ slot i right
+    go : (b : Bool) → eqb i m ≡ b
+        → joined m (cond b (slot m right) (slot (suc i) left) .side) (cond b (slot m right) (slot (suc i) left) .processor) ≡ slot i right
     go true e = let w : i ≡ m = eqb-true _ _ e in rw (eq-eqb m m refl) (ap (λ x. slot x right) (sym w))
     go false e = refl
 

@@ -8,10 +8,12 @@ use lib.Dec.{eqb}
 use Rattle.systolic.specs.Slots.{Side, slot}
 use Rattle.systolic.specs.Blocks.{Block, cell, pick}
 use Rattle.systolic.specs.Synchronous.{Operations, rotateAll, moveAll, blocksAt, rotatedAt, rowParameter, columnParameter}
-use Rattle.systolic.specs.Tiles.{distance, Tile, carried, joined, phaseOf, Action, idle, first, rotate, second, third, final, actionAt, stepAt, turnTile, newCells, newParameter, phaseIn, newLines, newTile, tickTile}
+use Rattle.systolic.specs.Tiles.{distance, Tile, carried, joined, phaseOf, Action, idle, first, rotate, second, third}
+use Rattle.systolic.specs.Tiles.{final, actionAt, stepAt, turnTile, newCells, newParameter, phaseIn, newLines, newTile, tickTile}
 use Rattle.systolic.specs.Arrays.{nearer, incoming, tick, arrayAfter}
 use Rattle.systolic.proofs.Cells.{cell-tab, tab-ext}
-use Rattle.systolic.proofs.Clock.{View, waiting, starting, rotating, setting-second, setting-third, finishing, finished, stepless, view, writes-at, at-writes}
+use Rattle.systolic.proofs.Clock.{View, waiting, starting, rotating, setting-second, setting-third}
+use Rattle.systolic.proofs.Clock.{finishing, finished, stepless, view, writes-at, at-writes}
 use Rattle.systolic.proofs.Wires.{link, joined-le, InTime, in-time, phase-lt, nearer-ok}
 
 same : (Q : ℕ → Type 0) (k n : ℕ) → k ≡ n → Q n → Q k
@@ -32,19 +34,22 @@ module _ {X H W : Type 0} (S : Operations X H W) (m K : ℕ) where
   AllKnown t = (i j : ℕ) → i ≤ m → j ≤ m → Known t i j (arrayAfter S m K t i j)
 
   -- a rotation, from what it reads
-  turned : (k i j : ℕ) (b : Block X) (h : H) (v : W) → b ≡ blocksAt S m k i j → (¬ (i ≡ j) → h ≡ rowParameter S m k i) → (¬ (i ≡ j) → v ≡ columnParameter S m k j)
+  turned : (k i j : ℕ) (b : Block X) (h : H) (v : W) → b ≡ blocksAt S m k i j → (¬ (i ≡ j) → h ≡ rowParameter S m k i)
+      → (¬ (i ≡ j) → v ≡ columnParameter S m k j)
       → turnTile S k i j h v b ≡ rotatedAt S m k i j
   unfolding turnTile rotatedAt rotateAll rowParameter columnParameter
   turned k i j b h v e f g = go (eqb i j) refl
     where
       go : (t : Bool) → eqb i j ≡ t
           → cond t (S .diagonal k i b) (S .offDiagonal k i j h v b)
-          ≡ cond t (S .diagonal k i (blocksAt S m k i i)) (S .offDiagonal k i j (S .sendsRow k i (blocksAt S m k i i)) (S .sendsColumn k j (blocksAt S m k j j)) (blocksAt S m k i j))
+          ≡ cond t (S .diagonal k i (blocksAt S m k i i))
+          (S .offDiagonal k i j (S .sendsRow k i (blocksAt S m k i i)) (S .sendsColumn k j (blocksAt S m k j j)) (blocksAt S m k i j))
       go true z = let w : i ≡ j = eqb-true _ _ z in rw (e, ← w)
       go false z = rw (e, f (eqb-false _ _ z), g (eqb-false _ _ z))
 
   -- a parameter line, whose parameter in step k is that of processor c: i along a row, j along a column
-  sent : {P : Type 0} (f : ℕ → ℕ → Block X → P) (c k i j : ℕ) (b : Block X) (p : P) → (i ≡ j → (i ≡ c) × (j ≡ c)) → b ≡ blocksAt S m k i j → (¬ (i ≡ j) → p ≡ f k c (blocksAt S m k c c))
+  sent : {P : Type 0} (f : ℕ → ℕ → Block X → P) (c k i j : ℕ) (b : Block X) (p : P) → (i ≡ j → (i ≡ c) × (j ≡ c)) → b ≡ blocksAt S m k i j
+      → (¬ (i ≡ j) → p ≡ f k c (blocksAt S m k c c))
       → cond (eqb i j) (f k i b) p ≡ f k c (blocksAt S m k c c)
   sent f c k i j b p o e g = go (eqb i j) refl
     where
@@ -57,17 +62,20 @@ module _ {X H W : Type 0} (S : Operations X H W) (m K : ℕ) where
     unfolding incoming blocksAt moveAll pick slot rotatedAt
     reads k i j p q l e =
         tab-ext _ _ (λ h g.
-        let z : InTime (distance (joined m h i .processor) (joined m g j .processor)) (phaseOf m (joined m h i .side) (joined m g j .side) (joined m h i .processor) (joined m g j .processor)) (distance i j)
+        let z : InTime (distance (joined m h i .processor) (joined m g j .processor))
+        (phaseOf m (joined m h i .side) (joined m g j .side) (joined m h i .processor) (joined m g j .processor)) (distance i j)
         = in-time m h g i j p q in
         rw (link m h i, link m g j)
-        (all (joined m h i .processor) (joined m g j .processor) (joined-le m h i p) (joined-le m g j q) .line (joined m h i .side) (joined m g j .side) k l (omega arith) (omega arith)))
+        (all (joined m h i .processor) (joined m g j .processor) (joined-le m h i p) (joined-le m g j q) .line
+        (joined m h i .side) (joined m g j .side) k l (omega arith) (omega arith)))
 
     row-in : (k i j : ℕ) → i ≤ m → j ≤ m → k < K → t ≡ distance i j + 3 * k → ¬ (i ≡ j) → arrayAfter S m K t i (nearer i j) .rowLine ≡ rowParameter S m k i
     row-in k i j p q l e n =
         let z : (nearer i j ≤ m) × (suc (distance i (nearer i j)) ≡ distance i j) = nearer-ok m i j p q n in
         all i (nearer i j) p (z .0) .row k l (omega arith) (omega arith)
 
-    column-in : (k i j : ℕ) → i ≤ m → j ≤ m → k < K → t ≡ distance i j + 3 * k → ¬ (i ≡ j) → arrayAfter S m K t (nearer j i) j .columnLine ≡ columnParameter S m k j
+    column-in : (k i j : ℕ) → i ≤ m → j ≤ m → k < K → t ≡ distance i j + 3 * k → ¬ (i ≡ j)
+        → arrayAfter S m K t (nearer j i) j .columnLine ≡ columnParameter S m k j
     column-in k i j p q l e n =
         let z : (nearer j i ≤ m) × (suc (distance j (nearer j i)) ≡ distance j i) = nearer-ok m j i q p (λ w. n (sym w)) in
         all (nearer j i) j (z .0) q .column k l (omega arith) (omega arith)
@@ -77,7 +85,9 @@ module _ {X H W : Type 0} (S : Operations X H W) (m K : ℕ) where
       old = arrayAfter S m K t i j
 
       abbrev fresh : Action → Block X
-      fresh a = newCells S (stepAt (distance i j) t) i j a (old .cells) (incoming m (arrayAfter S m K t) i j) (arrayAfter S m K t i (nearer i j) .rowLine) (arrayAfter S m K t (nearer j i) j .columnLine)
+      fresh a =
+          newCells S (stepAt (distance i j) t) i j a (old .cells) (incoming m (arrayAfter S m K t) i j)
+          (arrayAfter S m K t i (nearer i j) .rowLine) (arrayAfter S m K t (nearer j i) j .columnLine)
 
       abbrev now : ℕ
       now = stepAt (distance i j) t
@@ -101,7 +111,8 @@ module _ {X H W : Type 0} (S : Operations X H W) (m K : ℕ) where
 
       later-rotation : (k : ℕ) → t ≡ distance i j + 3 * suc k → suc k < K → fresh rotate ≡ rotatedAt S m (suc k) i j
       unfolding newCells
-      later-rotation k e z = rw (step-later k e) (turned (suc k) i j _ _ _ (reads k i j pi pj (omega arith) e) (row-in (suc k) i j pi pj z e) (column-in (suc k) i j pi pj z e))
+      later-rotation k e z =
+          rw (step-later k e) (turned (suc k) i j _ _ _ (reads k i j pi pj (omega arith) e) (row-in (suc k) i j pi pj z e) (column-in (suc k) i j pi pj z e))
 
       new-before : (a : Action) → View K (distance i j) t a → suc t ≤ distance i j → fresh a ≡ S .initial i j
       unfolding newCells
@@ -114,7 +125,8 @@ module _ {X H W : Type 0} (S : Operations X H W) (m K : ℕ) where
       new-before idle (finished w) l = absurd (omega arith)
       new-before idle (stepless w z) l = absurd (omega arith)
 
-      new-during : (a : Action) → View K (distance i j) t a → (k : ℕ) → k < K → distance i j + 3 * k < suc t → suc t ≤ distance i j + 3 * suc k → fresh a ≡ rotatedAt S m k i j
+      new-during : (a : Action) → View K (distance i j) t a → (k : ℕ) → k < K → distance i j + 3 * k < suc t → suc t ≤ distance i j + 3 * suc k
+          → fresh a ≡ rotatedAt S m k i j
       unfolding newCells
       new-during idle (waiting w) k l x y = absurd (omega arith)
       new-during first (starting w z) k l x y = same (λ n. fresh first ≡ rotatedAt S m n i j) k 0 (omega arith) (first-rotation z w)
@@ -166,7 +178,8 @@ module _ {X H W : Type 0} (S : Operations X H W) (m K : ℕ) where
               → cond b (cell (carried i r) (carried j s) (fresh a)) (cell r s (old .lines)) ≡ cell (carried i r) (carried j s) (rotatedAt S m k i j)
           go true e =
               let f : phaseOf m r s i j < 3 = phase-lt m r s i j in
-              let z : (n : ℕ) × (n < K) × (t ≡ distance i j + phaseOf m r s i j + 3 * n) = writes-at K (distance i j) t (phaseOf m r s i j) a w f (eqb-true _ _ e) in
+              let z : (n : ℕ) × (n < K) × (t ≡ distance i j + phaseOf m r s i j + 3 * n) =
+              writes-at K (distance i j) t (phaseOf m r s i j) a w f (eqb-true _ _ e) in
               ap (cell (carried i r) (carried j s)) (new-during a w k l (omega arith) (omega arith))
           go false e =
               let f : phaseOf m r s i j < 3 = phase-lt m r s i j in
@@ -183,7 +196,8 @@ module _ {X H W : Type 0} (S : Operations X H W) (m K : ℕ) where
             after = new-after (actionAt K (distance i j) t) w;
             line = new-line (actionAt K (distance i j) t) w;
             row = new-parameter (S .sendsRow) i _ _ (λ e. (refl, sym e)) (λ k l. row-in k i j pi pj l) (all i j pi pj .row) (actionAt K (distance i j) t) w;
-            column = new-parameter (S .sendsColumn) j _ _ (λ e. (e, refl)) (λ k l. column-in k i j pi pj l) (all i j pi pj .column) (actionAt K (distance i j) t) w;
+            column =
+                new-parameter (S .sendsColumn) j _ _ (λ e. (e, refl)) (λ k l. column-in k i j pi pj l) (all i j pi pj .column) (actionAt K (distance i j) t) w;
           }
 
   pub all-known : (t : ℕ) → AllKnown t

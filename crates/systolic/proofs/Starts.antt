@@ -4,7 +4,8 @@ use mathlib.Core.Path.{_≡_, refl}
 use Rattle.systolic.specs.Slots.{Slot}
 use Rattle.systolic.specs.Blocks.{Block}
 use Rattle.systolic.specs.Sequential.{Rules, operationsOf}
-use Rattle.systolic.specs.Tiles.{distance, Tile, Action, idle, first, rotate, second, third, final, stepAt, actionAt, turnTile, newCells, newParameter, newTile, tickTile}
+use Rattle.systolic.specs.Tiles.{distance, Tile, Action, idle, first, rotate, second, third}
+use Rattle.systolic.specs.Tiles.{final, stepAt, actionAt, turnTile, newCells, newParameter, newTile, tickTile}
 use Rattle.systolic.specs.Arrays.{incoming, tick}
 
 module _ {X H W : Type 0} (R : Rules X H W) (l l′ : Slot → ℕ) (M M′ : ℕ → ℕ → X) (x x′ : X) (h h′ : H) (w w′ : W) where
@@ -18,6 +19,7 @@ module _ {X H W : Type 0} (R : Rules X H W) (l l′ : Slot → ℕ) (M M′ : �
   tile-any-start m k i j third o b p v = refl
   tile-any-start m k i j final o b p v = refl
 
-  pub tick-any-start : (m K t : ℕ) (A : ℕ → ℕ → Tile X H W) (i j : ℕ) → tick (operationsOf R l M x h w) m K t A i j ≡ tick (operationsOf R l′ M′ x′ h′ w′) m K t A i j
+  pub tick-any-start : (m K t : ℕ) (A : ℕ → ℕ → Tile X H W) (i j : ℕ)
+      → tick (operationsOf R l M x h w) m K t A i j ≡ tick (operationsOf R l′ M′ x′ h′ w′) m K t A i j
   unfolding tick tickTile
   tick-any-start m K t A i j = tile-any-start m (stepAt (distance i j) t) i j (actionAt K (distance i j) t) (A i j) (incoming m A i j) _ _

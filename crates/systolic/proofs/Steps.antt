@@ -8,9 +8,10 @@ use lib.Dec.{ltb, eqb}
 use Rattle.systolic.specs.Slots.{Side, left, right, Slot, slot}
 use Rattle.systolic.specs.Blocks.{Block, cell, tab}
 use Rattle.systolic.specs.Synchronous.{rotateAll}
-use Rattle.systolic.specs.Sequential.{Rules, turnRows, turnColumns, pairBlock, place, pairStep, pairsStep, blockAt, turnBlockRows, turnBlockColumns, operationsOf}
+use Rattle.systolic.specs.Sequential.{Rules, turnRows, turnColumns, pairBlock, place, pairStep}
+use Rattle.systolic.specs.Sequential.{pairsStep, blockAt, turnBlockRows, turnBlockColumns, operationsOf}
 use Rattle.systolic.proofs.Cells.{cell-tab, tab-ext, tab-cell}
-use Rattle.systolic.proofs.Bounded.{up-to}
+use Rattle.lists.proofs.Bounded.{up-to}
 use Rattle.systolic.proofs.Lines.{Distinct}
 
 -- the one line or the other
@@ -81,7 +82,8 @@ module _ {X H W : Type 0} (R : Rules X H W) (k m : ℕ) (L : Slot → ℕ) (one 
     step-none : (i j : ℕ) → i ≤ m → j ≤ m → ¬ (i ≡ n) → ¬ (j ≡ n) → blockAt L (acted n M) i j ≡ blockAt L M i j
     unfolding blockAt
     step-none i j h g d e =
-        tab-ext _ _ (λ r s. pair-none R k n _ _ (ends n l) M _ _ (other n i l h d r left) (other n i l h d r right) (other n j l g e s left) (other n j l g e s right))
+        tab-ext _ _ (λ r s. pair-none R k n _ _ (ends n l) M _ _
+        (other n i l h d r left) (other n i l h d r right) (other n j l g e s left) (other n j l g e s right))
 
     step-row : (j : ℕ) → j ≤ m → ¬ (j ≡ n) → blockAt L (acted n M) n j ≡ turnBlockRows R (R .sendsRow k n (blockAt L M n n)) (blockAt L M n j)
     unfolding turnBlockRows
@@ -100,7 +102,8 @@ module _ {X H W : Type 0} (R : Rules X H W) (k m : ℕ) (L : Slot → ℕ) (one 
     step-diagonal : blockAt L (acted n M) n n ≡ R .diagonal k n (blockAt L M n n)
     step-diagonal =
         rw (← (pair-block n M))
-        (unfold blockAt in (tab-ext _ _ (λ r s. pair-cells R k n _ _ (ends n l) M r s _ _ (end-of n r) (end-of n s)) ∙ tab-cell (R .diagonal k n (pairBlock (L (slot n left)) (L (slot n right)) M))))
+        (unfold blockAt in (tab-ext _ _ (λ r s. pair-cells R k n _ _ (ends n l) M r s _ _ (end-of n r) (end-of n s))
+        ∙ tab-cell (R .diagonal k n (pairBlock (L (slot n left)) (L (slot n right)) M))))
 
   -- ---- the first n pairs, one after the other
   module _ (M : ℕ → ℕ → X) where
@@ -126,7 +129,8 @@ module _ {X H W : Type 0} (R : Rules X H W) (k m : ℕ) (L : Slot → ℕ) (one 
       row-turned j g d b e = step-row n l A j g d ∙ ap (λ x. turnBlockRows R (R .sendsRow k n x) (blockAt L A n j)) here ∙ ap (turnBlockRows R (h n)) e
 
       column-turned : (i : ℕ) → i ≤ m → ¬ (i ≡ n) → (b : Block X) → blockAt L A i n ≡ b → blockAt L (acted n A) i n ≡ turnBlockColumns R (v n) b
-      column-turned i g d b e = step-column n l A i g d ∙ ap (λ x. turnBlockColumns R (R .sendsColumn k n x) (blockAt L A i n)) here ∙ ap (turnBlockColumns R (v n)) e
+      column-turned i g d b e =
+          step-column n l A i g d ∙ ap (λ x. turnBlockColumns R (R .sendsColumn k n x) (blockAt L A i n)) here ∙ ap (turnBlockColumns R (v n)) e
 
       diagonal-turned : blockAt L (acted n A) n n ≡ R .diagonal k n (blockAt L M n n)
       diagonal-turned = rw (← here) (step-diagonal n l A)
@@ -179,7 +183,8 @@ module _ {X H W : Type 0} (R : Rules X H W) (k m : ℕ) (L : Slot → ℕ) (one 
         z = mid (suc m) (omega arith)
 
         go : (b c : Bool) → eqb i j ≡ b → ltb i j ≡ c
-            → cond b (R .diagonal k i (blockAt L M i i)) (cond c (turnBlockColumns R (v j) (turnBlockRows R (h i) (blockAt L M i j))) (turnBlockRows R (h i) (turnBlockColumns R (v j) (blockAt L M i j))))
+            → cond b (R .diagonal k i (blockAt L M i i))
+            (cond c (turnBlockColumns R (v j) (turnBlockRows R (h i) (blockAt L M i j))) (turnBlockRows R (h i) (turnBlockColumns R (v j) (blockAt L M i j))))
             ≡ blockAt L (pairsStep R k L (suc m) M) i j
         go true c e f = let w : i ≡ j = eqb-true _ _ e in rw (← w) (sym (z .diagonal i p (omega arith)))
         go false true e f = let w : i < j = ltb-true _ _ f in sym (z .upper i j q w (omega arith))

@@ -10,7 +10,7 @@ use Rattle.systolic.specs.Blocks.{Block}
 use Rattle.systolic.specs.Synchronous.{Operations, blocksAt, rotatedAt}
 use Rattle.systolic.specs.Tiles.{distance, Action, idle, first, rotate, second, third, final, actionAt, newTile, tickTile}
 use Rattle.systolic.specs.Arrays.{tick, arrayAfter}
-use Rattle.systolic.proofs.Bounded.{up-to, or-false, false-or}
+use Rattle.lists.proofs.Bounded.{up-to, or-false, false-or}
 use Rattle.systolic.proofs.Clock.{View, waiting, starting, rotating, setting-second, setting-third, finishing, finished, stepless, view}
 use Rattle.systolic.proofs.Skew.{all-known}
 
@@ -30,47 +30,47 @@ module _ {X H W : Type 0} (S : Operations X H W) (m K : ℕ) where
   pub cells-end : (i j : ℕ) → i ≤ m → j ≤ m → arrayAfter S m K (3 * K + suc m) i j .cells ≡ blocksAt S m K i j
   cells-end i j p q = all-known S m K (3 * K + suc m) i j p q .after (omega arith)
 
-  marks : (t i j : ℕ) → arrayAfter S m K t i j .mark ≡ false → (T : ℕ) → T < t → S .bad (arrayAfter S m K (suc T) i j .cells) ≡ false
+  marks : (t i j : ℕ) → arrayAfter S m K t i j .mark ≡ false → (T : ℕ) → T < t → S .fails (arrayAfter S m K (suc T) i j .cells) ≡ false
   unfolding arrayAfter tick tickTile newTile
   marks zero i j e T l = absurd (omega arith)
   marks (suc t) i j e T l =
-      let w : (arrayAfter S m K t i j .mark ≡ false) × (S .bad (arrayAfter S m K (suc t) i j .cells) ≡ false)
-      = or-false (arrayAfter S m K t i j .mark) (S .bad (arrayAfter S m K (suc t) i j .cells)) e in
-      up-to (λ n. S .bad (arrayAfter S m K (suc n) i j .cells) ≡ false) t T l (marks t i j (w .0) T) (w .1)
+      let w : (arrayAfter S m K t i j .mark ≡ false) × (S .fails (arrayAfter S m K (suc t) i j .cells) ≡ false)
+      = or-false (arrayAfter S m K t i j .mark) (S .fails (arrayAfter S m K (suc t) i j .cells)) e in
+      up-to (λ n. S .fails (arrayAfter S m K (suc n) i j .cells) ≡ false) t T l (marks t i j (w .0) T) (w .1)
 
-  unmarked : (t i j : ℕ) → ((T : ℕ) → T < t → S .bad (arrayAfter S m K (suc T) i j .cells) ≡ false) → arrayAfter S m K t i j .mark ≡ false
+  unmarked : (t i j : ℕ) → ((T : ℕ) → T < t → S .fails (arrayAfter S m K (suc T) i j .cells) ≡ false) → arrayAfter S m K t i j .mark ≡ false
   unfolding arrayAfter tick tickTile newTile
   unmarked zero i j f = refl
   unmarked (suc t) i j f = false-or _ _ (unmarked t i j (λ T l. f T (omega arith))) (f t (omega arith))
 
   -- ---- the mark: no cell that the tile held at the end of a tick was bad
   pub record Fine (i j : ℕ) : Type 0 where
-    pub start : 0 < distance i j → S .bad (S .initial i j) ≡ false
-    pub turns : (k : ℕ) → k < K → S .bad (rotatedAt S m k i j) ≡ false
-    pub end : S .bad (blocksAt S m K i j) ≡ false
+    pub start : 0 < distance i j → S .fails (S .initial i j) ≡ false
+    pub turns : (k : ℕ) → k < K → S .fails (rotatedAt S m k i j) ≡ false
+    pub end : S .fails (blocksAt S m K i j) ≡ false
 
   unmarked-fine : (i j : ℕ) → i ≤ m → j ≤ m → arrayAfter S m K (3 * K + suc m) i j .mark ≡ false → Fine i j
   unmarked-fine i j p q e =
       record {
-        start = λ z. ap (S .bad) (sym (cells-before 0 i j p q z)) ∙ marks _ i j e 0 (omega arith);
+        start = λ z. ap (S .fails) (sym (cells-before 0 i j p q z)) ∙ marks _ i j e 0 (omega arith);
         turns = λ k l.
-            ap (S .bad) (sym (cells-during (distance i j + 3 * k) k i j p q (omega arith) (omega arith) (omega arith)))
+            ap (S .fails) (sym (cells-during (distance i j + 3 * k) k i j p q (omega arith) (omega arith) (omega arith)))
             ∙ marks _ i j e (distance i j + 3 * k) (omega arith);
-        end = ap (S .bad) (sym (cells-after (3 * K + m) i j p q (omega arith))) ∙ marks _ i j e (3 * K + m) (omega arith);
+        end = ap (S .fails) (sym (cells-after (3 * K + m) i j p q (omega arith))) ∙ marks _ i j e (3 * K + m) (omega arith);
       }
 
   fine-unmarked : (i j : ℕ) → i ≤ m → j ≤ m → Fine i j → arrayAfter S m K (3 * K + suc m) i j .mark ≡ false
   fine-unmarked i j p q f = unmarked (3 * K + suc m) i j (λ T l. go T (ltb T (distance i j)) (ltb T (distance i j + 3 * K)) refl refl)
     where
-      go : (T : ℕ) (b c : Bool) → ltb T (distance i j) ≡ b → ltb T (distance i j + 3 * K) ≡ c → S .bad (arrayAfter S m K (suc T) i j .cells) ≡ false
+      go : (T : ℕ) (b c : Bool) → ltb T (distance i j) ≡ b → ltb T (distance i j + 3 * K) ≡ c → S .fails (arrayAfter S m K (suc T) i j .cells) ≡ false
       go T true c e e′ =
-          let w : T < distance i j = ltb-true _ _ e in ap (S .bad) (cells-before T i j p q w) ∙ f .start (omega arith)
+          let w : T < distance i j = ltb-true _ _ e in ap (S .fails) (cells-before T i j p q w) ∙ f .start (omega arith)
       go T false true e e′ =
           let w : distance i j ≤ T = ltb-false _ _ e in
           let w′ : T < distance i j + 3 * K = ltb-true _ _ e′ in
-          ap (S .bad) (cells-during T ((T - distance i j) / 3) i j p q w w′ refl) ∙ f .turns ((T - distance i j) / 3) (omega arith)
+          ap (S .fails) (cells-during T ((T - distance i j) / 3) i j p q w w′ refl) ∙ f .turns ((T - distance i j) / 3) (omega arith)
       go T false false e e′ =
-          let w : distance i j + 3 * K ≤ T = ltb-false _ _ e′ in ap (S .bad) (cells-after T i j p q w) ∙ f .end
+          let w : distance i j + 3 * K ≤ T = ltb-false _ _ e′ in ap (S .fails) (cells-after T i j p q w) ∙ f .end
 
   pub marks-fine : ((i j : ℕ) → i ≤ m → j ≤ m → arrayAfter S m K (3 * K + suc m) i j .mark ≡ false)
       ↔ ((i j : ℕ) → i ≤ m → j ≤ m → Fine i j)
@@ -78,7 +78,8 @@ module _ {X H W : Type 0} (S : Operations X H W) (m K : ℕ) where
 
   -- ---- the cells in one equation
   pub cellsExpected : ℕ → ℕ → ℕ → Block X
-  cellsExpected T i j = cond (ltb T (distance i j)) (S .initial i j) (cond (ltb T (distance i j + 3 * K)) (rotatedAt S m ((T - distance i j) / 3) i j) (blocksAt S m K i j))
+  cellsExpected T i j =
+      cond (ltb T (distance i j)) (S .initial i j) (cond (ltb T (distance i j + 3 * K)) (rotatedAt S m ((T - distance i j) / 3) i j) (blocksAt S m K i j))
 
   pub skew : (T i j : ℕ) → i ≤ m → j ≤ m → arrayAfter S m K (suc T) i j .cells ≡ cellsExpected T i j
   unfolding cellsExpected

@@ -24,7 +24,8 @@ module _ {X H W : Type 0} (S : Operations X H W) (k i j : ℕ) (o : Tile X H W) 
   tile-kept final e = absurd (true≢false e)
 
 -- ---- a parameter line of a tile that does not rotate
-pub parameter-kept : {X P : Type 0} (f : Block X → P) (i j : ℕ) (a : Action) (b ins : Block X) (p old : P) → rotates a ≡ false → newParameter f i j a b ins p old ≡ old
+pub parameter-kept : {X P : Type 0} (f : Block X → P) (i j : ℕ) (a : Action) (b ins : Block X) (p old : P) → rotates a ≡ false
+    → newParameter f i j a b ins p old ≡ old
 unfolding newParameter
 parameter-kept f i j idle b ins p old e = refl
 parameter-kept f i j first b ins p old e = absurd (true≢false e)

@@ -18,7 +18,8 @@ link m left (suc (suc i)) = refl
 link m right i = go (eqb i m) m
   where
     go : (b : Bool) (n : ℕ) → cond b (intoLast n) (slot (suc i) right)
-        ≡ slot (cond b (slot n right) (slot (suc i) left) .processor) (carried (cond b (slot n right) (slot (suc i) left) .processor) (cond b (slot n right) (slot (suc i) left) .side))
+        ≡ slot (cond b (slot n right) (slot (suc i) left) .processor)
+        (carried (cond b (slot n right) (slot (suc i) left) .processor) (cond b (slot n right) (slot (suc i) left) .side))
     go true zero = refl
     go true (suc n) = refl
     go false n = refl
@@ -82,7 +83,8 @@ right-right m i j p q false true e e' =
 right-right m i j p q false false e e' = omega arith
 
 pub in-time : (m : ℕ) (h g : Side) (i j : ℕ) → i ≤ m → j ≤ m
-    → InTime (distance (joined m h i .processor) (joined m g j .processor)) (phaseOf m (joined m h i .side) (joined m g j .side) (joined m h i .processor) (joined m g j .processor)) (distance i j)
+    → InTime (distance (joined m h i .processor) (joined m g j .processor))
+    (phaseOf m (joined m h i .side) (joined m g j .side) (joined m h i .processor) (joined m g j .processor)) (distance i j)
 unfolding joined phaseOf slot
 in-time m left left zero zero p q = omega arith
 in-time m left left zero (suc j) p q = by-lt j 0 _ _ (omega arith) (omega arith)

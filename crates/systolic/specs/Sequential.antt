@@ -3,7 +3,8 @@
 use Prim.Native.Nat.{ℕ, zero, suc, _+_}
 use mathlib.Core.Bool.{Bool, cond, _||_}
 use lib.Dec.{ltb, eqb}
-use Rattle.systolic.specs.Slots.{Side, left, right, Slot, slot, lineAt, any}
+use Rattle.systolic.specs.Slots.{Side, left, right, Slot, slot, lineAt}
+use Rattle.lists.specs.Bounded.{any}
 use Rattle.systolic.specs.Blocks.{Block, cell, tab}
 use Rattle.systolic.specs.Synchronous.{Operations}
 
@@ -85,5 +86,5 @@ operationsOf R l M x h w =
       sendsRow = R .sendsRow;
       sendsColumn = R .sendsColumn;
       offDiagonal = λ k i j p q b. cond (ltb i j) (turnBlockColumns R q (turnBlockRows R p b)) (turnBlockRows R p (turnBlockColumns R q b));
-      bad = anyFails R;
+      fails = anyFails R;
     }

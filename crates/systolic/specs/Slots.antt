@@ -2,8 +2,9 @@
 -- There are N = m + 1 processors. They are numbered from 0 here, so document 01's processor k is k - 1.
 use Prim.Native.Nat.{ℕ, zero, suc, _+_, _*_, _≤_}
 use mathlib.Core.Path.{_≡_}
-use mathlib.Core.Bool.{Bool, false, cond, _||_, _&&_}
+use mathlib.Core.Bool.{Bool, cond, _||_, _&&_}
 use lib.Dec.{eqb}
+use Rattle.lists.specs.Bounded.{any}
 
 -- The left or the right register of a processor. Of a wire, the end that points to lower or to higher processors.
 pub data Side : Type 0 where
@@ -65,16 +66,6 @@ inOrderAt b right i = 2 * i + 1 + b
 unfoldable pub inOrder : ℕ → Slot → ℕ
 unfolding inOrderAt
 inOrder b u = inOrderAt b (u .side) (u .processor)
-
--- how many s below n pass a test
-unfoldable pub count : (ℕ → Bool) → ℕ → ℕ
-count f zero = 0
-count f (suc n) = cond (f n) 1 0 + count f n
-
--- whether some number below n passes a test
-unfoldable pub any : ℕ → (ℕ → Bool) → Bool
-any zero f = false
-any (suc n) f = any n f || f n
 
 -- The lines p and q stand in the two registers of processor i at step s.
 unfoldable pub meetIn : (Slot → ℕ) → ℕ → ℕ → ℕ → ℕ → ℕ → Bool

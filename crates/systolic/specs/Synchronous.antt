@@ -16,7 +16,7 @@ pub record Operations (X H W : Type 0) : Type 0 where
   pub sendsRow : ℕ → ℕ → Block X → H
   pub sendsColumn : ℕ → ℕ → Block X → W
   pub offDiagonal : ℕ → ℕ → ℕ → H → W → Block X → Block X
-  pub bad : Block X → Bool
+  pub fails : Block X → Bool
 
 -- all blocks s rotated in step k
 unfoldable pub rotateAll : {X H W : Type 0} → Operations X H W → ℕ → (ℕ → ℕ → Block X) → ℕ → ℕ → Block X

@@ -113,7 +113,7 @@ settledTile S m i j a x =
       lines = newLines m i j a (x .cells) (x .lines);
       rowLine = x .rowLine;
       columnLine = x .columnLine;
-      mark = x .mark || S .bad (x .cells);
+      mark = x .mark || S .fails (x .cells);
     }
 
 unfoldable pub newTile : {X H W : Type 0} → Operations X H W → ℕ → ℕ → ℕ → ℕ → Action → Tile X H W → Block X → H → W → Tile X H W

@@ -1,12 +1,12 @@
 // Makes the calls of document 01, "Entries to try", in its order, and writes what each answers and leaves. Results are lent filled with 9.
 // tools/entries_to_try.py writes the expected output.
+use array_run::Completion;
+use ordering::Registers;
+use root::Root;
+use sheet_reader::Reading;
 use test_io::refusals;
 use test_io::runs::LIMIT;
 use test_io::values;
-use ordering::Registers;
-use sheet_reader::Reading;
-use root::Root;
-use array_run::Completion;
 
 const LARGEST: u64 = 0x7FEF_FFFF_FFFF_FFFF;
 
@@ -185,12 +185,14 @@ fn write_reading(bytes: &[u8]) -> bool {
 fn write_sizes(reading: Reading) -> bool {
     match reading {
         Reading::Read(n, sweeps) => {
-            test_io::print_number(b"order", n as u64) && test_io::print_number(b"sweeps", sweeps as u64)
+            test_io::print_number(b"order", n as u64)
+                && test_io::print_number(b"sweeps", sweeps as u64)
         }
         Reading::Refused(refused) => refusals::print_refusal(refused),
     }
 }
 
 fn write_codes(codes: [u8; 2]) -> bool {
-    test_io::print_number(b"code", codes[0] as u64) && test_io::print_number(b"code", codes[1] as u64)
+    test_io::print_number(b"code", codes[0] as u64)
+        && test_io::print_number(b"code", codes[1] as u64)
 }

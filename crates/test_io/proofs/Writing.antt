@@ -2,25 +2,14 @@
 use mathlib.Core.Path.{_≡_, refl}
 use mathlib.Core.Bool.{Bool, true, false}
 use mathlib.Core.List.{List, [], _∷_, _++_, append-assoc}
-use Prim.Native.Nat.{ℕ, suc, _+_, _-_, _/_, _%_, _^_, _<_, _≤_}
+use Prim.Native.Nat.{ℕ, _+_, _-_, _^_, _<_, _≤_}
 use native.Mathlib.Nat.{pow-le-pow-right}
 use native.Mathlib.Omega.{arith}
 use borrow.Author.Tests.{ltb-true, ltb-false}
 use lib.Dec.{ltb, lit<}
-use lib.ListN.{length, take, drop, set, length-append}
-use lib.Seq.{take-at, take-length, length-take-le, drop-cons, append-snoc, drop-set-lt, getD-set-same, lt-length-set}
+use lib.ListN.{length, take, length-append}
+use lib.Seq.{take-at, take-length, length-take-le}
 use Rattle.io.specs.Digits.{Fewest}
-use Rattle.test_io.specs.Lines.{codeOf, hexOf}
-
--- what stands from a place on once it is written
-from-set : (l : List ℕ) (i a : ℕ) → i < length l → drop i (set l i a) ≡ a ∷ drop (suc i) l
-from-set l i a h = rw (drop-cons (set l i a) i 0 (lt-length-set l i a h), getD-set-same l i a 0 h, drop-set-lt (suc i) l i a (omega arith))
-
--- a digit more, from the end
-pub one-digit : (l : List ℕ) (rest i : ℕ) → i < length l
-    → hexOf i (rest / 16) ++ drop i (set l i (codeOf (rest % 16))) ≡ hexOf (suc i) rest ++ drop (suc i) l
-unfolding hexOf
-one-digit l rest i h = rw (from-set l i (codeOf (rest % 16)) h, append-snoc)
 
 -- a line whose bytes from at on are a text and more
 pub begun : (line text x y : List ℕ) (at : ℕ) → at ≤ length line

@@ -2,30 +2,21 @@
 use mathlib.Core.Path.{_≡_}
 use mathlib.Core.Bool.{cond}
 use mathlib.Core.List.{List, [], _∷_, _++_}
-use Prim.Native.Nat.{ℕ, zero, suc, _+_, _-_, _*_, _/_, _%_}
+use Prim.Native.Nat.{ℕ, zero, suc, _+_, _-_, _*_}
 use lib.Dec.{ltb, leb, eqb}
 use lib.ListN.{length, take, getD}
+use Rattle.text.specs.Text.{hexOf, newline}
 use Rattle.io.specs.Digits.{digits, Fewest}
 use Rattle.test_io.specs.declared.Line.{Line}
 use Rattle.test_io.specs.declared.Line.the-variants.{Word, End}
-
--- The code of a digit below 16: `0` to `9`, then `A` to `F`.
-abbrev pub codeOf : ℕ → ℕ
-codeOf d = cond (ltb d 10) (48 + d) (55 + d)
 
 -- The digit that b is the code of, and 16 where it is none's.
 unfoldable pub digitOf : ℕ → ℕ
 digitOf b = cond (ltb b 48) 16 (cond (leb b 57) (b - 48) (cond (ltb b 65) 16 (cond (leb b 70) (b - 55) 16)))
 
--- The last k hexadecimal digits of n, the highest first.
-unfoldable pub hexOf : ℕ → ℕ → List ℕ
-hexOf zero n = []
-hexOf (suc k) n = hexOf k (n / 16) ++ (codeOf (n % 16) ∷ [])
-
 -- The line of n: 16 digits and a newline.
 unfoldable pub lineOf : ℕ → List ℕ
-unfolding hexOf
-lineOf n = hexOf 16 n ++ (10 ∷ [])
+lineOf n = hexOf 16 n ++ newline
 
 -- What is read so far, and the digit after it.
 unfoldable pub then : Line → ℕ → Line

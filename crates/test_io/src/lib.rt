@@ -5,7 +5,7 @@ ghost use mathlib.Core.Path.{_≡_};
 ghost use Prim.Native.Nat.{_+_, _<_, _≤_};
 ghost use lib.ListN.{length, take};
 ghost use Rattle.io.specs.Counts.{Counts};
-ghost use Rattle.test_io.specs.Lines.{codeOf, digitOf, lineOf, wordOf, Extended, Numbered};
+ghost use Rattle.test_io.specs.Lines.{digitOf, lineOf, wordOf, Extended, Numbered};
 use libc::STDIN_FILENO;
 use libc::STDOUT_FILENO;
 
@@ -70,13 +70,7 @@ fn spell(n: u64) -> [u8; 17]
     ensures { λ r. ⌜ r ≡ lineOf n ⌝ }
 {
     let mut line = [b'\n'; 17];
-    let mut rest = n;
-    let mut i = 16;
-    while i > 0 {
-        i -= 1;
-        line[i] = code(rest % 16);
-        rest /= 16;
-    }
+    text::put_hex(n, 0, &mut line);
     line
 }
 
@@ -119,15 +113,4 @@ fn digit(b: u8) -> u64
         return (b - b'A' + 10) as u64;
     }
     16
-}
-
-// The code of the digit d.
-fn code(d: u64) -> u8
-    requires { ⌜ d < 16 ⌝ }
-    ensures { λ r. ⌜ r ≡ codeOf d ⌝ }
-{
-    if d < 10 {
-        return b'0' + d as u8;
-    }
-    b'A' - 10 + d as u8
 }

@@ -3,9 +3,10 @@
 // left 1 to 8, left 9 to 16, right 1 to 8, right 9 to 16.
 // tools/ordering_vectors.py writes the input and the expected output.
 ghost use Prim.Native.Nat.{_^_, _<_, _≤_};
+use ordering::Registers;
+use sizes::MOST_PROCESSORS;
 use test_io::Line;
 use test_io::refusals;
-use ordering::Registers;
 
 // A proved loop has to end, so it counts its turns down, from a number that no run uses up.
 fn main() {
@@ -33,19 +34,19 @@ fn print_registers(registers: Registers) -> bool {
     print_row(&registers.left) && print_row(&registers.right)
 }
 
-fn print_row(row: &[usize; 16]) -> bool {
+fn print_row(row: &[usize; MOST_PROCESSORS]) -> bool {
     test_io::print_word(eight(row, 0)) && test_io::print_word(eight(row, 8))
 }
 
 // The eight registers of a row from the index first on, the first of them in the highest byte.
-fn eight(row: &[usize; 16], first: usize) -> u64
+fn eight(row: &[usize; MOST_PROCESSORS], first: usize) -> u64
     requires { ⌜ first ≤ 8 ⌝ }
 {
     four(row, first) * 0x1_0000_0000 + four(row, first + 4)
 }
 
 // The four registers of a row from the index first on.
-fn four(row: &[usize; 16], first: usize) -> u64
+fn four(row: &[usize; MOST_PROCESSORS], first: usize) -> u64
     requires { ⌜ first ≤ 12 ⌝ }
     ensures { λ r. ⌜ r < 2 ^ 32 ⌝ }
 {

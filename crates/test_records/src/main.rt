@@ -1,12 +1,13 @@
 // Reads calls for the records of a step, one word to a line: the order, the length of the matrix, the step, the length of a lent row, the
-// word that the row is filled with, and the matrix. Writes for each the refusal of a row of that length, if it is
-// refused, the refusal of a row of 16 records, and the words of these.
+// word that the row is filled with, and the matrix. Writes for each the refusal of a row of that length, if it is refused, the refusal of a
+// row for the most processors, and the words of its records.
 // tools/records_vectors.py writes the input and the expected output.
+use sizes::MOST_PROCESSORS;
+use step_records::Record;
 use test_io::Line;
 use test_io::refusals;
 use test_io::runs::LIMIT;
 use test_io::values;
-use step_records::Record;
 
 // A proved loop has to end, so it counts its turns down, from a number that no input uses up.
 fn main() {
@@ -61,14 +62,14 @@ fn answer(n: usize, step: usize, room: usize, fill: f64, matrix: &mut [f64]) -> 
         c: fill,
         s: fill,
     };
-    let recorded = step_records::in_row(n, matrix, step, [filled; 16]);
-    let told = recorded.answer;
+    let recorded = step_records::in_row(n, matrix, step, [filled; MOST_PROCESSORS]);
+    let answered = recorded.answer;
     let row = recorded.row;
-    refusals::print_answer(verdict) && refusals::print_answer(told) && print_row(row)
+    refusals::print_answer(verdict) && refusals::print_answer(answered) && print_row(row)
 }
 
-fn print_row(row: [Record; 16]) -> bool {
-    for k in 0..16 {
+fn print_row(row: [Record; MOST_PROCESSORS]) -> bool {
+    for k in 0..MOST_PROCESSORS {
         let record = row[k];
         if !print_record(record) {
             return false;

@@ -1,9 +1,9 @@
 // Reads bit patterns, one to a line, and writes the bits of the square root of each, or its refusal.
 // tools/root_vectors.py writes the input and the expected output.
+use root::Root;
 use test_io::Line;
 use test_io::refusals;
 use test_io::values;
-use root::Root;
 
 // A proved loop has to end, so it counts its turns down, from a number that no run uses up.
 fn main() {

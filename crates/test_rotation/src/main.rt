@@ -1,10 +1,10 @@
 // Reads the bit patterns of a = a_pp, d = a_qq and b = a_pq of each pair, one to a line, and writes
 // its parameters: still, or the bits of the tangent, the cosine and the sine, one to a line.
 // tools/rotation_vectors.py writes the input and the expected output.
-use test_io::Line;
-use test_io::values;
 use libc::STDOUT_FILENO;
 use rotation::Parameters;
+use test_io::Line;
+use test_io::values;
 
 // A proved loop has to end, so it counts its turns down, from a number that no run uses up.
 fn main() {

@@ -1,12 +1,12 @@
 // Runs by plain sweeps and whole runs by the array, lent alike: the head of each, as test_io::runs has it, and the matrix. The answer is the
 // refusal, if it is refused, with its row and column where it has them, or the number of the array's ticks, and in each case the result
 // and the vectors.
+use array_run::Completion;
 use test_io::refusals;
 use test_io::runs;
 use test_io::runs::Head;
 use test_io::runs::LIMIT;
 use test_io::values;
-use array_run::Completion;
 
 // Lends a run parts of its own buffers, the results filled.
 pub fn answer_run(by_array: bool) -> bool {

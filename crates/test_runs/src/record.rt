@@ -1,11 +1,13 @@
 // What is written of a record: the order, the sweeps, the tick, and some of the tiles. Of a tile: its cells, the
 // lines that leave by its corners, those that leave along its row and its column, and its mark.
 use array::Array;
+use sizes::MOST_PROCESSORS;
+use sizes::MOST_TILES;
 use test_io::values;
+use tile::Tile;
+use tile_schedule::Progress;
 use tile_wires::Part;
 use tile_wires::Quad;
-use tile_schedule::Progress;
-use tile::Tile;
 
 // What a tick answered, as a number.
 pub fn number_of(progress: Progress) -> u64 {
@@ -21,13 +23,13 @@ pub fn print_in_use(array: Array) -> bool {
     print_sizes(array.n, array.sweeps, array.tick) && print_tiles(array)
 }
 
-// Writes a record with its tiles P_11, P_12, P_21 and P_16,16.
+// Writes a record with its tiles P_11, P_12, P_21 and the last.
 pub fn print_sample(array: Array) -> bool {
     print_sizes(array.n, array.sweeps, array.tick)
         && print_tile(array.tiles[0])
         && print_tile(array.tiles[1])
-        && print_tile(array.tiles[16])
-        && print_tile(array.tiles[255])
+        && print_tile(array.tiles[MOST_PROCESSORS])
+        && print_tile(array.tiles[MOST_TILES - 1])
 }
 
 fn print_sizes(n: usize, sweeps: usize, tick: usize) -> bool {
@@ -38,10 +40,10 @@ fn print_sizes(n: usize, sweeps: usize, tick: usize) -> bool {
 
 // Writes the tiles in use.
 fn print_tiles(array: Array) -> bool {
-    let processors = array.n / 2;
-    for k in 0..256 {
+    let processors = sizes::processors_of(array.n);
+    for k in 0..MOST_TILES {
         let tile = array.tiles[k];
-        if !print_if_in_use(processors, k / 16, k % 16, tile) {
+        if !print_if_in_use(processors, k / MOST_PROCESSORS, k % MOST_PROCESSORS, tile) {
             return false;
         }
     }

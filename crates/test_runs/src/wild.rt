@@ -2,11 +2,12 @@
 // holds. The answer is what the tick answered, the number of the refusal if it is refused, and the record.
 use crate::record;
 use array::Array;
+use sizes::MOST_TILES;
 use test_io::Line;
+use tile::Tile;
+use tile_schedule::Progress;
 use tile_wires::Part;
 use tile_wires::Quad;
-use tile_schedule::Progress;
-use tile::Tile;
 
 pub fn answer_tick() -> bool {
     let Line::Word(n) = test_io::read_word() else {
@@ -49,7 +50,7 @@ fn filled(n: usize, sweeps: usize, tick: usize, value: f64) -> Array {
         n: n,
         sweeps: sweeps,
         tick: tick,
-        tiles: [tile; 256],
+        tiles: [tile; MOST_TILES],
     }
 }
 

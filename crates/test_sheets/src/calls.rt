@@ -1,8 +1,8 @@
 // The calls: what they take is read into the lent buffers, and then what they answer and give is written.
 use crate::packed;
+use sheet_reader::Reading;
 use test_io::refusals;
 use test_io::values;
-use sheet_reader::Reading;
 
 // Of a writing the order and the sweeps.
 pub enum Call {

@@ -5,7 +5,8 @@ use mathlib.Core.Bool.{Bool, cond}
 use mathlib.Core.List.{List, [], _∷_}
 use lib.Dec.{eqb}
 use Rattle.systolic.specs.Slots.{Side, left, right, flip, Slot, slot, moved, intoLast, cameFrom, next, prior, nextBy, lineAt, inOrder}
-use Rattle.systolic.specs.Slots.{any, meetIn, meetAt}
+use Rattle.systolic.specs.Slots.{meetIn, meetAt}
+use Rattle.lists.specs.Bounded.{any}
 use Rattle.systolic.specs.Blocks.{Block, cell, tab, pick}
 use Rattle.systolic.specs.Synchronous.{rotateAll, moveAll, blocksAt, rotatedAt, rowParameter, columnParameter}
 use Rattle.systolic.specs.Tiles.{Tile, carried, joined, phaseOf, action, actionAt, stepAt, turnTile}

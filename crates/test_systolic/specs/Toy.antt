@@ -80,5 +80,5 @@ stampedArray =
       sendsRow = alongRow;
       sendsColumn = alongColumn;
       offDiagonal = stamp;
-      bad = anyFails toy;
+      fails = anyFails toy;
     }

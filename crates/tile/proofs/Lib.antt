@@ -1,4 +1,4 @@
-pub mod Working
-pub mod Wiring
-pub mod Ticking
-pub mod Joining
+pub mod TileWork
+pub mod LinesSet
+pub mod TileTick
+pub mod CellsBrought

@@ -8,25 +8,28 @@ use Rattle.systolic.specs.Synchronous.{Operations}
 use Rattle.systolic.specs.Sequential.{operationsOf}
 use Rattle.systolic.specs.Tiles as theory
 use Rattle.systolic.specs.Tiles.{joined}
+use Rattle.tile_wires.specs.declared.Quad.{Quad}
 use Rattle.tile_wires.specs.declared.Part.{Part}
-use Rattle.plain_run.specs.Cells.{Cell, cell, rules}
+use Rattle.sizes.specs.Sizes.{firstLine}
+use Rattle.runs.specs.Cells.{Cell, cell, cellsOf, Setting, rules}
 use Rattle.tile.specs.declared.Tile.{Tile}
 
+-- Four values of the code as a block, and a block as four values.
+abbrev pub quadBlock : Quad → Block Float
+quadBlock q = record { α = q .alpha; β = q .beta; γ = q .gamma; δ = q .delta }
+
+abbrev pub quadOf : Block Float → Quad
+quadOf b = record { alpha = b .α; beta = b .β; gamma = b .γ; delta = b .δ }
+
 unfoldable pub blockOf : Part → Block Cell
-blockOf p =
-    record {
-      α = cell (p .matrix .alpha) (p .vectors .alpha);
-      β = cell (p .matrix .beta) (p .vectors .beta);
-      γ = cell (p .matrix .gamma) (p .vectors .gamma);
-      δ = cell (p .matrix .delta) (p .vectors .delta);
-    }
+blockOf p = cellsOf (quadBlock (p .matrix)) (quadBlock (p .vectors))
 
 unfoldable pub theTile : Tile → theory.Tile Cell Float Float
 theTile x = record { cells = blockOf (x .cells); lines = blockOf (x .lines); rowLine = x .row; columnLine = x .column; mark = x .mark }
 
--- What the tiles do, by the rules of the plain run. A tick does not look at the start.
-unfoldable pub operations : Operations Cell Float Float
-operations = operationsOf rules (inOrder 1) (λ r c. cell plusZero plusZero) (cell plusZero plusZero) plusZero plusZero
+-- What the tiles do, by the rules of any run. A tick does not look at the start.
+unfoldable pub operations : Setting → Operations Cell Float Float
+operations s = operationsOf (rules s) (inOrder (firstLine (s .order))) (λ r c. cell plusZero plusZero) (cell plusZero plusZero) plusZero plusZero
 
 -- What the lines bring to tile (i, j), where a, b, c and d are the lines of the tiles that its corners are joined with.
 unfoldable pub broughtTo : ℕ → ℕ → ℕ → Block Cell → Block Cell → Block Cell → Block Cell → Block Cell

@@ -3,16 +3,18 @@ use Prim.Native.Nat.{ℕ}
 use mathlib.Core.Bool.{Bool, not, cond, _||_}
 use lib.Dec.{eqb, ltb}
 use lib.Ieee.{Float}
-use Rattle.float64.specs.Values.{plusZero, finite}
+use Rattle.float64.specs.Values.{finite}
 use Rattle.systolic.specs.Tiles.{Action}
 use Rattle.systolic.specs.Traffic.{rotates, readsCells}
 use Rattle.tile_wires.specs.declared.Quad.{Quad}
 use Rattle.tile_wires.specs.declared.Part.{Part}
 use Rattle.rotation.specs.declared.Angle.{Angle}
 use Rattle.rotation.specs.declared.Parameters.{Parameters}
-use Rattle.rotation.specs.Rotation.{ofAngle, ofPair, sent, diagonalOf, turnOf}
+use Rattle.rotation.specs.Rotation.{ofAngle, sent, turnOf}
+use Rattle.runs.specs.Blocks.{blockParameters, matrixBlock, columnsBlock}
 use Rattle.tile.specs.declared.Tile.{Tile}
 use Rattle.tile.specs.declared.cells.Work.{Work}
+use Rattle.tile.specs.Tiles.{quadBlock, quadOf}
 
 unfoldable pub rowsTurned : Parameters → Quad → Quad
 rowsTurned P q =
@@ -24,13 +26,7 @@ rowsTurned P q =
     }
 
 unfoldable pub columnsTurned : Parameters → Quad → Quad
-columnsTurned P q =
-    record {
-      alpha = turnOf P (q .alpha) (q .beta) .left;
-      beta = turnOf P (q .alpha) (q .beta) .right;
-      gamma = turnOf P (q .gamma) (q .delta) .left;
-      delta = turnOf P (q .gamma) (q .delta) .right;
-    }
+columnsTurned P q = quadOf (columnsBlock P (quadBlock q))
 
 unfoldable pub bothTurned : Parameters → Parameters → Bool → Quad → Quad
 bothTurned R C above q = cond above (columnsTurned C (rowsTurned R q)) (rowsTurned R (columnsTurned C q))
@@ -41,18 +37,13 @@ offDiagonalOf p above row column =
 
 -- The parameters of the part on the diagonal.
 abbrev pub quadParameters : Quad → Parameters
-quadParameters q = ofPair (q .alpha) (q .delta) (q .beta)
+quadParameters q = blockParameters (quadBlock q)
 
 unfoldable pub onDiagonalOf : Part → Work
 onDiagonalOf p =
     record {
       cells = record {
-        matrix = record {
-          alpha = diagonalOf (quadParameters (p .matrix)) (p .matrix .alpha) (p .matrix .delta) (p .matrix .beta) .left;
-          beta = plusZero;
-          gamma = plusZero;
-          delta = diagonalOf (quadParameters (p .matrix)) (p .matrix .alpha) (p .matrix .delta) (p .matrix .beta) .right;
-        };
+        matrix = quadOf (matrixBlock (quadParameters (p .matrix)) (quadBlock (p .matrix)));
         vectors = columnsTurned (quadParameters (p .matrix)) (p .vectors);
       };
       row = sent (quadParameters (p .matrix));
@@ -71,14 +62,14 @@ abbrev pub workedOf : Action → Part → ℕ → ℕ → Angle → Angle → Fl
 workedOf a p i j row column r c = cond (rotates a) (rotatedOf p i j row column) (record { cells = p; row = r; column = c })
 
 -- The tile with its cells and its parameter lines as they are after the tick.
-abbrev pub tileWith : Tile → Work → Tile
-tileWith x w = record { cells = w .cells; lines = x .lines; row = w .row; column = w .column; mark = x .mark }
+abbrev pub tileWorked : Tile → Work → Tile
+tileWorked x w = record { cells = w .cells; lines = x .lines; row = w .row; column = w .column; mark = x .mark }
 
 unfoldable pub turnedOf : Action → Tile → Part → ℕ → ℕ → Angle → Angle → Tile
-turnedOf a x q i j row column = tileWith x (workedOf a (takenOf a (x .cells) q) i j row column (x .row) (x .column))
+turnedOf a x q i j row column = tileWorked x (workedOf a (takenOf a (x .cells) q) i j row column (x .row) (x .column))
 
 unfoldable pub quadNotFinite : Quad → Bool
 quadNotFinite q = not (finite (q .alpha)) || (not (finite (q .beta)) || (not (finite (q .gamma)) || not (finite (q .delta))))
 
-unfoldable pub someNotFinite : Part → Bool
-someNotFinite p = quadNotFinite (p .matrix) || quadNotFinite (p .vectors)
+unfoldable pub partNotFinite : Part → Bool
+partNotFinite p = quadNotFinite (p .matrix) || quadNotFinite (p .vectors)

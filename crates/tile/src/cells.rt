@@ -2,12 +2,13 @@
 ghost use mathlib.Core.Path.{_≡_};
 ghost use mathlib.Core.Bool.{_||_};
 ghost use Rattle.tile_schedule.specs.Schedule.{theAction};
-ghost use Rattle.tile.specs.Turned.{rowsTurned, columnsTurned, bothTurned, offDiagonalOf, onDiagonalOf, rotatedOf, takenOf, workedOf, someNotFinite, quadNotFinite};
-use tile_wires::Part;
-use tile_wires::Quad;
+ghost use Rattle.tile.specs.Turned.{rowsTurned, columnsTurned, bothTurned, offDiagonalOf, onDiagonalOf, rotatedOf, takenOf, workedOf};
+ghost use Rattle.tile.specs.Turned.{partNotFinite, quadNotFinite};
 use rotation::Angle;
 use rotation::Parameters;
 use tile_schedule::Action;
+use tile_wires::Part;
+use tile_wires::Quad;
 
 // The cells of a tile after its work, and what its parameter lines carry.
 pub struct Work {
@@ -82,7 +83,7 @@ pub fn on_diagonal(part: Part) -> Work
         matrix: matrix,
         vectors: vectors,
     };
-    let tangent = rotation::passed_on(parameters);
+    let tangent = rotation::sent(parameters);
     Work {
         cells: cells,
         row: tangent,
@@ -146,7 +147,7 @@ pub fn turn_columns(parameters: Parameters, q: Quad) -> Quad
 
 // Whether a tile is marked after a tick that leaves it the given cells.
 pub fn is_marked(mark: bool, cells: Part) -> bool
-    ensures { λ r. ⌜ r ≡ (mark || someNotFinite cells) ⌝ }
+    ensures { λ r. ⌜ r ≡ (mark || partNotFinite cells) ⌝ }
 {
     if mark {
         return true;

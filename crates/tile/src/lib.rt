@@ -2,10 +2,11 @@
 ghost use mathlib.Core.Path.{_≡_};
 ghost use Rattle.systolic.specs.Tiles.{distance, actionAt, settledTile};
 ghost use Rattle.tile_wires.specs.Lines.{incomingPart};
+ghost use Rattle.runs.specs.Cells.{Setting};
 ghost use Rattle.tile.specs.Tiles.{theTile, operations};
 ghost use Rattle.tile.specs.Turned.{turnedOf};
-use tile_wires::Part;
 use rotation::Angle;
+use tile_wires::Part;
 
 mod cells;
 
@@ -49,9 +50,9 @@ impl Tile {
         }
     }
 
-    // A turned tile with its cell lines and its mark as they are after the tick; `last` is the last row and column.
+    // A turned tile with its cell lines and its mark as they are after the tick, whatever the run's setting; `last` is the last row and column.
     pub fn after(self, last: usize, steps: usize, tick: usize, i: usize, j: usize) -> Tile
-        ensures { λ r. ⌜ theTile r ≡ settledTile operations last i j (actionAt steps (distance i j) tick) (theTile self) ⌝ }
+        ensures { λ r. ⌜ ((s : Setting) → theTile r ≡ settledTile (operations s) last i j (actionAt steps (distance i j) tick) (theTile self)) ⌝ }
     {
         let phase = tile_schedule::phase_in(tile_schedule::action_at(steps, i, j, tick));
         let cells = self.cells;

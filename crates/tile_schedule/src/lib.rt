@@ -3,7 +3,8 @@ ghost use mathlib.Core.Path.{_≡_};
 ghost use Rattle.systolic.specs.Tiles.{distance, action, actionAt, phaseIn};
 ghost use Rattle.systolic.specs.Traffic.{rotates, readsCells, changesCells};
 ghost use Rattle.tile_schedule.specs.Schedule.{theAction, inStep};
-ghost use Rattle.tile_schedule.specs.Answers.{toldProgress, progressOf, leftOf};
+ghost use Rattle.tile_schedule.specs.Answers.{progressAnswered, progressOf, leftOf};
+use refusal::Answer;
 use refusal::Refusal;
 
 // Nothing; the first rotation, which reads no cells; a later one; the two phases after a rotation; the last reading.
@@ -134,15 +135,15 @@ fn in_step(since: usize) -> Action
 
 // What a tick of an array with this order, these sweeps and this tick answers.
 pub fn answer_to(n: usize, sweeps: usize, tick: usize) -> Progress
-    ensures { λ r. ⌜ toldProgress r ≡ progressOf n sweeps tick ⌝ }
+    ensures { λ r. ⌜ progressAnswered r ≡ progressOf n sweeps tick ⌝ }
 {
-    if ordering::is_no_order(n) {
-        return Progress::Refused(Refusal::Order);
+    match sizes::tested(n, sweeps) {
+        Answer::Accepted => {}
+        Answer::Refused(refused) => {
+            return Progress::Refused(refused);
+        }
     }
-    if sweeps > 16 {
-        return Progress::Refused(Refusal::Sweeps);
-    }
-    if tick < 3 * (sweeps * (n - 1)) + n / 2 {
+    if tick < sizes::ticks_of(n, sweeps) {
         return Progress::Made;
     }
     Progress::Stopped
@@ -153,7 +154,7 @@ pub fn ticks_left(n: usize, sweeps: usize, tick: usize) -> usize
     ensures { λ r. ⌜ r ≡ leftOf n sweeps tick ⌝ }
 {
     match answer_to(n, sweeps, tick) {
-        Progress::Made => 3 * (sweeps * (n - 1)) + n / 2 - tick,
+        Progress::Made => sizes::ticks_of(n, sweeps) - tick,
         Progress::Stopped => 0,
         Progress::Refused(_) => 0,
     }

@@ -1,5 +1,5 @@
 -- Document 01, "The array": the tiles at the start. Definitions only.
-use Prim.Native.Nat.{ℕ, _+_, _*_, _/_}
+use Prim.Native.Nat.{ℕ, _+_, _*_}
 use mathlib.Core.Bool.{false, cond, _&&_}
 use mathlib.Core.List.{List}
 use lib.Dec.{ltb}
@@ -8,16 +8,17 @@ use Rattle.float64.specs.Values.{plusZero}
 use Rattle.tile_wires.specs.declared.Quad.{Quad}
 use Rattle.tile_wires.specs.declared.Part.{Part}
 use Rattle.tile_wires.specs.Lines.{quad}
+use Rattle.sizes.specs.Sizes.{processorsOf}
 use Rattle.matrix.specs.Matrix.{entryOf}
-use Rattle.plain_run.specs.State.{identity}
+use Rattle.runs.specs.State.{identity}
 use Rattle.tile.specs.declared.Tile.{Tile}
 
 unfoldable pub zeroPart : Part
 zeroPart = record { matrix = quad plusZero plusZero plusZero plusZero; vectors = quad plusZero plusZero plusZero plusZero }
 
 -- A tile with the given cells, its lines at +0, not marked.
-unfoldable pub tileWith : Part → Tile
-tileWith p = record { cells = p; lines = zeroPart; row = plusZero; column = plusZero; mark = false }
+unfoldable pub startingTile : Part → Tile
+startingTile p = record { cells = p; lines = zeroPart; row = plusZero; column = plusZero; mark = false }
 
 -- The part of A at the row registers i and the column registers j, both from 0.
 unfoldable pub quadAt : (ℕ → ℕ → Float) → ℕ → ℕ → Quad
@@ -29,4 +30,4 @@ partAt n l i j = record { matrix = quadAt (entryOf n l) i j; vectors = quadAt id
 
 -- The tile in row i and column j at the start: zeros where it is not in use.
 unfoldable pub startTile : ℕ → List Float → ℕ → ℕ → Tile
-startTile n l i j = tileWith (cond (ltb i (n / 2) && ltb j (n / 2)) (partAt n l i j) zeroPart)
+startTile n l i j = startingTile (cond (ltb i (processorsOf n) && ltb j (processorsOf n)) (partAt n l i j) zeroPart)

@@ -1,21 +1,24 @@
 // The tiles at the start (document 01, "The array").
 ghost use mathlib.Core.Path.{_≡_};
-ghost use Prim.Native.Nat.{_+_, _*_, _<_};
+ghost use Prim.Native.Nat.{_<_};
 ghost use Rattle.matrix.specs.Matrix.{entryOf};
-ghost use Rattle.plain_run.specs.State.{identity};
-ghost use Rattle.tile_start.specs.Beginning.{zeroPart, tileWith, quadAt, startTile};
+ghost use Rattle.sizes.specs.Sizes.{mostProcessors};
+ghost use Rattle.runs.specs.State.{identity};
+ghost use Rattle.tile_start.specs.Beginning.{zeroPart, startingTile, quadAt, startTile};
+use tile::Tile;
 use tile_wires::Part;
 use tile_wires::Quad;
-use tile::Tile;
 
 // The tile in row i and column j of an array for a matrix of order n: zeros where it is not in use.
 pub fn tile_at(n: usize, i: usize, j: usize, matrix: &[f64]) -> Tile
+    requires { ⌜ (i < mostProcessors) × (j < mostProcessors) ⌝ }
     ensures { λ r. ⌜ r ≡ startTile n (now (matrix .entry)) i j ⌝ }
 {
-    if i >= n / 2 {
+    let processors = sizes::processors_of(n);
+    if i >= processors {
         return zero_tile();
     }
-    if j >= n / 2 {
+    if j >= processors {
         return zero_tile();
     }
     tile_with(Part {
@@ -26,14 +29,14 @@ pub fn tile_at(n: usize, i: usize, j: usize, matrix: &[f64]) -> Tile
 
 // Zeros only.
 pub fn zero_tile() -> Tile
-    ensures { λ r. ⌜ r ≡ tileWith zeroPart ⌝ }
+    ensures { λ r. ⌜ r ≡ startingTile zeroPart ⌝ }
 {
     tile_with(zero_part())
 }
 
 // A tile with these cells, its lines at +0, not marked.
 fn tile_with(cells: Part) -> Tile
-    ensures { λ r. ⌜ r ≡ tileWith cells ⌝ }
+    ensures { λ r. ⌜ r ≡ startingTile cells ⌝ }
 {
     let lines = zero_part();
     Tile {
@@ -62,7 +65,7 @@ fn zero_part() -> Part
 
 // The part of a matrix at the row registers i and the column registers j.
 fn entries_at(n: usize, i: usize, j: usize, matrix: &[f64]) -> Quad
-    requires { ⌜ (2 * i + 1 < n) × (2 * j + 1 < n) ⌝ }
+    requires { ⌜ (i < mostProcessors) × (j < mostProcessors) ⌝ }
     ensures { λ r. ⌜ r ≡ quadAt (entryOf n (now (matrix .entry))) i j ⌝ }
 {
     let row = 2 * i + 1;
@@ -77,15 +80,15 @@ fn entries_at(n: usize, i: usize, j: usize, matrix: &[f64]) -> Quad
 
 // The like part of the identity of order n.
 fn identity_at(n: usize, i: usize, j: usize) -> Quad
-    requires { ⌜ (2 * i + 1 < n) × (2 * j + 1 < n) ⌝ }
+    requires { ⌜ (i < mostProcessors) × (j < mostProcessors) ⌝ }
     ensures { λ r. ⌜ r ≡ quadAt identity i j ⌝ }
 {
     let row = 2 * i + 1;
     let column = 2 * j + 1;
     Quad {
-        alpha: plain_run::identity(row, column),
-        beta: plain_run::identity(row, column + 1),
-        gamma: plain_run::identity(row + 1, column),
-        delta: plain_run::identity(row + 1, column + 1),
+        alpha: runs::identity(row, column),
+        beta: runs::identity(row, column + 1),
+        gamma: runs::identity(row + 1, column),
+        delta: runs::identity(row + 1, column + 1),
     }
 }

@@ -1,5 +1,5 @@
 use mathlib.Core.Path.{sym, ap, _∙_}
-use Rattle.refusal.specs.Refusal.{toldAnswer}
+use Rattle.refusal.specs.Answers.{answered}
 use Rattle.array_run.proofs.Whole.{whole-refused, whole-accepted}
 use borrow.Author.Needs.{needs}
 use Rattle.array_run.proofs.run.Statement.{statement}
@@ -14,7 +14,7 @@ enum-told c = search needs
 run-accepted-requires : tie.Need-run-accepted-requires
 run-accepted-requires c κs =
     let k = c .before .before in
-    sym (ap toldAnswer (sym (k .enum-told .given .1)) ∙ k .before .before .verdict .ensures)
+    sym (ap answered (sym (k .enum-told .given .1)) ∙ k .before .before .verdict .ensures)
 
 enum-known-refused : tie.Need-enum-known-refused
 enum-known-refused c = search needs
@@ -29,12 +29,12 @@ returns : tie.Need-returns
 returns c =
     let s = c .before .before .before .before in
     let k = s .before .before .before in
-    whole-accepted _ _ _ _ _ (ap toldAnswer (sym (k .enum-told .given .1)) ∙ k .before .before .verdict .ensures) (s .run-accepted .ensures)
+    whole-accepted _ _ _ _ _ (ap answered (sym (k .enum-told .given .1)) ∙ k .before .before .verdict .ensures) (s .run-accepted .ensures)
 
 returns-2 : tie.Need-returns-2
 returns-2 c =
     let k = c .before in
-    whole-refused _ _ _ _ _ (ap toldAnswer (sym (k .refused .given .1)) ∙ k .before .before .verdict .ensures)
+    whole-refused _ _ _ _ _ (ap answered (sym (k .refused .given .1)) ∙ k .before .before .verdict .ensures)
 
 pub run-spec : {M : Type 1} → statement M
 run-spec =

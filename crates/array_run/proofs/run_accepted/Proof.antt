@@ -1,43 +1,34 @@
 use mathlib.Core.Path.{_≡_, ap, _∙_}
-use native.Mathlib.Omega.{arith}
-use lib.ListN.{length}
-use Rattle.plain_run.proofs.Outcomes.{Begins, begins}
-use Rattle.tile_schedule.proofs.Answers.{Bounds, bounds}
-use Rattle.array.specs.declared.Array.{Array}
-use Rattle.array.specs.Runs.{startArray}
-use Rattle.array_run.specs.Results.{handedOver}
-use Rattle.array_run.proofs.Whole.{start-made, start-order, run-ends}
 use borrow.Author.Needs.{needs}
+use lib.ListN.{length}
+use Rattle.sizes.specs.Sizes.{ticksOf}
+use Rattle.sizes.proofs.Orders.{order-is}
+use Rattle.runs.proofs.Verdicts.{Begins, begins}
+use Rattle.array.specs.declared.Array.{Array}
+use Rattle.array.specs.Runs.{startArray, ticked}
+use Rattle.array_run.specs.Results.{handedOver}
+use Rattle.array_run.proofs.Whole.{start-order, run-ends}
 use Rattle.array_run.proofs.run_accepted.Statement.{statement}
 use Rattle.array_run.proofs.run_accepted.Tie as tie
 
+abbrev at-start : tie.After-of-matrix → tie.Start
+at-start c = c .before .before .before .before
+
 -- what the tests before the run have shown
-starting : (c : tie.After-slice-known2) → let a = c .before .before .before .args in
+starting : (c : tie.After-of-matrix) → let a = at-start c .args in
     Begins (a .n) (a .sweeps) (a .matrix .now) (length (a .result .now)) (length (a .vectors .now))
-starting c = let s = c .before .before .before in begins _ _ (s .args .matrix .now) _ _ (s .pre)
+starting c = let s = at-start c in begins _ _ (s .args .matrix .now) _ _ (s .pre)
 
-small : (c : tie.After-slice-known2) → Bounds (c .before .before .before .args .n) (c .before .before .before .args .sweeps)
-small c = let b = starting c in bounds _ _ (b .order) (b .few)
+-- the array at the end
+ended : (c : tie.After-ticks) → let a = at-start (c .before .before) .args in
+    c .ticks .result ≡ ticked (ticksOf (a .n) (a .sweeps)) (startArray (a .n) (a .sweeps) (a .matrix .now))
+ended c = run-ends (c .before .ticks-of .ensures) (c .before .before .of-matrix .ensures) (c .ticks .ensures)
 
-begun : (c : tie.After-start) → let a = c .before .before .before .before .args in c .start .result .array ≡ startArray (a .n) (a .sweeps) (a .matrix .now)
-begun c =
-    let k = c .before .before .before in
-    start-made _ _ (k .before .args .matrix .now) (k .shared-slice-known .given) _ _ (k .before .pre) (c .start .ensures)
+of-matrix-requires : tie.Need-of-matrix-requires
+of-matrix-requires c κs = search needs
 
-start-requires : tie.Need-start-requires
-start-requires c κs = search needs
-
-sub-ticks : tie.Need-sub-ticks
-sub-ticks c = omega (arith, small (c .before .before) .above)
-
-mul-ticks : tie.Need-mul-ticks
-mul-ticks c = omega (arith, small (c .before .before) .steps)
-
-mul-ticks-2 : tie.Need-mul-ticks-2
-mul-ticks-2 c = omega (arith, small (c .before .before) .steps)
-
-add-ticks : tie.Need-add-ticks
-add-ticks c = let b = small (c .before .before) in omega (arith, b .within, b .steps)
+ticks-of-requires : tie.Need-ticks-of-requires
+ticks-of-requires c κs = let b = starting c in (b .order, b .few)
 
 ticks-requires : tie.Need-ticks-requires
 ticks-requires c κs = search needs
@@ -45,10 +36,9 @@ ticks-requires c κs = search needs
 hand-over-requires : tie.Need-hand-over-requires
 hand-over-requires c κs =
     let k = c .before .before in
-    let s = k .before .before in
-    let b = starting (s .before) in
-    let e = ap (λ (x : Array). x .n) (run-ends _ (begun s) (k .ticks .ensures)) ∙ start-order _ _ _ _ in
-    (rw e (small (s .before) .within), rw e (b .result-long), rw e (b .vectors-long))
+    let b = starting (k .before .before) in
+    let e = ap (λ (x : Array). x .n) (ended k) ∙ start-order _ _ _ _ in
+    (rw e (order-is _ (b .order) .2), rw e (b .result-long), rw e (b .vectors-long))
 
 same-length : tie.Need-same-length
 same-length c = search needs
@@ -57,20 +47,14 @@ same-length-2 : tie.Need-same-length-2
 same-length-2 c = search needs
 
 returns : tie.Need-returns
-returns c =
-    let h = c .before .before .before .before in
-    let k = h .before .before .before in
-    h .hand-over .ensures ∙ ap handedOver (run-ends _ (begun (k .before .before)) (k .ticks .ensures))
+returns c = let h = c .before .before .before .before in h .hand-over .ensures ∙ ap handedOver (ended (h .before .before .before))
 
 pub run-accepted-spec : {M : Type 1} → statement M
 run-accepted-spec =
     tie.close
     (tie.spec
-    start-requires
-    sub-ticks
-    mul-ticks
-    mul-ticks-2
-    add-ticks
+    of-matrix-requires
+    ticks-of-requires
     ticks-requires
     hand-over-requires
     same-length

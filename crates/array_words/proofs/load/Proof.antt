@@ -1,20 +1,23 @@
+-- The tiles before i are those in the words. The measure is how many tiles are left.
 use Prim.Native.Nat.{_+_, _-_, _*_, _≤_}
 use mathlib.Core.Path.{refl}
 use native.Mathlib.Omega.{arith}
 use borrow.Author.Needs.{needs}
 use Rattle.lists.proofs.Filled.{Filled, filled-none, filled-next, filled-all}
-use Rattle.ordering.specs.Registers.{most}
+use Rattle.sizes.specs.Sizes.{mostProcessors}
 use Rattle.array.specs.Arrays.{noTile}
 use Rattle.array_words.specs.Words.{tileWords, tileIn}
-use Rattle.array_words.proofs.Loaded.{loaded}
+use Rattle.array_words.proofs.ArrayRead.{loaded}
 use Rattle.array_words.proofs.load.Statement.{statement}
 use Rattle.array_words.proofs.load.Tie as tie
 
 abbrev Inv-loop : tie.InvT-loop
-Inv-loop words tiles₀ i₀ tiles i = (i ≤ most * most) × Filled noTile (λ i. tileIn words (3 + i * tileWords)) (most * most) i tiles
+Inv-loop words tiles₀ i₀ tiles i =
+    (i ≤ mostProcessors * mostProcessors)
+    × Filled noTile (λ i. tileIn words (3 + i * tileWords)) (mostProcessors * mostProcessors) i tiles
 
 abbrev μ-loop : tie.MeasureT-loop
-μ-loop words tiles₀ i₀ tiles i = most * most - i
+μ-loop words tiles₀ i₀ tiles i = mostProcessors * mostProcessors - i
 
 tile-in-requires : tie.Need-tile-in-requires Inv-loop μ-loop
 tile-in-requires c κs = omega arith
@@ -56,7 +59,10 @@ word-at-requires-3 : tie.Need-word-at-requires-3 Inv-loop μ-loop
 word-at-requires-3 c κs = search needs
 
 returns : tie.Need-returns Inv-loop μ-loop
-returns c = loaded _ (c .before .before .word-at .ensures) (c .before .word-at2 .ensures) (c .word-at3 .ensures) (filled-all _ _ (c .before .before .before .before .loop .inv .1) (omega arith))
+returns c =
+    let w = c .before .before in
+    let tiles = filled-all _ _ (w .before .before .loop .inv .1) (omega arith) in
+    loaded _ (w .word-at .ensures) (c .before .word-at2 .ensures) (c .word-at3 .ensures) tiles
 
 pub load-spec : {M : Type 1} → statement M
 load-spec =

@@ -1,19 +1,20 @@
+-- The words of the order, the sweeps, the tick and the tiles before i are written. The measure is how many tiles are left.
 use Prim.Native.Nat.{_+_, _-_, _*_, _≤_}
 use native.Mathlib.Omega.{arith}
 use lib.ListN.{length-set}
 use Rattle.lists.proofs.Filled.{Filled}
-use Rattle.ordering.specs.Registers.{most}
+use Rattle.sizes.specs.Sizes.{mostProcessors}
 use Rattle.array.specs.Arrays.{noQuad, noPart, noTile}
 use Rattle.array_words.specs.Words.{tileWords, arrayWords, arrayWord}
-use Rattle.array_words.proofs.Written.{head-stored, tile-stored, all-stored, none-stored}
+use Rattle.array_words.proofs.WordsWritten.{head-stored, tile-stored, all-stored, none-stored}
 use Rattle.array_words.proofs.store.Statement.{statement}
 use Rattle.array_words.proofs.store.Tie as tie
 
 abbrev Inv-loop : tie.InvT-loop
-Inv-loop words₀ array i₀ words i = (i ≤ most * most) × Filled 0 (arrayWord array) arrayWords (3 + i * tileWords) words
+Inv-loop words₀ array i₀ words i = (i ≤ mostProcessors * mostProcessors) × Filled 0 (arrayWord array) arrayWords (3 + i * tileWords) words
 
 abbrev μ-loop : tie.MeasureT-loop
-μ-loop words₀ array i₀ words i = most * most - i
+μ-loop words₀ array i₀ words i = mostProcessors * mostProcessors - i
 
 returns : tie.Need-returns Inv-loop μ-loop
 returns c = none-stored _ _ (c .if1 .taken)
@@ -53,7 +54,10 @@ loop-less c = omega arith
 
 loop-again : tie.Need-loop-again Inv-loop μ-loop
 unfolding noTile noPart noQuad
-loop-again c = let k = c .before .before .before .before .before .before .loop in (omega arith, tile-stored _ _ _ (k .inv .1) (omega arith) (c .before .before .store-tile .ensures))
+loop-again c =
+    let stored = c .before .before in
+    let at-loop = stored .before .before .before .before .loop in
+    (omega arith, tile-stored _ _ _ (at-loop .inv .1) (omega arith) (stored .store-tile .ensures))
 
 same-length : tie.Need-same-length Inv-loop μ-loop
 same-length c = let w = c .before .loop .inv .1 .long in omega arith

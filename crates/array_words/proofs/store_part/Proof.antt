@@ -1,4 +1,4 @@
-use Rattle.array_words.proofs.Written.{part-written}
+use Rattle.array_words.proofs.WordsWritten.{part-written}
 use borrow.Author.Needs.{needs}
 use Rattle.array_words.proofs.store_part.Statement.{statement}
 use Rattle.array_words.proofs.store_part.Tie as tie

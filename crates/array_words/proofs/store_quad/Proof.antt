@@ -1,6 +1,6 @@
 use native.Mathlib.Omega.{arith}
 use lib.ListN.{length-set}
-use Rattle.array_words.proofs.Written.{quad-written}
+use Rattle.array_words.proofs.WordsWritten.{quad-written}
 use borrow.Author.Needs.{needs}
 use Rattle.array_words.proofs.store_quad.Statement.{statement}
 use Rattle.array_words.proofs.store_quad.Tie as tie
@@ -54,7 +54,9 @@ same-length : tie.Need-same-length
 same-length c = search needs
 
 returns : tie.Need-returns
-returns c = quad-written _ _ _ (c .before .before .before .to-bits .ensures) (c .before .before .to-bits2 .ensures) (c .before .to-bits3 .ensures) (c .to-bits4 .ensures)
+returns c =
+    let b = c .before .before in
+    quad-written _ _ _ (b .before .to-bits .ensures) (b .to-bits2 .ensures) (c .before .to-bits3 .ensures) (c .to-bits4 .ensures)
 
 pub store-quad-spec : {M : Type 1} → statement M
 store-quad-spec =

@@ -1,6 +1,6 @@
 use native.Mathlib.Omega.{arith}
 use lib.ListN.{length-set}
-use Rattle.array_words.proofs.Written.{tile-written}
+use Rattle.array_words.proofs.WordsWritten.{tile-written}
 use borrow.Author.Needs.{needs}
 use Rattle.array_words.proofs.store_tile.Statement.{statement}
 use Rattle.array_words.proofs.store_tile.Tie as tie
@@ -54,7 +54,10 @@ same-length : tie.Need-same-length
 same-length c = simp length-set (omega arith)
 
 returns : tie.Need-returns
-returns c = let s = c .before .before .before .before .before in tile-written _ _ _ (s .before .before .before .before .store-part .ensures) (s .store-part2 .ensures) (c .before .before .to-bits .ensures) (c .before .to-bits2 .ensures)
+returns c =
+    let r = c .before .before in
+    let s = r .before .before .before in
+    tile-written _ _ _ (s .before .before .before .before .store-part .ensures) (s .store-part2 .ensures) (r .to-bits .ensures) (c .before .to-bits2 .ensures)
 
 pub store-tile-spec : {M : Type 1} → statement M
 store-tile-spec =

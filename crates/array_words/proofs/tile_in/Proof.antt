@@ -32,7 +32,10 @@ word-at-requires c κs = search needs
 
 returns : tie.Need-returns
 unfolding tileIn
-returns c = rw (c .before .before .before .before .part-in .ensures, c .before .before .before .part-in2 .ensures, c .before .before .value-at .ensures, c .before .value-at2 .ensures, c .word-at .ensures)
+returns c =
+    let v = c .before .before in
+    let p = v .before in
+    rw (p .before .part-in .ensures, p .part-in2 .ensures, v .value-at .ensures, c .before .value-at2 .ensures, c .word-at .ensures)
 
 pub tile-in-spec : {M : Type 1} → statement M
 tile-in-spec =

@@ -3,15 +3,16 @@ use mathlib.Core.Path.{sym, _∙_}
 use native.Mathlib.Nat.{mul-le-mul}
 use native.Mathlib.Omega.{arith}
 use lib.Seq.{length-take-le}
-use Rattle.listing.proofs.Joined.{order-few, order-there}
+use Rattle.sizes.specs.Sizes.{largestOrder}
+use Rattle.listing.proofs.ListingParts.{order-few, order-there}
 use borrow.Author.Needs.{needs}
 use Rattle.listing.proofs.list.Statement.{statement}
 use Rattle.listing.proofs.list.Tie as tie
 
-narrow : (c : tie.After-order) → c .order .result ≤ 32
+narrow : (c : tie.After-order) → c .order .result ≤ largestOrder
 narrow c = order-few (c .before .before .before .args .sheet .now) (c .order .ensures)
 
-few : (c : tie.After-order) → c .order .result * c .order .result ≤ 1024
+few : (c : tie.After-order) → c .order .result * c .order .result ≤ largestOrder * largestOrder
 few c = mul-le-mul (narrow c) (narrow c)
 
 order-requires : tie.Need-order-requires

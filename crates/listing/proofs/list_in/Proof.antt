@@ -1,4 +1,4 @@
-use Rattle.listing.proofs.Joined.{was-read, within-limit, sheet-listed, sheet-refused}
+use Rattle.listing.proofs.ListingParts.{was-read, within-limit, sheet-listed, sheet-refused}
 use borrow.Author.Needs.{needs}
 use Rattle.listing.proofs.list_in.Statement.{statement}
 use Rattle.listing.proofs.list_in.Tie as tie
@@ -10,7 +10,11 @@ enum-known-n : tie.Need-enum-known-n
 enum-known-n c = search needs
 
 run-requires : tie.Need-run-requires
-run-requires c κs = let q = was-read _ _ _ _ (c .before .before .before .before .before .before .before .before .before .before .before .before .read .ensures) _ _ (c .before .before .before .before .before .before .n .given .1) in within-limit _ _ _ _ (q .0) (q .1 .as-order)
+run-requires c κs =
+    let n = c .before .before .before .before .before .before in
+    let read = n .before .before .before .before .before .before in
+    let q = was-read _ _ _ _ (read .read .ensures) _ _ (n .n .given .1) in
+    within-limit _ _ _ _ (q .0) (q .1 .as-order)
 
 enum-known-refused : tie.Need-enum-known-refused
 enum-known-refused c = search needs
@@ -35,10 +39,13 @@ same-length-5 c = search needs
 
 returns : tie.Need-returns
 returns c =
-    let s = c .before .before .before .before .before .before .before .before .before .before .before .before .before .before .before .before .before .before .before .before .before .before .before .before .before .before .before .before in
-    let d = c .before .before .before .before .before .before .before .before .before .before .before .before .before .before .before .before .before .before .before in
-    let q = was-read _ _ _ _ (d .read .ensures) _ _ (c .before .before .before .before .before .before .before .before .before .before .before .before .before .n .given .1) in
-    sheet-listed _ (s .args .codes .now) (s .args .matrix .now) _ (λ e. (s .pre e .0, s .pre e .1)) _ _ _ _ (λ e. (s .pre e .2, s .pre e .3)) (q .0) (q .1) (c .before .before .before .before .before .before .run .ensures)
+    let run = c .before .before .before .before .before .before in
+    let n = run .before .before .before .before .before .before .before in
+    let read = n .before .before .before .before .before .before in
+    let s = read .before .before .before .before .before .before .before .before .before in
+    let q = was-read _ _ _ _ (read .read .ensures) _ _ (n .n .given .1) in
+    sheet-listed _ (s .args .codes .now) (s .args .matrix .now) _ (λ e. (s .pre e .0, s .pre e .1)) _ _ _ _ (λ e. (s .pre e .2, s .pre e .3))
+    (q .0) (q .1) (run .run .ensures)
 
 same-length-6 : tie.Need-same-length-6
 same-length-6 c = search needs
@@ -51,8 +58,12 @@ same-length-8 c = search needs
 
 returns-2 : tie.Need-returns-2
 returns-2 c =
-    let s = c .before .before .before .before .before .before .before .before .before .before .before .before .before .before .before .before .before .before .before .before in
-    sheet-refused _ (s .args .codes .now) (s .args .matrix .now) _ (λ e. (s .pre e .0, s .pre e .1)) _ _ (c .before .before .before .before .before .before .before .before .before .before .before .read .ensures) (c .before .before .before .before .before .refused .given .1) (c .before .before .refuse .ensures)
+    let refuse = c .before .before in
+    let refused = refuse .before .before .before in
+    let read = refused .before .before .before .before .before .before in
+    let s = read .before .before .before .before .before .before .before .before .before in
+    sheet-refused _ (s .args .codes .now) (s .args .matrix .now) _ (λ e. (s .pre e .0, s .pre e .1)) _ _
+    (read .read .ensures) (refused .refused .given .1) (refuse .refuse .ensures)
 
 pub list-in-spec : {M : Type 1} → statement M
 list-in-spec =

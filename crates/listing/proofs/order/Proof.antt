@@ -1,5 +1,5 @@
 use native.Mathlib.Omega.{arith}
-use Rattle.listing.proofs.Joined.{no-order-in, too-large, not-too-large}
+use Rattle.listing.proofs.ListingParts.{no-order-in, too-large, not-too-large}
 use borrow.Author.Needs.{needs}
 use Rattle.listing.proofs.order.Statement.{statement}
 use Rattle.listing.proofs.order.Tie as tie

@@ -1,4 +1,4 @@
-use Rattle.listing.proofs.Joined.{refusal-listed}
+use Rattle.listing.proofs.ListingParts.{refusal-listed}
 use borrow.Author.Needs.{needs}
 use Rattle.listing.proofs.refuse.Statement.{statement}
 use Rattle.listing.proofs.refuse.Tie as tie

@@ -1,16 +1,13 @@
-use Rattle.listing.proofs.Joined.{no-room, run-printed, run-not-printed}
+use Rattle.listing.proofs.ListingParts.{no-room, run-printed, run-not-printed}
 use borrow.Author.Needs.{needs}
 use Rattle.listing.proofs.run.Statement.{statement}
 use Rattle.listing.proofs.run.Tie as tie
 
-mul-if1 : tie.Need-mul-if1
-mul-if1 c = search needs
-
-add-if1 : tie.Need-add-if1
-add-if1 c = search needs
+room-for-requires : tie.Need-room-for-requires
+room-for-requires c κs = search needs
 
 returns : tie.Need-returns
-returns c = no-room _ _ _ _ _ (c .if1 .taken)
+returns c = no-room _ _ _ _ _ (rw (c .before .room-for .ensures) at (c .if1 .taken))
 
 run-requires : tie.Need-run-requires
 run-requires c κs = search needs
@@ -37,7 +34,13 @@ same-length-3 : tie.Need-same-length-3
 same-length-3 c = search needs
 
 returns-2 : tie.Need-returns-2
-returns-2 c = run-printed _ _ _ _ _ (c .before .before .before .before .before .before .before .before .before .before .before .before .before .before .before .before .if1 .left) _ _ (c .before .before .before .before .before .before .before .ticks .given .1) (c .before .before .before .before .before .before .before .before .before .before .before .before .before .run .ensures) (c .before .before .print .ensures)
+returns-2 c =
+    let print = c .before .before in
+    let ticks = print .before .before .before .before .before in
+    let run = ticks .before .before .before .before .before .before in
+    let enough = run .before .before .before in
+    let room = rw (enough .before .room-for .ensures) at (enough .if1 .left) in
+    run-printed _ _ _ _ _ room _ _ (ticks .ticks .given .1) (run .run .ensures) (print .print .ensures)
 
 same-length-4 : tie.Need-same-length-4
 same-length-4 c = search needs
@@ -49,14 +52,19 @@ same-length-6 : tie.Need-same-length-6
 same-length-6 c = search needs
 
 returns-3 : tie.Need-returns-3
-returns-3 c = run-not-printed _ _ _ _ _ (c .before .before .before .before .before .before .before .before .before .before .before .before .before .before .if1 .left) _ _ (c .before .before .before .before .before .refused .given .1) (c .before .before .before .before .before .before .before .before .before .before .before .run .ensures) (c .before .before .refuse .ensures)
+returns-3 c =
+    let refuse = c .before .before in
+    let refused = refuse .before .before .before in
+    let run = refused .before .before .before .before .before .before in
+    let enough = run .before .before .before in
+    let room = rw (enough .before .room-for .ensures) at (enough .if1 .left) in
+    run-not-printed _ _ _ _ _ room _ _ (refused .refused .given .1) (run .run .ensures) (refuse .refuse .ensures)
 
 pub run-spec : {M : Type 1} → statement M
 run-spec =
     tie.close
     (tie.spec
-    mul-if1
-    add-if1
+    room-for-requires
     returns
     run-requires
     enum-known-ticks

@@ -3,7 +3,6 @@ use mathlib.Core.Bool.{true}
 use native.Mathlib.Omega.{arith}
 use borrow.Author.Tests.{not-true, not-false}
 use lib.ListN.{length}
-use Rattle.ordering.proofs.Orders.{order-is}
 use Rattle.listing_text.specs.Printed.{printable}
 use Rattle.listing_text.proofs.Pieces.{Sizes, sizes, not-printed, printed}
 use borrow.Author.Needs.{needs}
@@ -11,10 +10,12 @@ use Rattle.listing_text.proofs.print.Statement.{statement}
 use Rattle.listing_text.proofs.print.Tie as tie
 
 -- past the test
-passed : (c : tie.Else1) → let a = c .before .before .before .before .before .before .args in printable (a .n) (a .sweeps) (a .ticks) (length (a .codes .now)) (length (a .matrix .now)) (length (a .vectors .now)) (length (a .out .now)) ≡ true
+passed : (c : tie.Else1) → let a = c .before .before .before .before .before .before .args in
+    printable (a .n) (a .sweeps) (a .ticks) (length (a .codes .now)) (length (a .matrix .now)) (length (a .vectors .now)) (length (a .out .now)) ≡ true
 passed c = sym (c .before .is-printable .ensures) ∙ not-false _ (c .if1 .left)
 
-fine : (c : tie.Else1) → let a = c .before .before .before .before .before .before .args in Sizes (a .n) (length (a .codes .now)) (length (a .matrix .now)) (length (a .vectors .now)) (length (a .out .now))
+fine : (c : tie.Else1) → let a = c .before .before .before .before .before .before .args in
+    Sizes (a .n) (length (a .codes .now)) (length (a .matrix .now)) (length (a .vectors .now)) (length (a .out .now))
 fine c = sizes _ _ _ _ _ _ _ (passed c)
 
 is-printable-requires : tie.Need-is-printable-requires
@@ -30,7 +31,7 @@ put-lines-requires : tie.Need-put-lines-requires
 put-lines-requires c κs =
     let h = c .before .before .before in
     let z = fine (h .before .before) in
-    (order-is _ (z .order) .2, z .codes-long, z .matrix-long, z .vectors-long, omega (arith, z .enough, h .put-head .ensures .1))
+    (z .codes-long, z .matrix-long, z .vectors-long, omega (arith, z .enough, h .put-head .ensures .1))
 
 same-length : tie.Need-same-length
 same-length c = search needs

@@ -33,8 +33,17 @@ returns c =
     let r = s .before .before .before .before in
     let q = r .before .before .before .before in
     let p = q .before .before .before .before in (
-      head-put _ _ _ (p .put-decimal .ensures .0) (q .put .ensures) (r .put-decimal2 .ensures .0) (s .put2 .ensures) (t .put-decimal3 .ensures .0) (u .put3 .ensures),
-      omega (arith, p .put-decimal .ensures .1, (q .put .ensures) .ends, r .put-decimal2 .ensures .1, (s .put2 .ensures) .ends, t .put-decimal3 .ensures .1, (u .put3 .ensures) .ends),
+      head-put _ _ _ (p .put-decimal .ensures .0) (q .put .ensures) (r .put-decimal2 .ensures .0) (s .put2 .ensures)
+          (t .put-decimal3 .ensures .0) (u .put3 .ensures),
+      omega (
+        arith,
+        p .put-decimal .ensures .1,
+        (q .put .ensures) .ends,
+        r .put-decimal2 .ensures .1,
+        (s .put2 .ensures) .ends,
+        t .put-decimal3 .ensures .1,
+        (u .put3 .ensures) .ends,
+      ),
     )
 
 pub put-head-spec : {M : Type 1} → statement M

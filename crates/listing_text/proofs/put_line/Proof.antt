@@ -33,7 +33,13 @@ returns c =
     let p = e .before .before .before in
     let s = p .before .before .before .before .before in (
       line-put _ _ _ _ _ (p .put-decimal .ensures .0) (q .put-field .ensures .0) (r .put-column .ensures .0) (t .put .ensures)
-          (e .entry .ensures ∙ entry-at _ _ _ _ (place-is _ _ _ _ (record { row-above = s .pre .1; row-within = s .pre .2; column-above = s .pre .1; column-within = s .pre .2; square = s .pre .3 }))),
+          (e .entry .ensures ∙ entry-at _ _ _ _ (place-is _ _ _ _ (record {
+            row-above = s .pre .0;
+            row-within = s .pre .1;
+            column-above = s .pre .0;
+            column-within = s .pre .1;
+            square = s .pre .2;
+          }))),
       omega (arith, p .put-decimal .ensures .1, q .put-field .ensures .1, r .put-column .ensures .1, (t .put .ensures) .ends),
     )
 

@@ -41,8 +41,19 @@ returns c =
     let r = s .before .before .before .before in
     let q = r .before .before .before .before in
     let p = q .before .before .before .before in (
-      word-put (p .put .ensures) (q .put2 .ensures) (r .put3 .ensures) (s .put4 .ensures) (t .put5 .ensures) (u .put6 .ensures) (v .put7 .ensures) (w .put8 .ensures),
-      omega (arith, (p .put .ensures) .ends, (q .put2 .ensures) .ends, (r .put3 .ensures) .ends, (s .put4 .ensures) .ends, (t .put5 .ensures) .ends, (u .put6 .ensures) .ends, (v .put7 .ensures) .ends, (w .put8 .ensures) .ends),
+      word-put (p .put .ensures) (q .put2 .ensures) (r .put3 .ensures) (s .put4 .ensures) (t .put5 .ensures) (u .put6 .ensures)
+          (v .put7 .ensures) (w .put8 .ensures),
+      omega (
+        arith,
+        (p .put .ensures) .ends,
+        (q .put2 .ensures) .ends,
+        (r .put3 .ensures) .ends,
+        (s .put4 .ensures) .ends,
+        (t .put5 .ensures) .ends,
+        (u .put6 .ensures) .ends,
+        (v .put7 .ensures) .ends,
+        (w .put8 .ensures) .ends,
+      ),
     )
 
 pub put-word-spec : {M : Type 1} → statement M

@@ -8,6 +8,7 @@ use Rattle.lists.proofs.Filled.{Filled, filled-none, filled-next, filled-all}
 use Rattle.matrix.proofs.clear.Statement.{statement}
 use Rattle.matrix.proofs.clear.Tie as tie
 
+-- The first k values are +0. What falls is the number of values left.
 abbrev Inv-loop : tie.InvT-loop
 Inv-loop a₀ k₀ k-end a k = (k ≤ length a₀) × Filled nan (λ i. plusZero) (length a₀) k a
 

@@ -10,10 +10,11 @@ use Rattle.matrix.proofs.entry.Statement.{statement}
 use Rattle.matrix.proofs.entry.Tie as tie
 
 -- past the test
-is-there : (c : tie.Else1) → isPlace (c .before .before .before .args .n) (c .before .before .before .args .r) (c .before .before .before .args .c) (length (c .before .before .before .args .a .now)) ≡ true
+is-there : (c : tie.Else1) → let given = c .before .before .before .args in
+    isPlace (given .n) (given .r) (given .c) (length (given .a .now)) ≡ true
 is-there c = sym (c .before .is-place .ensures) ∙ not-false _ (c .if1 .left)
 
-there : (c : tie.Else1) → Place (c .before .before .before .args .n) (c .before .before .before .args .r) (c .before .before .before .args .c) (length (c .before .before .before .args .a .now))
+there : (c : tie.Else1) → let given = c .before .before .before .args in Place (given .n) (given .r) (given .c) (length (given .a .now))
 there c = are-place _ _ _ _ (is-there c)
 
 is-place-requires : tie.Need-is-place-requires

@@ -6,10 +6,11 @@ use lib.Ieee.{Float}
 use lib.ListN.{length}
 use Rattle.matrix.specs.Matrix.{flat}
 use Rattle.matrix.specs.Transposed.{across, upTo}
-use Rattle.matrix.proofs.Transposing.{exchanged-length, first-within, second-within, exchange-next, line-next}
+use Rattle.matrix.proofs.Transposition.{exchanged-length, first-within, second-within, exchange-next, line-next}
 use Rattle.matrix.proofs.exchange_line.Statement.{statement}
 use Rattle.matrix.proofs.exchange_line.Tie as tie
 
+-- Where the lines before line i were exchanged at the start, the first j places of row i and column i are so too. What falls is i - j.
 abbrev Inv-loop : tie.InvT-loop
 Inv-loop n i a₀ j₀ a j =
     (i < n) × (j ≤ i) × (length a₀ ≡ n * n) × (length a ≡ n * n) × ((A : ℕ → ℕ → Float) → a₀ ≡ flat n (across (upTo i 0) A) → a ≡ flat n (across (upTo i j) A))
@@ -47,8 +48,13 @@ loop-again : tie.Need-loop-again Inv-loop μ-loop
 loop-again c =
     let s = c .before .before in
     let k = s .before .before .before .loop in
-    let i = k .inv in
-    (i .0, omega arith, i .2, ap length (s .exchange .ensures) ∙ exchanged-length _ _ _ ∙ i .3, λ A e. exchange-next _ _ (k .j) (i .0) (omega arith) A (i .4 A e) (s .exchange .ensures))
+    let i = k .inv in (
+      i .0,
+      omega arith,
+      i .2,
+      ap length (s .exchange .ensures) ∙ exchanged-length _ _ _ ∙ i .3,
+      λ A e. exchange-next _ _ (k .j) (i .0) (omega arith) A (i .4 A e) (s .exchange .ensures),
+    )
 
 same-length : tie.Need-same-length Inv-loop μ-loop
 same-length c = omega arith

@@ -4,16 +4,19 @@ use native.Mathlib.Omega.{arith}
 use native.Mathlib.Nat.{le-antisymm}
 use borrow.Author.Needs.{needs}
 use borrow.Author.Tests.{not-true, not-false}
-use Rattle.refusal.specs.Refusal.{given, toldAnswer}
+use Rattle.refusal.specs.Answers.{given, answered, first}
 use Rattle.float64.specs.Values.{finite}
 use Rattle.matrix.specs.Matrix.{at}
-use Rattle.matrix.specs.Entries.{first, notFiniteAt}
+use Rattle.matrix.specs.Entries.{notFiniteAt}
 use Rattle.refusal.specs.declared.Answer.the-variants.{Accepted}
-use Rattle.matrix.proofs.First.{first-none, first-more, first-found, is-finite, is-not-finite}
+use Rattle.refusal.proofs.FirstRefusal.{first-none, first-more, first-found}
+use Rattle.matrix.proofs.EntryTests.{is-finite, is-not-finite}
 use Rattle.matrix.proofs.Within.{entry-in}
 use Rattle.matrix.proofs.first_not_finite.Statement.{statement}
 use Rattle.matrix.proofs.first_not_finite.Tie as tie
 
+-- In the inner loop the first j entries of row i + 1 are finite and n - j are left, in the outer loop those of the first i rows are and
+-- n - i rows are left. In both nothing is found so far.
 abbrev Inv-loop : tie.InvT-loop
 Inv-loop n a found₀ i j₀ found j = (j ≤ n) × (found ≡ Accepted) × (first j (notFiniteAt n a (i + 1)) ≡ given tt)
 
@@ -58,10 +61,12 @@ loop-less c = omega arith
 
 loop-again : tie.Need-loop-again Inv-loop μ-loop Inv-rows μ-rows
 loop-again c =
-    let k = c .before .before .before .before in
-    let e = c .before .before .entry .ensures ∙ entry-in _ _ _ _ (k .before .before .before .before .pre) (omega arith) (omega arith) in
+    let at-entry = c .before .before in
+    let at-loop = at-entry .before .before in
+    let at-start = at-loop .before .before .before .before in
+    let e = at-entry .entry .ensures ∙ entry-in _ _ _ _ (at-start .pre) (omega arith) (omega arith) in
     let f = ap finite (sym e) ∙ sym (c .before .is-finite .ensures) ∙ not-false _ (c .if1 .left) in
-    (omega arith, search needs, first-more _ _ (k .loop .inv .2) (is-finite _ _ _ _ f))
+    (omega arith, search needs, first-more _ _ (at-loop .loop .inv .2) (is-finite _ _ _ _ f))
 
 add-i : tie.Need-add-i Inv-loop μ-loop Inv-rows μ-rows
 add-i c = omega arith
@@ -70,21 +75,27 @@ rows-less : tie.Need-rows-less Inv-loop μ-loop Inv-rows μ-rows
 rows-less c = omega arith
 
 rows-again : tie.Need-rows-again Inv-loop μ-loop Inv-rows μ-rows
-rows-again c =
-    (omega arith, search needs, first-more _ _ (c .before .before .before .rows .inv .2) (rw (le-antisymm (c .before .loop .inv .0) (c .loop-test .left)) at (c .before .loop .inv .2)))
+rows-again c = (
+  omega arith,
+  search needs,
+  first-more _ _ (c .before .before .before .rows .inv .2)
+      (rw (le-antisymm (c .before .loop .inv .0) (c .loop-test .left)) at (c .before .loop .inv .2)),
+)
 
 returns : tie.Need-returns Inv-loop μ-loop Inv-rows μ-rows
 returns c =
-    ap toldAnswer (c .before .rows .inv .1) ∙ sym (rw (le-antisymm (c .before .rows .inv .0) (c .rows-test .left)) at (c .before .rows .inv .2))
+    ap answered (c .before .rows .inv .1) ∙ sym (rw (le-antisymm (c .before .rows .inv .0) (c .rows-test .left)) at (c .before .rows .inv .2))
 
 returns-2 : tie.Need-returns-2 Inv-loop μ-loop Inv-rows μ-rows
 returns-2 c =
-    let k = c .before .before .before .before in
-    let r = k .before .before in
-    let e = c .before .before .entry .ensures ∙ entry-in _ _ _ _ (k .before .before .before .before .pre) (omega arith) (omega arith) in
+    let at-entry = c .before .before in
+    let in-loop = at-entry .before in
+    let at-loop = in-loop .before in
+    let at-rows = at-loop .before .before in
+    let e = at-entry .entry .ensures ∙ entry-in _ _ _ _ (at-rows .before .before .pre) (omega arith) (omega arith) in
     let f = ap finite (sym e) ∙ sym (c .before .is-finite .ensures) ∙ not-true _ (c .if1 .taken) in
-    sym (first-found _ _ _ _ _ (k .before .rows-test .taken) (r .rows .inv .2)
-    (first-found _ _ _ _ _ (c .before .before .before .loop-test .taken) (k .loop .inv .2) (is-not-finite _ _ _ _ f)))
+    sym (first-found _ _ _ _ _ (at-loop .before .rows-test .taken) (at-rows .rows .inv .2)
+    (first-found _ _ _ _ _ (in-loop .loop-test .taken) (at-loop .loop .inv .2) (is-not-finite _ _ _ _ f)))
 
 pub first-not-finite-spec : {M : Type 1} → statement M
 first-not-finite-spec =

@@ -4,15 +4,18 @@ use native.Mathlib.Omega.{arith}
 use native.Mathlib.Nat.{le-antisymm}
 use borrow.Author.Needs.{needs}
 use borrow.Author.Tests.{not-true, not-false}
-use Rattle.refusal.specs.Refusal.{given, toldAnswer}
+use Rattle.refusal.specs.Answers.{given, answered, first}
 use Rattle.matrix.specs.Matrix.{at}
-use Rattle.matrix.specs.Entries.{first, notMirroredAt}
+use Rattle.matrix.specs.Entries.{notMirroredAt}
 use Rattle.refusal.specs.declared.Answer.the-variants.{Accepted}
-use Rattle.matrix.proofs.First.{first-none, first-more, first-found, same, is-mirrored, is-not-mirrored, not-compared}
+use Rattle.refusal.proofs.FirstRefusal.{first-none, first-more, first-found}
+use Rattle.matrix.proofs.EntryTests.{same, is-mirrored, is-not-mirrored, not-compared}
 use Rattle.matrix.proofs.Within.{entry-in}
 use Rattle.matrix.proofs.first_not_mirrored.Statement.{statement}
 use Rattle.matrix.proofs.first_not_mirrored.Tie as tie
 
+-- In the inner loop the entries of row i + 1 right of the diagonal in the first j columns have their bits again in the mirror and n - j
+-- columns are left, in the outer loop those of the first i rows have and n - i rows are left. In both nothing is found so far.
 abbrev Inv-loop : tie.InvT-loop
 Inv-loop n a found₀ i j₀ found j = (i < j) × (j ≤ n) × (found ≡ Accepted) × (first j (notMirroredAt n a (i + 1)) ≡ given tt)
 
@@ -69,11 +72,14 @@ loop-less c = omega arith
 
 loop-again : tie.Need-loop-again Inv-loop μ-loop Inv-rows μ-rows
 loop-again c =
-    let k = c .before .before .before .before .before in
-    let e = c .before .before .before .entry .ensures ∙ entry-in _ _ _ _ (k .before .before .before .before .pre) (omega arith) (omega arith) in
-    let d = c .before .before .entry2 .ensures ∙ entry-in _ _ _ _ (k .before .before .before .before .pre) (omega arith) (omega arith) in
+    let at-mirror = c .before .before in
+    let at-entry = at-mirror .before in
+    let at-loop = at-entry .before .before in
+    let at-start = at-loop .before .before .before .before in
+    let e = at-entry .entry .ensures ∙ entry-in _ _ _ _ (at-start .pre) (omega arith) (omega arith) in
+    let d = at-mirror .entry2 .ensures ∙ entry-in _ _ _ _ (at-start .pre) (omega arith) (omega arith) in
     let f = same (sym e) (sym d) ∙ sym (c .before .same-bits .ensures) ∙ not-false _ (c .if1 .left) in
-    (omega arith, omega arith, search needs, first-more _ _ (k .loop .inv .3) (is-mirrored _ _ _ _ (omega arith) f))
+    (omega arith, omega arith, search needs, first-more _ _ (at-loop .loop .inv .3) (is-mirrored _ _ _ _ (omega arith) f))
 
 add-i : tie.Need-add-i Inv-loop μ-loop Inv-rows μ-rows
 add-i c = omega arith
@@ -82,22 +88,30 @@ rows-less : tie.Need-rows-less Inv-loop μ-loop Inv-rows μ-rows
 rows-less c = omega arith
 
 rows-again : tie.Need-rows-again Inv-loop μ-loop Inv-rows μ-rows
-rows-again c =
-    (omega arith, search needs, first-more _ _ (c .before .before .before .rows .inv .2) (rw (le-antisymm (c .before .loop .inv .1) (c .loop-test .left)) at (c .before .loop .inv .3)))
+rows-again c = (
+  omega arith,
+  search needs,
+  first-more _ _ (c .before .before .before .rows .inv .2)
+      (rw (le-antisymm (c .before .loop .inv .1) (c .loop-test .left)) at (c .before .loop .inv .3)),
+)
 
 returns : tie.Need-returns Inv-loop μ-loop Inv-rows μ-rows
 returns c =
-    ap toldAnswer (c .before .rows .inv .1) ∙ sym (rw (le-antisymm (c .before .rows .inv .0) (c .rows-test .left)) at (c .before .rows .inv .2))
+    ap answered (c .before .rows .inv .1) ∙ sym (rw (le-antisymm (c .before .rows .inv .0) (c .rows-test .left)) at (c .before .rows .inv .2))
 
 returns-2 : tie.Need-returns-2 Inv-loop μ-loop Inv-rows μ-rows
 returns-2 c =
-    let k = c .before .before .before .before .before in
-    let r = k .before .before in
-    let e = c .before .before .before .entry .ensures ∙ entry-in _ _ _ _ (k .before .before .before .before .pre) (omega arith) (omega arith) in
-    let d = c .before .before .entry2 .ensures ∙ entry-in _ _ _ _ (k .before .before .before .before .pre) (omega arith) (omega arith) in
+    let at-mirror = c .before .before in
+    let at-entry = at-mirror .before in
+    let in-loop = at-entry .before in
+    let at-loop = in-loop .before in
+    let at-rows = at-loop .before .before in
+    let at-start = at-rows .before .before in
+    let e = at-entry .entry .ensures ∙ entry-in _ _ _ _ (at-start .pre) (omega arith) (omega arith) in
+    let d = at-mirror .entry2 .ensures ∙ entry-in _ _ _ _ (at-start .pre) (omega arith) (omega arith) in
     let f = same (sym e) (sym d) ∙ sym (c .before .same-bits .ensures) ∙ not-true _ (c .if1 .taken) in
-    sym (first-found _ _ _ _ _ (k .before .rows-test .taken) (r .rows .inv .2)
-    (first-found _ _ _ _ _ (c .before .before .before .before .loop-test .taken) (k .loop .inv .3) (is-not-mirrored _ _ _ _ (omega arith) f)))
+    sym (first-found _ _ _ _ _ (at-loop .before .rows-test .taken) (at-rows .rows .inv .2)
+    (first-found _ _ _ _ _ (in-loop .loop-test .taken) (at-loop .loop .inv .3) (is-not-mirrored _ _ _ _ (omega arith) f)))
 
 pub first-not-mirrored-spec : {M : Type 1} → statement M
 first-not-mirrored-spec =

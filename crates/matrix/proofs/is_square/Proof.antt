@@ -5,7 +5,7 @@ use Rattle.matrix.proofs.is_square.Statement.{statement}
 use Rattle.matrix.proofs.is_square.Tie as tie
 
 returns : tie.Need-returns
-returns c = let a = c .before .args in too-large (a .n) (a .length) (omega arith) (omega arith)
+returns c = let a = c .before .args in too-large (a .n) (a .long) (omega arith) (omega arith)
 
 mul-result : tie.Need-mul-result
 mul-result c = omega (arith, square-fits (c .before .args .n) (omega arith))

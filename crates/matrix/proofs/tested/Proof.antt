@@ -1,6 +1,6 @@
 use mathlib.Core.Path.{sym, ap, _∙_}
 use borrow.Author.Tests.{eqb-true, not-true, not-false}
-use Rattle.refusal.specs.Refusal.{toldAnswer}
+use Rattle.refusal.specs.Answers.{answered}
 use Rattle.matrix.proofs.Answers.{wrong-length, refused-5, refused-6}
 use borrow.Author.Needs.{needs}
 use Rattle.matrix.proofs.tested.Statement.{statement}
@@ -28,16 +28,18 @@ enum-known-refused c = search needs
 
 returns-2 : tie.Need-returns-2
 returns-2 c =
-    let s = c .before .before .before .before in
-    refused-6 _ _ (sym (not-false _ (s .if1 .left)) ∙ s .before .is-square .ensures)
-    (ap toldAnswer (sym (c .before .enum-told .given .1)) ∙ c .before .before .before .first-not-finite .ensures)
+    let at-finite = c .before .before .before in
+    let past-length = at-finite .before in
+    refused-6 _ _ (sym (not-false _ (past-length .if1 .left)) ∙ past-length .before .is-square .ensures)
+    (ap answered (sym (c .before .enum-told .given .1)) ∙ at-finite .first-not-finite .ensures)
     (c .first-not-mirrored .ensures)
 
 returns-3 : tie.Need-returns-3
 returns-3 c =
-    let s = c .before .before .before .before in
-    refused-5 _ _ (sym (not-false _ (s .if1 .left)) ∙ s .before .is-square .ensures)
-    (ap toldAnswer (sym (c .before .refused .given .1)) ∙ c .before .before .before .first-not-finite .ensures)
+    let at-finite = c .before .before .before in
+    let past-length = at-finite .before in
+    refused-5 _ _ (sym (not-false _ (past-length .if1 .left)) ∙ past-length .before .is-square .ensures)
+    (ap answered (sym (c .before .refused .given .1)) ∙ at-finite .first-not-finite .ensures)
 
 pub tested-spec : {M : Type 1} → statement M
 tested-spec =

@@ -8,10 +8,11 @@ use lib.ListN.{length}
 use Rattle.matrix.specs.Matrix.{at, flat}
 use Rattle.matrix.specs.Transposed.{across, upTo}
 use Rattle.matrix.proofs.Flat.{flat-length}
-use Rattle.matrix.proofs.Transposing.{left-as-it-was, begun, ended}
+use Rattle.matrix.proofs.Transposition.{left-as-it-was, begun, ended}
 use Rattle.matrix.proofs.transpose.Statement.{statement}
 use Rattle.matrix.proofs.transpose.Tie as tie
 
+-- The first i rows and columns are exchanged. What falls is n - i.
 abbrev Inv-loop : tie.InvT-loop
 Inv-loop n a₀ i₀ a i = (i ≤ n) × (length a₀ ≡ n * n) × (a ≡ flat n (across (upTo i 0) (at n a₀)))
 

@@ -18,7 +18,9 @@ tangent-of-pair-requires : tie.Need-tangent-of-pair-requires
 tangent-of-pair-requires c κs = search needs
 
 returns : tie.Need-returns
-returns c = let s = c .before in c .tangent-of-pair .ensures ∙ from-three tangent (s .before .before .entry .ensures) (s .before .entry2 .ensures) (s .entry3 .ensures)
+returns c =
+    let s = c .before in
+    c .tangent-of-pair .ensures ∙ from-three tangent (s .before .before .entry .ensures) (s .before .entry2 .ensures) (s .entry3 .ensures)
 
 pub tangent-spec : {M : Type 1} → statement M
 tangent-spec =

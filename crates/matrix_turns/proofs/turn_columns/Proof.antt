@@ -2,8 +2,9 @@ use mathlib.Core.Path.{sym, _∙_}
 use native.Mathlib.Omega.{arith}
 use borrow.Author.Needs.{needs}
 use borrow.Author.Tests.{not-true, not-false}
-use Rattle.matrix_turns.proofs.Two.{are-two, left-alone}
-use Rattle.matrix_turns.proofs.Turned.{in-rows, columns-turned}
+use lib.ListN.{length}
+use Rattle.matrix_turns.proofs.Two.{Two, are-two, left-alone}
+use Rattle.matrix_turns.proofs.TurnedLists.{in-rows, columns-turned}
 use Rattle.matrix_turns.proofs.turn_columns.Statement.{statement}
 use Rattle.matrix_turns.proofs.turn_columns.Tie as tie
 
@@ -13,25 +14,30 @@ are-lines-requires c κs = search needs
 returns : tie.Need-returns
 returns c = left-alone _ _ _ _ _ (sym (c .before .are-lines .ensures) ∙ not-true _ (c .if1 .taken))
 
+-- past the test
+there : (c : tie.Else1) → let given = c .before .before .before .args in Two (given .n) (given .p) (given .q) (length (given .a .now))
+there c = are-two _ _ _ _ (sym (c .before .are-lines .ensures) ∙ not-false _ (c .if1 .left))
+
 sub-turn-lines : tie.Need-sub-turn-lines
-sub-turn-lines c = let t = are-two _ _ _ _ (sym (c .before .are-lines .ensures) ∙ not-false _ (c .if1 .left)) in omega (arith, t .first-above, t .second-above)
+sub-turn-lines c = let t = there c in omega (arith, t .first-above, t .second-above)
 
 sub-turn-lines-2 : tie.Need-sub-turn-lines-2
-sub-turn-lines-2 c = let t = are-two _ _ _ _ (sym (c .before .are-lines .ensures) ∙ not-false _ (c .if1 .left)) in omega (arith, t .first-above, t .second-above)
+sub-turn-lines-2 c = let t = there c in omega (arith, t .first-above, t .second-above)
 
 turn-lines-requires : tie.Need-turn-lines-requires
 turn-lines-requires c κs =
-    let b = c .before in
-    in-rows (b .before .before .before .args .parameters) _ _ _ (b .before .before .before .args .a .now) (are-two _ _ _ _ (sym (b .before .are-lines .ensures) ∙ not-false _ (b .if1 .left)))
+    let past-test = c .before in
+    let given = past-test .before .before .before .args in
+    in-rows (given .parameters) _ _ _ (given .a .now) (there past-test)
 
 same-length : tie.Need-same-length
 same-length c = search needs
 
 returns-2 : tie.Need-returns-2
 returns-2 c =
-    let t = c .before .before in
-    let b = t .before .before in
-    t .turn-lines .ensures ∙ columns-turned _ _ _ _ (b .before .before .before .args .a .now) (are-two _ _ _ _ (sym (b .before .are-lines .ensures) ∙ not-false _ (b .if1 .left)))
+    let at-turn = c .before .before in
+    let past-test = at-turn .before .before in
+    at-turn .turn-lines .ensures ∙ columns-turned _ _ _ _ (past-test .before .before .before .args .a .now) (there past-test)
 
 pub turn-columns-spec : {M : Type 1} → statement M
 turn-columns-spec =

@@ -8,6 +8,7 @@ use Rattle.matrix_turns.proofs.Lines.{no-lines, next-line, turned-lengt
 use Rattle.matrix_turns.proofs.turn_lines.Statement.{statement}
 use Rattle.matrix_turns.proofs.turn_lines.Tie as tie
 
+-- The first r lines are turned. What falls is n - r.
 abbrev Inv-loop : tie.InvT-loop
 Inv-loop parameters n step i j a₀ r₀ a r = (r ≤ n) × (a ≡ turnLines (λ r. i + r * step) (λ r. j + r * step) parameters r a₀)
 

@@ -2,8 +2,9 @@ use mathlib.Core.Path.{sym, _∙_}
 use native.Mathlib.Omega.{arith}
 use borrow.Author.Needs.{needs}
 use borrow.Author.Tests.{not-true, not-false}
-use Rattle.matrix_turns.proofs.Two.{are-two, left-alone}
-use Rattle.matrix_turns.proofs.Turned.{in-columns, rows-turned, offsets-within}
+use lib.ListN.{length}
+use Rattle.matrix_turns.proofs.Two.{Two, are-two, left-alone}
+use Rattle.matrix_turns.proofs.TurnedLists.{in-columns, rows-turned, offsets-within}
 use Rattle.matrix_turns.proofs.turn_rows.Statement.{statement}
 use Rattle.matrix_turns.proofs.turn_rows.Tie as tie
 
@@ -13,35 +14,40 @@ are-lines-requires c κs = search needs
 returns : tie.Need-returns
 returns c = left-alone _ _ _ _ _ (sym (c .before .are-lines .ensures) ∙ not-true _ (c .if1 .taken))
 
+-- past the test
+there : (c : tie.Else1) → let given = c .before .before .before .args in Two (given .n) (given .p) (given .q) (length (given .a .now))
+there c = are-two _ _ _ _ (sym (c .before .are-lines .ensures) ∙ not-false _ (c .if1 .left))
+
 sub-turn-lines : tie.Need-sub-turn-lines
-sub-turn-lines c = let t = are-two _ _ _ _ (sym (c .before .are-lines .ensures) ∙ not-false _ (c .if1 .left)) in omega (arith, t .first-above, t .second-above)
+sub-turn-lines c = let t = there c in omega (arith, t .first-above, t .second-above)
 
 mul-turn-lines : tie.Need-mul-turn-lines
 mul-turn-lines c =
-    let b = c .before .before .before .args in
-    omega (arith, offsets-within (b .parameters) _ _ _ (b .a .now) (are-two _ _ _ _ (sym (c .before .are-lines .ensures) ∙ not-false _ (c .if1 .left))) .0)
+    let given = c .before .before .before .args in
+    omega (arith, offsets-within (given .parameters) _ _ _ (given .a .now) (there c) .0)
 
 sub-turn-lines-2 : tie.Need-sub-turn-lines-2
-sub-turn-lines-2 c = let t = are-two _ _ _ _ (sym (c .before .are-lines .ensures) ∙ not-false _ (c .if1 .left)) in omega (arith, t .first-above, t .second-above)
+sub-turn-lines-2 c = let t = there c in omega (arith, t .first-above, t .second-above)
 
 mul-turn-lines-2 : tie.Need-mul-turn-lines-2
 mul-turn-lines-2 c =
-    let b = c .before .before .before .args in
-    omega (arith, offsets-within (b .parameters) _ _ _ (b .a .now) (are-two _ _ _ _ (sym (c .before .are-lines .ensures) ∙ not-false _ (c .if1 .left))) .1)
+    let given = c .before .before .before .args in
+    omega (arith, offsets-within (given .parameters) _ _ _ (given .a .now) (there c) .1)
 
 turn-lines-requires : tie.Need-turn-lines-requires
 turn-lines-requires c κs =
-    let b = c .before in
-    in-columns (b .before .before .before .args .parameters) _ _ _ (b .before .before .before .args .a .now) (are-two _ _ _ _ (sym (b .before .are-lines .ensures) ∙ not-false _ (b .if1 .left)))
+    let past-test = c .before in
+    let given = past-test .before .before .before .args in
+    in-columns (given .parameters) _ _ _ (given .a .now) (there past-test)
 
 same-length : tie.Need-same-length
 same-length c = search needs
 
 returns-2 : tie.Need-returns-2
 returns-2 c =
-    let t = c .before .before in
-    let b = t .before .before in
-    t .turn-lines .ensures ∙ rows-turned _ _ _ _ (b .before .before .before .args .a .now) (are-two _ _ _ _ (sym (b .before .are-lines .ensures) ∙ not-false _ (b .if1 .left)))
+    let at-turn = c .before .before in
+    let past-test = at-turn .before .before in
+    at-turn .turn-lines .ensures ∙ rows-turned _ _ _ _ (past-test .before .before .before .args .a .now) (there past-test)
 
 pub turn-rows-spec : {M : Type 1} → statement M
 turn-rows-spec =

@@ -1,4 +1,4 @@
-use Rattle.ordering.proofs.Coming.{left-first, left-second, left-other}
+use Rattle.ordering.proofs.Movement.{left-first, left-second, left-other}
 use borrow.Author.Needs.{needs}
 use Rattle.ordering.proofs.into_left.Statement.{statement}
 use Rattle.ordering.proofs.into_left.Tie as tie

@@ -1,5 +1,5 @@
 use native.Mathlib.Omega.{arith}
-use Rattle.ordering.proofs.Coming.{right-other, right-only, right-last}
+use Rattle.ordering.proofs.Movement.{right-other, right-only, right-last}
 use borrow.Author.Needs.{needs}
 use Rattle.ordering.proofs.into_right.Statement.{statement}
 use Rattle.ordering.proofs.into_right.Tie as tie

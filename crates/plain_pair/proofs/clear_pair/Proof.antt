@@ -4,7 +4,7 @@ use borrow.Author.Needs.{needs}
 use lib.ListN.{length}
 use Rattle.matrix.proofs.Flat.{flat-length}
 use Rattle.matrix_turns.proofs.Two.{are-two}
-use Rattle.plain_pair.proofs.Turning.{cleared}
+use Rattle.plain_pair.proofs.TurnedStates.{cleared}
 use Rattle.plain_pair.proofs.clear_pair.Statement.{statement}
 use Rattle.plain_pair.proofs.clear_pair.Tie as tie
 

@@ -1,7 +1,7 @@
 use mathlib.Core.Path.{_∙_}
 use native.Mathlib.Omega.{arith}
 use borrow.Author.Needs.{needs}
-use Rattle.plain_pair.proofs.There.{other-length, by-lines}
+use Rattle.plain_pair.proofs.PairLines.{other-length, by-lines}
 use Rattle.plain_pair.proofs.has_pair.Statement.{statement}
 use Rattle.plain_pair.proofs.has_pair.Tie as tie
 

@@ -1,5 +1,5 @@
 use mathlib.Core.Path.{sym}
-use Rattle.plain_pair.proofs.Turning.{still-held, turn-held}
+use Rattle.plain_pair.proofs.TurnedStates.{still-held, turn-held}
 use borrow.Author.Needs.{needs}
 use Rattle.plain_pair.proofs.make_pair.Statement.{statement}
 use Rattle.plain_pair.proofs.make_pair.Tie as tie
@@ -27,7 +27,7 @@ returns c =
     let s = c .before .before in
     let k = s .before .before in
     let start = k .before .before .before .before in
-    still-held _ _ _ (start .args .a .now) _ _ (start .pre .1) (sym (k .enum-told .given .1)) (s .clear-pair .ensures)
+    still-held _ _ _ (start .args .a .now) _ _ (start .pre .0) (start .pre .1) (sym (k .enum-told .given .1)) (s .clear-pair .ensures)
 
 same-length-2 : tie.Need-same-length-2
 same-length-2 c = search needs
@@ -41,7 +41,8 @@ returns-2 c =
     let m = s .before .before .before .before in
     let k = m .before .before .before in
     let start = k .before .before .before .before in
-    turn-held _ _ _ _ (start .args .a .now) _ (start .args .vectors .now) _ (start .pre .0) (start .pre .1) (sym (k .parameters .given .1)) (m .turn-matrix .ensures) (s .turn-rows .ensures)
+    turn-held _ _ _ _ (start .args .a .now) _ (start .args .vectors .now) _ (start .pre .0) (start .pre .1)
+    (sym (k .parameters .given .1)) (m .turn-matrix .ensures) (s .turn-rows .ensures)
 
 pub make-pair-spec : {M : Type 1} → statement M
 make-pair-spec =

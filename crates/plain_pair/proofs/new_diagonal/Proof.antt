@@ -22,7 +22,8 @@ returns : tie.Need-returns
 returns c =
     let s = c .before in
     let a = s .before .before .before .before .args in
-    c .diagonal .ensures ∙ from-three (diagonalOf (Turn (a .t) (a .c) (a .s))) (s .before .before .entry .ensures) (s .before .entry2 .ensures) (s .entry3 .ensures)
+    c .diagonal .ensures
+    ∙ from-three (diagonalOf (Turn (a .t) (a .c) (a .s))) (s .before .before .entry .ensures) (s .before .entry2 .ensures) (s .entry3 .ensures)
 
 pub new-diagonal-spec : {M : Type 1} → statement M
 new-diagonal-spec =

@@ -1,6 +1,6 @@
 use native.Mathlib.Omega.{arith}
 use borrow.Author.Needs.{needs}
-use Rattle.plain_pair.proofs.Places.{place-within, place-set}
+use Rattle.plain_pair.proofs.EntrySet.{place-within, place-set}
 use Rattle.plain_pair.proofs.set_entry.Statement.{statement}
 use Rattle.plain_pair.proofs.set_entry.Tie as tie
 

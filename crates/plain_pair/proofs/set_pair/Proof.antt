@@ -1,7 +1,7 @@
 use native.Mathlib.Omega.{arith}
 use borrow.Author.Needs.{needs}
 use Rattle.matrix_turns.proofs.Two.{are-two, two-as}
-use Rattle.plain_pair.proofs.Turning.{pair-set}
+use Rattle.plain_pair.proofs.TurnedStates.{pair-set}
 use Rattle.plain_pair.proofs.set_pair.Statement.{statement}
 use Rattle.plain_pair.proofs.set_pair.Tie as tie
 

@@ -1,7 +1,7 @@
 use mathlib.Core.Path.{sym, _∙_}
 use borrow.Author.Needs.{needs}
 use borrow.Author.Tests.{not-true, not-false}
-use Rattle.plain_pair.proofs.There.{pair-there, nothing-done, pair-done}
+use Rattle.plain_pair.proofs.PairLines.{pair-there, nothing-done, pair-done}
 use Rattle.plain_pair.proofs.turn.Statement.{statement}
 use Rattle.plain_pair.proofs.turn.Tie as tie
 

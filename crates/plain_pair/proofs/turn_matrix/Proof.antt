@@ -2,7 +2,7 @@ use native.Mathlib.Omega.{arith}
 use borrow.Author.Needs.{needs}
 use Rattle.rotation.specs.declared.Parameters.the-variants.{Turn}
 use Rattle.matrix_turns.proofs.Two.{two-as}
-use Rattle.plain_pair.proofs.Turning.{turn-made}
+use Rattle.plain_pair.proofs.TurnedStates.{turn-made}
 use Rattle.plain_pair.proofs.turn_matrix.Statement.{statement}
 use Rattle.plain_pair.proofs.turn_matrix.Tie as tie
 
@@ -28,7 +28,8 @@ returns c =
     let s₁ = s₂ .before .before .before .before in
     let d = s₁ .before .before in
     let start = d .before .before .before in
-    turn-made _ _ _ (Turn (start .args .t) (start .args .c) (start .args .s)) (start .args .a .now) _ _ _ _ (start .pre) (d .new-diagonal .ensures) (s₁ .turn-rows .ensures) (s₂ .turn-columns .ensures) (s₃ .set-pair .ensures)
+    turn-made _ _ _ (Turn (start .args .t) (start .args .c) (start .args .s)) (start .args .a .now) _ _ _ _ (start .pre)
+    (d .new-diagonal .ensures) (s₁ .turn-rows .ensures) (s₂ .turn-columns .ensures) (s₃ .set-pair .ensures)
 
 pub turn-matrix-spec : {M : Type 1} → statement M
 turn-matrix-spec =

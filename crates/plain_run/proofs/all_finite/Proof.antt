@@ -5,11 +5,12 @@ use native.Mathlib.Omega.{arith}
 use borrow.Author.Needs.{needs}
 use borrow.Author.Tests.{not-true, not-false}
 use lib.ListN.{length}
-use Rattle.systolic.proofs.Bounded.{any-none, any-more}
-use Rattle.plain_run.proofs.Endings.{notFiniteBelow, one-found, none-found}
+use Rattle.lists.proofs.Bounded.{any-none, any-more}
+use Rattle.plain_run.proofs.RunEnd.{notFiniteBelow, one-found, none-found}
 use Rattle.plain_run.proofs.all_finite.Statement.{statement}
 use Rattle.plain_run.proofs.all_finite.Tie as tie
 
+-- The first k values are finite. What falls is the number of values left.
 abbrev Inv-loop : tie.InvT-loop
 Inv-loop a k₀ k-end k = (k ≤ length a) × (notFiniteBelow a k ≡ false)
 
@@ -39,9 +40,9 @@ loop-less c = omega arith
 
 loop-again : tie.Need-loop-again Inv-loop μ-loop
 loop-again c =
-    let s = c .before in
-    let k = s .before .before .before in
-    (omega arith, any-more _ _ (k .loop .inv .1) (ap not (sym (s .is-finite .ensures) ∙ not-false _ (c .if1 .left))))
+    let tested = c .before in
+    let at-loop = tested .before .before .before .loop in
+    (omega arith, any-more _ _ (at-loop .inv .1) (ap not (sym (tested .is-finite .ensures) ∙ not-false _ (c .if1 .left))))
 
 returns-2 : tie.Need-returns-2 Inv-loop μ-loop
 returns-2 c = none-found _ _ (c .before .loop .inv .1) (omega arith)

@@ -1,6 +1,6 @@
 use borrow.Author.Needs.{needs}
 use borrow.Author.Tests.{not-true, not-false}
-use Rattle.plain_run.proofs.Endings.{of-not, first-not, by-second}
+use Rattle.plain_run.proofs.RunEnd.{of-not, first-not, by-second}
 use Rattle.plain_run.proofs.both_finite.Statement.{statement}
 use Rattle.plain_run.proofs.both_finite.Tie as tie
 

@@ -4,10 +4,11 @@ use mathlib.Core.Path.{refl}
 use lib.Ieee.{nan}
 use lib.ListN.{length, getD}
 use Rattle.lists.proofs.Filled.{Filled, filled-none, filled-next}
-use Rattle.plain_run.proofs.Starts.{copied}
+use Rattle.plain_run.proofs.CopiedLists.{copied}
 use Rattle.plain_run.proofs.copy.Statement.{statement}
 use Rattle.plain_run.proofs.copy.Tie as tie
 
+-- The first k values are copied. What falls is the number of values left.
 abbrev Inv-loop : tie.InvT-loop
 Inv-loop from to₀ k₀ k-end to k = (k ≤ length from) × Filled nan (λ i. getD from i nan) (length from) k to
 
@@ -36,7 +37,7 @@ loop-less : tie.Need-loop-less Inv-loop μ-loop
 loop-less c = omega arith
 
 loop-again : tie.Need-loop-again Inv-loop μ-loop
-loop-again c = let k = c .before .before .loop in (omega arith, filled-next _ _ _ (k .inv .1) (omega arith) refl)
+loop-again c = let at-loop = c .before .before .loop in (omega arith, filled-next _ _ _ (at-loop .inv .1) (omega arith) refl)
 
 same-length : tie.Need-same-length Inv-loop μ-loop
 same-length c = omega arith

@@ -1,6 +1,6 @@
 use borrow.Author.Needs.{needs}
 use borrow.Author.Tests.{not-true, not-false}
-use Rattle.plain_run.proofs.Endings.{of-not, spoils, stays}
+use Rattle.plain_run.proofs.RunEnd.{of-not, spoils, stays}
 use Rattle.plain_run.proofs.finish.Statement.{statement}
 use Rattle.plain_run.proofs.finish.Tie as tie
 

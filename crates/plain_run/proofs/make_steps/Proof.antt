@@ -1,22 +1,25 @@
-use Prim.Native.Nat.{_-_, _*_, _≤_}
+use Prim.Native.Nat.{_-_, _≤_}
 use mathlib.Core.Path.{_≡_, refl, ap, _∙_}
-use mathlib.Core.Bool.{false}
+use mathlib.Core.Bool.{true}
 use native.Mathlib.Nat.{le-antisymm}
 use native.Mathlib.Omega.{arith}
 use borrow.Author.Needs.{needs}
-use lib.ListN.{length}
-use Rattle.ordering.specs.Pairs.{noOrder, registersAt, afterStep}
-use Rattle.ordering.proofs.Orders.{order-is, of-order, next-at}
+use Rattle.sizes.specs.Sizes.{isOrder}
+use Rattle.ordering.specs.Pairs.{registersAt, afterStep}
+use Rattle.sizes.proofs.Orders.{order-is}
+use Rattle.ordering.proofs.OrderRegisters.{of-order, next-at}
 use Rattle.plain_pair.specs.Pair.{stateOf, Held}
-use Rattle.plain_pair.proofs.Alike.{held-itself, held-long}
+use Rattle.plain_pair.proofs.AlikeStates.{held-itself, held-long}
 use Rattle.plain_run.specs.State.{after}
-use Rattle.plain_run.proofs.Steps.{no-steps, step-next, registers-paired}
-use Rattle.plain_run.proofs.Ahead.{step-found}
+use Rattle.plain_run.proofs.HeldStates.{no-steps, step-next, registers-paired}
+use Rattle.plain_run.proofs.StepParameters.{step-found}
 use Rattle.plain_run.proofs.make_steps.Statement.{statement}
 use Rattle.plain_run.proofs.make_steps.Tie as tie
 
+-- The two lists hold the state after k steps and the registers stand at step k. What falls is count - k.
 abbrev Inv-loop : tie.InvT-loop
-Inv-loop n count a₀ vectors₀ registers₀ k₀ a vectors registers k = (k ≤ count) × (noOrder n ≡ false) × (length a₀ ≡ n * n) × (length vectors₀ ≡ n * n) × (registers ≡ registersAt n k) × Held n a vectors (after n k (stateOf n a₀ vectors₀))
+Inv-loop n count a₀ vectors₀ registers₀ k₀ a vectors registers k =
+    (k ≤ count) × (isOrder n ≡ true) × (registers ≡ registersAt n k) × Held n a vectors (after n k (stateOf n a₀ vectors₀))
 
 abbrev μ-loop : tie.MeasureT-loop
 μ-loop n count a₀ vectors₀ registers₀ k₀ a vectors registers k = count - k
@@ -26,8 +29,8 @@ of-order-requires c κs = search needs
 
 loop-holds : tie.Need-loop-holds Inv-loop μ-loop
 loop-holds c =
-    let s = c .before .before .before in
-    (omega arith, s .pre .0, s .pre .1, s .pre .2, of-order _ (s .pre .0) (c .of-order .ensures), no-steps _ _ _ _ (held-itself _ _ _ (s .pre .1) (s .pre .2)))
+    let p = c .before .before .before .pre in
+    (omega arith, p .0, of-order _ (p .0) (c .of-order .ensures), no-steps _ _ _ _ (held-itself _ _ _ (p .1) (p .2)))
 
 tangents-of-requires : tie.Need-tangents-of-requires Inv-loop μ-loop
 tangents-of-requires c κs = order-is _ (c .before .before .loop .inv .1) .2
@@ -37,12 +40,19 @@ parameters-of-requires c κs = order-is _ (c .before .before .before .loop .inv 
 
 make-pairs-requires : tie.Need-make-pairs-requires Inv-loop μ-loop
 make-pairs-requires c κs =
-    let s = c .before .before in
-    let t = s .before in
-    let k = t .before .before .before .loop in
-    let i = k .inv in
-    let h = held-long _ _ _ _ (i .5) in
-    ((order-is _ (i .1) .2, h .0, h .1), (rw (i .4) (registers-paired _ (i .1) _), step-found _ (i .1) (k .k) (k .registers) (i .4) (t .tangents-of .result) (s .parameters-of .result) _ _ (h .0) (t .tangents-of .ensures) (s .parameters-of .ensures)))
+    let with-parameters = c .before .before in
+    let with-tangents = with-parameters .before in
+    let at-loop = with-tangents .before .before .before .loop in
+    let i = at-loop .inv in
+    let h = held-long _ _ _ _ (i .3) in
+    let tangents = with-tangents .tangents-of in
+    let found = with-parameters .parameters-of in (
+      (order-is _ (i .1) .2, h .0, h .1),
+      (
+        rw (i .2) (registers-paired _ (i .1) _),
+        step-found _ (i .1) (at-loop .k) (at-loop .registers) (i .2) (tangents .result) (found .result) _ _ (h .0) (tangents .ensures) (found .ensures),
+      ),
+    )
 
 after-step-requires : tie.Need-after-step-requires Inv-loop μ-loop
 after-step-requires c κs = search needs
@@ -55,27 +65,25 @@ loop-less c = omega arith
 
 loop-again : tie.Need-loop-again Inv-loop μ-loop
 loop-again c =
-    let s = c .before .before .before .before .before in
-    let k = s .before .before .before .before .before .before .before .loop in
-    let i = k .inv in (
+    let turned = c .before .before .before .before .before in
+    let at-loop = turned .before .before .before .before .before .before .before .loop in
+    let i = at-loop .inv in (
       omega arith,
       i .1,
-      i .2,
-      i .3,
-      of-order _ (i .1) (c .after-step .ensures) ∙ ap (afterStep _) (i .4) ∙ next-at _ _ (i .1),
-      step-next _ _ _ _ _ _ (i .5) (k .registers) _ _ (i .4) (rw (i .4) (registers-paired _ (i .1) _)) refl (s .make-pairs .ensures),
+      of-order _ (i .1) (c .after-step .ensures) ∙ ap (afterStep _) (i .2) ∙ next-at _ _ (i .1),
+      step-next _ _ _ _ _ _ (i .3) (at-loop .registers) _ _ (i .2) (rw (i .2) (registers-paired _ (i .1) _)) refl (turned .make-pairs .ensures),
     )
 
 same-length : tie.Need-same-length Inv-loop μ-loop
-same-length c = omega (arith, held-long _ _ _ _ (c .before .loop .inv .5) .0)
+same-length c = omega (arith, held-long _ _ _ _ (c .before .loop .inv .3) .0)
 
 same-length-2 : tie.Need-same-length-2 Inv-loop μ-loop
-same-length-2 c = omega (arith, held-long _ _ _ _ (c .before .loop .inv .5) .1)
+same-length-2 c = omega (arith, held-long _ _ _ _ (c .before .loop .inv .3) .1)
 
 returns : tie.Need-returns Inv-loop μ-loop
 returns c =
     let i = c .before .loop .inv in
-    rw (le-antisymm (i .0) (c .loop-test .left)) at (i .5)
+    rw (le-antisymm (i .0) (c .loop-test .left)) at (i .3)
 
 pub make-steps-spec : {M : Type 1} → statement M
 make-steps-spec =

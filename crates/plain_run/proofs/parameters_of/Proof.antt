@@ -1,25 +1,28 @@
-use Prim.Native.Nat.{_-_, _/_, _≤_}
+use Prim.Native.Nat.{_-_, _≤_}
 use mathlib.Core.Path.{refl}
 use native.Mathlib.Omega.{arith}
 use borrow.Author.Needs.{needs}
 use lib.Ieee.{nan}
 use lib.ListN.{getD}
 use Rattle.lists.proofs.Filled.{Filled, filled-none, filled-next}
-use Rattle.ordering.specs.Registers.{most}
-use Rattle.ordering.specs.Pairs.{limit}
+use Rattle.sizes.specs.Sizes.{mostProcessors}
 use Rattle.rotation.specs.declared.Parameters.the-variants.{Still}
 use Rattle.rotation.specs.Rotation.{ofTangent}
 use Rattle.plain_run.proofs.parameters_of.Statement.{statement}
 use Rattle.plain_run.proofs.parameters_of.Tie as tie
 
+-- The parameters of the processors below k are found. What falls is processors - k.
 abbrev Inv-loop : tie.InvT-loop
-Inv-loop n tangents found₀ k₀ k-end found k = (k ≤ n / 2) × (n ≤ limit) × Filled Still (λ i. ofTangent (getD tangents i nan)) most k found
+Inv-loop n tangents found₀ processors k₀ found k = (k ≤ processors) × Filled Still (λ i. ofTangent (getD tangents i nan)) mostProcessors k found
 
 abbrev μ-loop : tie.MeasureT-loop
-μ-loop n tangents found₀ k₀ k-end found k = n / 2 - k
+μ-loop n tangents found₀ processors k₀ found k = processors - k
+
+processors-of-requires : tie.Need-processors-of-requires Inv-loop μ-loop
+processors-of-requires c κs = search needs
 
 loop-holds : tie.Need-loop-holds Inv-loop μ-loop
-loop-holds c = (omega arith, omega arith, filled-none _ refl)
+loop-holds c = (omega arith, filled-none _ refl)
 
 mul-of-tangent : tie.Need-mul-of-tangent Inv-loop μ-loop
 mul-of-tangent c = omega arith
@@ -44,11 +47,11 @@ loop-less c = omega arith
 
 loop-again : tie.Need-loop-again Inv-loop μ-loop
 loop-again c =
-    let k = c .before .before .loop in
-    (omega arith, k .inv .1, filled-next _ _ _ (k .inv .2) (omega arith) (c .of-tangent .ensures))
+    let at-loop = c .before .before .loop in
+    (omega arith, filled-next _ _ _ (at-loop .inv .1) (omega arith) (c .of-tangent .ensures))
 
 returns : tie.Need-returns Inv-loop μ-loop
-returns c i h = c .before .loop .inv .2 .filled i (omega arith)
+returns c i h = c .before .loop .inv .1 .filled i (omega arith)
 
 pub parameters-of-spec : {M : Type 1} → statement M
 parameters-of-spec =
@@ -56,6 +59,7 @@ parameters-of-spec =
     (tie.spec
     Inv-loop
     μ-loop
+    processors-of-requires
     loop-holds
     mul-of-tangent
     array-read-of-tangent

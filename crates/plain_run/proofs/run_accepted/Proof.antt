@@ -1,43 +1,42 @@
 use borrow.Author.Needs.{needs}
 use mathlib.Core.Path.{sym, _∙_}
 use native.Mathlib.Omega.{arith}
-use Rattle.ordering.proofs.Orders.{order-is}
-use Rattle.matrix.proofs.Accepted.{accepted-long}
-use Rattle.plain_pair.proofs.Alike.{held-long}
-use Rattle.plain_run.proofs.Outcomes.{begins, order-above, product-fits, run-made}
+use lib.ListN.{length}
+use Rattle.sizes.proofs.Orders.{order-is}
+use Rattle.matrix.proofs.AcceptedEntries.{accepted-long}
+use Rattle.runs.proofs.Verdicts.{Begins, begins}
+use Rattle.plain_pair.proofs.AlikeStates.{held-long}
+use Rattle.plain_run.proofs.Outcomes.{run-made}
 use Rattle.plain_run.proofs.run_accepted.Statement.{statement}
 use Rattle.plain_run.proofs.run_accepted.Tie as tie
 
+-- what is known where nothing is refused
+begun : (s : tie.Start) → Begins (s .args .n) (s .args .sweeps) (s .args .matrix .now) (length (s .args .result .now)) (length (s .args .vectors .now))
+begun s = begins _ _ _ _ _ (s .pre)
+
+-- the start of the run, from the place where its steps are counted
+abbrev start-of : tie.After-slice-known4 → tie.Start
+start-of c = c .before .before .before .before .before .before .before .before .before .before .before
+
 copy-requires : tie.Need-copy-requires
 copy-requires c κs =
-    let k = c .before .before .before in
-    let t = begins _ _ (k .before .args .matrix .now) _ _ (k .before .pre) in
-    t .result-long ∙ sym (accepted-long _ _ (k .shared-slice-known .given) (t .entries))
+    let known = c .before .before .before in
+    let b = begun (known .before) in
+    b .result-long ∙ sym (accepted-long _ _ (known .shared-slice-known .given) (b .entries))
 
 set-identity-requires : tie.Need-set-identity-requires
 set-identity-requires c κs =
-    let s = c .before .before .before .before .before .before .before .before in
-    let t = begins _ _ (s .args .matrix .now) _ _ (s .pre) in
-    (omega (arith, order-above _ (t .order)), omega (arith, t .vectors-long))
+    let b = begun (c .before .before .before .before .before .before .before .before) in
+    let o = order-is _ (b .order) in
+    (omega arith, omega (arith, b .vectors-long))
 
-sub-make-steps : tie.Need-sub-make-steps
-sub-make-steps c =
-    let s = c .before .before .before .before .before .before .before .before .before .before .before in
-    let h = order-above _ (begins _ _ (s .args .matrix .now) _ _ (s .pre) .order) in
-    omega arith
-
-mul-make-steps : tie.Need-mul-make-steps
-mul-make-steps c =
-    let s = c .before .before .before .before .before .before .before .before .before .before .before in
-    let t = begins _ _ (s .args .matrix .now) _ _ (s .pre) in
-    let h = order-is _ (t .order) .2 in
-    record { fits = product-fits _ _ (t .few) (omega arith) }
+steps-of-requires : tie.Need-steps-of-requires
+steps-of-requires c κs = let b = begun (start-of c) in (b .order, b .few)
 
 make-steps-requires : tie.Need-make-steps-requires
 make-steps-requires c κs =
-    let s = c .before .before .before .before .before .before .before .before .before .before .before .before .before in
-    let t = begins _ _ (s .args .matrix .now) _ _ (s .pre) in
-    (t .order, omega (arith, t .result-long), omega (arith, t .vectors-long))
+    let b = begun (start-of (c .before .before .before)) in
+    (b .order, omega (arith, b .result-long), omega (arith, b .vectors-long))
 
 transpose-requires : tie.Need-transpose-requires
 transpose-requires c κs = search needs
@@ -55,14 +54,16 @@ same-length-2 c = search needs
 
 returns : tie.Need-returns
 returns c =
-    let f = c .before .before .before .before in
-    let v = f .before .before .before .before .before in
-    let m = v .before .before .before .before .before .before in
-    let i = m .before .before .before .before .before in
-    let a = i .before .before .before .before in
-    let k = a .before .before .before .before in
-    let t = begins _ _ (k .before .args .matrix .now) _ _ (k .before .pre) in
-    run-made _ _ _ (k .shared-slice-known .given) _ _ t _ _ _ _ _ (a .copy .ensures) (i .set-identity .ensures) (m .make-steps .ensures) (v .transpose .ensures) (f .finish .ensures)
+    let at-end = c .before .before .before .before in
+    let at-columns = at-end .before .before .before .before .before in
+    let at-steps = at-columns .before .before .before .before .before .before in
+    let counted = at-steps .before .before .before in
+    let at-identity = counted .before .before .before in
+    let at-copy = at-identity .before .before .before .before in
+    let known = at-copy .before .before .before .before in
+    let held = rw (counted .steps-of .ensures) at (at-steps .make-steps .ensures) in
+    run-made _ _ _ (known .shared-slice-known .given) _ _ (begun (known .before)) _ _ _ _ _ (at-copy .copy .ensures)
+    (at-identity .set-identity .ensures) held (at-columns .transpose .ensures) (at-end .finish .ensures)
 
 pub run-accepted-spec : {M : Type 1} → statement M
 run-accepted-spec =
@@ -70,8 +71,7 @@ run-accepted-spec =
     (tie.spec
     copy-requires
     set-identity-requires
-    sub-make-steps
-    mul-make-steps
+    steps-of-requires
     make-steps-requires
     transpose-requires
     finish-requires

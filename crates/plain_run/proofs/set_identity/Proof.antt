@@ -6,11 +6,12 @@ use lib.Ieee.{nan}
 use lib.ListN.{length}
 use Rattle.lists.proofs.Filled.{Filled, filled-none, filled-next}
 use Rattle.matrix.proofs.Flat.{row-lt, column-lt}
-use Rattle.plain_run.specs.State.{identity}
-use Rattle.plain_run.proofs.Starts.{identity-filled}
+use Rattle.runs.specs.State.{identity}
+use Rattle.plain_run.proofs.CopiedLists.{identity-filled}
 use Rattle.plain_run.proofs.set_identity.Statement.{statement}
 use Rattle.plain_run.proofs.set_identity.Tie as tie
 
+-- The first k values are those of the identity. What falls is the number of values left.
 abbrev Inv-loop : tie.InvT-loop
 Inv-loop n a₀ k₀ k-end a k =
     (1 ≤ n) × (length a₀ ≡ n * n) × (k ≤ n * n) × Filled nan (λ i. identity (i / n + 1) (i % n + 1)) (n * n) k a
@@ -50,8 +51,8 @@ loop-less c = omega arith
 
 loop-again : tie.Need-loop-again Inv-loop μ-loop
 loop-again c =
-    let k = c .before .before .loop in
-    (omega arith, omega arith, omega arith, filled-next _ _ _ (k .inv .3) (omega arith) (c .identity .ensures))
+    let at-loop = c .before .before .loop in
+    (omega arith, omega arith, omega arith, filled-next _ _ _ (at-loop .inv .3) (omega arith) (c .identity .ensures))
 
 same-length : tie.Need-same-length Inv-loop μ-loop
 same-length c = omega arith

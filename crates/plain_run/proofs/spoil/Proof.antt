@@ -1,5 +1,4 @@
-use Rattle.plain_run.proofs.Endings.{spoiled-outcome}
-use Rattle.plain_run.proofs.Starts.{cleared}
+use Rattle.runs.proofs.Starts.{spoiled-outcome, cleared}
 use borrow.Author.Needs.{needs}
 use Rattle.plain_run.proofs.spoil.Statement.{statement}
 use Rattle.plain_run.proofs.spoil.Tie as tie

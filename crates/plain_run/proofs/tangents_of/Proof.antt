@@ -1,26 +1,29 @@
-use Prim.Native.Nat.{_-_, _/_, _≤_}
+use Prim.Native.Nat.{_-_, _≤_}
 use mathlib.Core.Path.{refl}
 use native.Mathlib.Omega.{arith}
 use borrow.Author.Needs.{needs}
 use lib.Ieee.{nan}
 use lib.ListN.{getD}
 use Rattle.lists.proofs.Filled.{Filled, filled-none, filled-next}
-use Rattle.ordering.specs.Registers.{most}
-use Rattle.ordering.specs.Pairs.{limit}
+use Rattle.sizes.specs.Sizes.{mostProcessors}
 use Rattle.matrix.specs.Matrix.{entryOf}
 use Rattle.matrix_turns.specs.Turns.{pairTangent}
 use Rattle.plain_run.proofs.tangents_of.Statement.{statement}
 use Rattle.plain_run.proofs.tangents_of.Tie as tie
 
+-- The tangents of the processors below k are found. What falls is processors - k.
 abbrev Inv-loop : tie.InvT-loop
-Inv-loop n a lefts rights tangents₀ k₀ k-end tangents k =
-    (k ≤ n / 2) × (n ≤ limit) × Filled nan (λ i. pairTangent (getD lefts i 0) (getD rights i 0) (entryOf n a)) most k tangents
+Inv-loop n a lefts rights tangents₀ processors k₀ tangents k =
+    (k ≤ processors) × Filled nan (λ i. pairTangent (getD lefts i 0) (getD rights i 0) (entryOf n a)) mostProcessors k tangents
 
 abbrev μ-loop : tie.MeasureT-loop
-μ-loop n a lefts rights tangents₀ k₀ k-end tangents k = n / 2 - k
+μ-loop n a lefts rights tangents₀ processors k₀ tangents k = processors - k
+
+processors-of-requires : tie.Need-processors-of-requires Inv-loop μ-loop
+processors-of-requires c κs = search needs
 
 loop-holds : tie.Need-loop-holds Inv-loop μ-loop
-loop-holds c = (omega arith, omega arith, filled-none _ refl)
+loop-holds c = (omega arith, filled-none _ refl)
 
 mul-tangent : tie.Need-mul-tangent Inv-loop μ-loop
 mul-tangent c = omega arith
@@ -51,11 +54,11 @@ loop-less c = omega arith
 
 loop-again : tie.Need-loop-again Inv-loop μ-loop
 loop-again c =
-    let k = c .before .before .loop in
-    (omega arith, k .inv .1, filled-next _ _ _ (k .inv .2) (omega arith) (c .tangent .ensures))
+    let at-loop = c .before .before .loop in
+    (omega arith, filled-next _ _ _ (at-loop .inv .1) (omega arith) (c .tangent .ensures))
 
 returns : tie.Need-returns Inv-loop μ-loop
-returns c i h = c .before .loop .inv .2 .filled i (omega arith)
+returns c i h = c .before .loop .inv .1 .filled i (omega arith)
 
 pub tangents-of-spec : {M : Type 1} → statement M
 tangents-of-spec =
@@ -63,6 +66,7 @@ tangents-of-spec =
     (tie.spec
     Inv-loop
     μ-loop
+    processors-of-requires
     loop-holds
     mul-tangent
     array-read-tangent

@@ -39,7 +39,8 @@ returns-2 : tie.Need-returns-2
 returns-2 c =
     let a = c .before .before .before in
     let b = a .args .b in
-    c .scaled .ensures ∙ root-units-at _ (b % 2 ^ 52 + 2 ^ 52) (b / 2 ^ 52 + 52) (field-units b (omega arith) (a .pre .1)) (omega arith) (omega arith) (omega arith)
+    c .scaled .ensures
+    ∙ root-units-at _ (b % 2 ^ 52 + 2 ^ 52) (b / 2 ^ 52 + 52) (field-units b (omega arith) (a .pre .1)) (omega arith) (omega arith) (omega arith)
 
 pub positive-spec : {M : Type 1} → statement M
 positive-spec =

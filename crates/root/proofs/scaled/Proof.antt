@@ -20,7 +20,8 @@ nearest-root-requires : tie.Need-nearest-root-requires
 nearest-root-requires c κs = search needs
 
 digits53 : (c : tie.After-nearest-root) → (2 ^ 52 ≤ c .nearest-root .result) × (c .nearest-root .result < 2 ^ 53)
-digits53 c = subst (λ (q : ℕ). (2 ^ 52 ≤ q) × (q < 2 ^ 53)) (sym (c .nearest-root .ensures)) (root-digits (c .before .args .k) (c .before .pre .0) (c .before .pre .1))
+digits53 c =
+    subst (λ (q : ℕ). (2 ^ 52 ≤ q) × (q < 2 ^ 53)) (sym (c .nearest-root .ensures)) (root-digits (c .before .args .k) (c .before .pre .0) (c .before .pre .1))
 
 add-result-2 : tie.Need-add-result-2
 add-result-2 c = let d = digits53 c in omega arith

@@ -2,7 +2,7 @@ use mathlib.Core.Path.{sym, ap, _∙_, subst}
 use lib.Dec.{T}
 use lib.Ieee.{Float, binary64, fits}
 use lib.Ieee.Bits.{ofBits-toBits}
-use Rattle.refusal.specs.Refusal.{given}
+use Rattle.refusal.specs.Answers.{given}
 use Rattle.float64.specs.Units.{unitsOf}
 use Rattle.float64.proofs.Zeros.{above-zero, equal-zero}
 use Rattle.float64.proofs.Above.{above-no-nan, above-pattern, finite-pattern, infinite-pattern}
@@ -28,7 +28,8 @@ returns c =
     ap given (c .positive .ensures ∙ ap (λ (y : Float). rootUnits (unitsOf y)) (ofBits-toBits binary64 x (held a))) ∙ sym (sqrt-positive x p)
 
 returns-2 : tie.Need-returns-2
-returns-2 c = sqrt-infinite _ (sym (above-zero _) ∙ c .before .if1 .taken) (infinite-pattern _ (held (c .before .before)) (c .before .if1 .taken) (c .if2 .left))
+returns-2 c =
+    sqrt-infinite _ (sym (above-zero _) ∙ c .before .if1 .taken) (infinite-pattern _ (held (c .before .before)) (c .before .if1 .taken) (c .if2 .left))
 
 returns-3 : tie.Need-returns-3
 returns-3 c = sqrt-zero _ (sym (equal-zero _) ∙ c .if3 .taken)

@@ -5,6 +5,7 @@ use Rattle.root.proofs.Scales.{wide, root-units-at, Raising, raising-st
 use Rattle.root.proofs.subnormal.Statement.{statement}
 use Rattle.root.proofs.subnormal.Tie as tie
 
+-- b * 2 ^ 53 is m * 2 ^ z, and m is below 2 ^ 53. What falls is z.
 abbrev Inv-loop : tie.InvT-loop
 Inv-loop b m₀ z₀ m z = (0 < b) × Raising b m z
 
@@ -30,7 +31,9 @@ sub-scaled : tie.Need-sub-scaled Inv-loop μ-loop
 sub-scaled c = omega arith
 
 mul-scaled : tie.Need-mul-scaled Inv-loop μ-loop
-mul-scaled c = let w = wide (c .before .loop .m) (c .before .loop .z) (c .loop-test .left) (c .before .loop .inv .1 .m-lt) in omega arith
+mul-scaled c =
+    let loop = c .before .loop in
+    let w = wide (loop .m) (loop .z) (c .loop-test .left) (loop .inv .1 .m-lt) in omega arith
 
 add-scaled : tie.Need-add-scaled Inv-loop μ-loop
 add-scaled c = omega arith
@@ -48,12 +51,17 @@ guess-requires : tie.Need-guess-requires Inv-loop μ-loop
 guess-requires c κs = omega arith
 
 scaled-requires : tie.Need-scaled-requires Inv-loop μ-loop
-scaled-requires c κs = let w = wide (c .before .before .loop .m) (c .before .before .loop .z) (c .before .loop-test .left) (c .before .before .loop .inv .1 .m-lt) in omega arith
+scaled-requires c κs =
+    let past-loop = c .before in
+    let loop = past-loop .before .loop in
+    let w = wide (loop .m) (loop .z) (past-loop .loop-test .left) (loop .inv .1 .m-lt) in omega arith
 
 returns : tie.Need-returns Inv-loop μ-loop
 returns c =
-    let a = c .before .before .before .loop in
-    c .scaled .ensures ∙ root-units-at _ (a .m) (a .z) (a .inv .1 .value) (c .before .before .loop-test .left) (a .inv .1 .m-lt) (a .inv .1 .z-ge)
+    let past-loop = c .before .before in
+    let loop = past-loop .before .loop in
+    let raised = loop .inv .1 in
+    c .scaled .ensures ∙ root-units-at _ (loop .m) (loop .z) (raised .value) (past-loop .loop-test .left) (raised .m-lt) (raised .z-ge)
 
 pub subnormal-spec : {M : Type 1} → statement M
 subnormal-spec =

@@ -3,13 +3,14 @@ use mathlib.Core.Path.{_≡_, sym, _∙_}
 use mathlib.Core.Bool.{false}
 use native.Mathlib.Omega.{arith}
 use borrow.Author.Needs.{needs}
-use Rattle.systolic.specs.Slots.{any}
-use Rattle.systolic.proofs.Bounded.{any-none, any-more}
+use Rattle.lists.specs.Bounded.{any}
+use Rattle.lists.proofs.Bounded.{any-none, any-more}
 use Rattle.sheet.specs.Codes.{badCode}
 use Rattle.sheet.proofs.Used.{one-bad, none-bad}
 use Rattle.sheet.proofs.has_bad_code.Statement.{statement}
 use Rattle.sheet.proofs.has_bad_code.Tie as tie
 
+-- None of the first k codes is bad; n - k are left.
 abbrev Inv-loop : tie.InvT-loop
 Inv-loop bytes first n k₀ k = (k ≤ n) × (any k (badCode bytes first) ≡ false)
 
@@ -33,8 +34,8 @@ loop-less c = omega arith
 
 loop-again : tie.Need-loop-again Inv-loop μ-loop
 loop-again c =
-    let k = c .before .before .before in
-    (omega arith, any-more _ _ (k .loop .inv .1) (sym (c .before .is-bad .ensures) ∙ c .if1 .left))
+    let at-loop = c .before .before .before in
+    (omega arith, any-more _ _ (at-loop .loop .inv .1) (sym (c .before .is-bad .ensures) ∙ c .if1 .left))
 
 returns-2 : tie.Need-returns-2 Inv-loop μ-loop
 returns-2 c = none-bad _ _ _ _ (c .before .loop .inv .1) (omega arith)

@@ -4,11 +4,12 @@ use mathlib.Core.Bool.{false}
 use native.Mathlib.Omega.{arith}
 use borrow.Author.Needs.{needs}
 use borrow.Author.Tests.{ne-eqb}
-use Rattle.systolic.proofs.Bounded.{any-none, any-more}
+use Rattle.lists.proofs.Bounded.{any-none, any-more}
 use Rattle.sheet.proofs.Used.{usedBefore, code-zero, code-used, code-new}
 use Rattle.sheet.proofs.is_bad.Statement.{statement}
 use Rattle.sheet.proofs.is_bad.Tie as tie
 
+-- Code k, which is not zero, is none of the first i codes; k - i are left.
 abbrev Inv-loop : tie.InvT-loop
 Inv-loop bytes first k code i₀ i = (i ≤ k) × (usedBefore bytes first k i ≡ false)
 
@@ -29,9 +30,9 @@ code-at-requires-2 c κs = search needs
 
 returns-2 : tie.Need-returns-2 Inv-loop μ-loop
 returns-2 c =
-    let k = c .before .before .before in
-    let e = k .before .before .code-at .ensures in
-    code-used _ _ _ (k .loop .i) (λ z. k .before .if1 .left (e ∙ z)) (omega arith) (sym (c .before .code-at2 .ensures) ∙ c .if2 .taken ∙ e)
+    let at-loop = c .before .before .before in
+    let code = at-loop .before .before .code-at .ensures in
+    code-used _ _ _ (at-loop .loop .i) (λ z. at-loop .before .if1 .left (code ∙ z)) (omega arith) (sym (c .before .code-at2 .ensures) ∙ c .if2 .taken ∙ code)
 
 add-i : tie.Need-add-i Inv-loop μ-loop
 add-i c = omega arith
@@ -41,9 +42,9 @@ loop-less c = omega arith
 
 loop-again : tie.Need-loop-again Inv-loop μ-loop
 loop-again c =
-    let k = c .before .before .before in
-    let e = k .before .before .code-at .ensures in
-    (omega arith, any-more _ _ (k .loop .inv .1) (ne-eqb _ _ (λ z. c .if2 .left (c .before .code-at2 .ensures ∙ z ∙ sym e))))
+    let at-loop = c .before .before .before in
+    let code = at-loop .before .before .code-at .ensures in
+    (omega arith, any-more _ _ (at-loop .loop .inv .1) (ne-eqb _ _ (λ z. c .if2 .left (c .before .code-at2 .ensures ∙ z ∙ sym code))))
 
 returns-3 : tie.Need-returns-3 Inv-loop μ-loop
 returns-3 c =

@@ -1,20 +1,19 @@
 use borrow.Author.Needs.{needs}
 use Prim.Native.Nat.{_+_, _-_, _≤_}
-use mathlib.Core.Path.{_≡_, refl, sym, ap, _∙_}
+use mathlib.Core.Path.{_≡_, refl, ap, _∙_}
 use native.Mathlib.Omega.{arith}
 use native.Mathlib.Nat.{le-antisymm}
 use borrow.Author.Tests.{not-true, not-false}
-use lib.Ieee.{binary64, ofBits}
-use Rattle.float64.specs.Values.{finite}
-use Rattle.refusal.specs.Refusal.{given, toldAnswer}
+use Rattle.refusal.specs.Answers.{given, answered, first}
 use Rattle.refusal.specs.declared.Answer.the-variants.{Accepted}
-use Rattle.matrix.specs.Entries.{first}
-use Rattle.matrix.proofs.First.{first-none, first-more, first-found}
+use Rattle.refusal.proofs.FirstRefusal.{first-none, first-more}
 use Rattle.sheet_reader.specs.Reader.{notFiniteIn}
-use Rattle.sheet_reader.proofs.Stored.{is-finite, is-not-finite}
+use Rattle.sheet_reader.proofs.Stored.{tested-as, is-finite, none-found, one-found}
 use Rattle.sheet_reader.proofs.first_not_finite.Statement.{statement}
 use Rattle.sheet_reader.proofs.first_not_finite.Tie as tie
 
+-- In the inner loop the first j entries of row i + 1 are finite and i + 1 - j are left, in the outer loop those of the first i rows are and
+-- n - i rows are left. In both nothing is found so far.
 abbrev Inv-loop : tie.InvT-loop
 Inv-loop n sheet found₀ i j₀ j-end found j = (j ≤ i + 1) × (found ≡ Accepted) × (first j (notFiniteIn sheet (i + 1)) ≡ given tt)
 
@@ -62,9 +61,9 @@ loop-less c = omega arith
 
 loop-again : tie.Need-loop-again Inv-loop μ-loop Inv-rows μ-rows
 loop-again c =
-    let k = c .before .before .before .before in
-    let f = ap (λ w. finite (ofBits binary64 w)) (sym (c .before .before .pattern .ensures)) ∙ sym (c .before .is-finite-pattern .ensures) ∙ not-false _ (c .if1 .left) in
-    (omega arith, search needs, first-more _ _ (k .loop .inv .2) (is-finite _ _ _ f))
+    let at-loop = c .before .before .before .before in
+    let finite = tested-as _ _ _ (c .before .before .pattern .ensures) (c .before .is-finite-pattern .ensures) ∙ not-false _ (c .if1 .left) in
+    (omega arith, search needs, first-more _ _ (at-loop .loop .inv .2) (is-finite _ _ _ finite))
 
 add-i : tie.Need-add-i Inv-loop μ-loop Inv-rows μ-rows
 add-i c = omega arith
@@ -74,19 +73,23 @@ rows-less c = omega arith
 
 rows-again : tie.Need-rows-again Inv-loop μ-loop Inv-rows μ-rows
 rows-again c =
-    (omega arith, search needs, first-more _ _ (c .before .before .before .rows .inv .2) (rw (le-antisymm (c .before .loop .inv .0) (c .loop-test .left)) at (c .before .loop .inv .2)))
+    let at-loop = c .before in
+    let all = le-antisymm (at-loop .loop .inv .0) (c .loop-test .left) in
+    (omega arith, search needs, first-more _ _ (at-loop .before .before .rows .inv .2) (rw all at (at-loop .loop .inv .2)))
 
 returns : tie.Need-returns Inv-loop μ-loop Inv-rows μ-rows
 returns c =
-    ap toldAnswer (c .before .rows .inv .1) ∙ sym (rw (le-antisymm (c .before .rows .inv .0) (c .rows-test .left) ∙ c .before .before .before .pre .0) at (c .before .rows .inv .2))
+    let at-rows = c .before in
+    let all = le-antisymm (at-rows .rows .inv .0) (c .rows-test .left) in
+    ap answered (at-rows .rows .inv .1) ∙ none-found _ _ (all ∙ at-rows .before .before .pre .0) (at-rows .rows .inv .2)
 
 returns-2 : tie.Need-returns-2 Inv-loop μ-loop Inv-rows μ-rows
 returns-2 c =
-    let k = c .before .before .before .before in
-    let r = k .before .before in
-    let f = ap (λ w. finite (ofBits binary64 w)) (sym (c .before .before .pattern .ensures)) ∙ sym (c .before .is-finite-pattern .ensures) ∙ not-true _ (c .if1 .taken) in
-    sym (first-found _ _ _ _ _ (rw (r .before .before .pre .0) at (k .before .rows-test .taken)) (r .rows .inv .2)
-    (first-found _ _ _ _ _ (c .before .before .before .loop-test .taken) (k .loop .inv .2) (is-not-finite _ _ _ f)))
+    let at-loop = c .before .before .before .before in
+    let at-rows = at-loop .before .before in
+    let in-order = rw (at-rows .before .before .pre .0) at (at-loop .before .rows-test .taken) in
+    let not-finite = tested-as _ _ _ (c .before .before .pattern .ensures) (c .before .is-finite-pattern .ensures) ∙ not-true _ (c .if1 .taken) in
+    one-found _ _ _ in-order (at-rows .rows .inv .2) (c .before .before .before .loop-test .taken) (at-loop .loop .inv .2) not-finite
 
 pub first-not-finite-spec : {M : Type 1} → statement M
 first-not-finite-spec =

@@ -1,5 +1,5 @@
 use mathlib.Core.Path.{sym, ap, _∙_}
-use Rattle.refusal.specs.Refusal.{toldAnswer}
+use Rattle.refusal.specs.Answers.{answered}
 use Rattle.sheet_reader.proofs.Stored.{read-refused, read-accepted-as}
 use borrow.Author.Needs.{needs}
 use Rattle.sheet_reader.proofs.read.Statement.{statement}
@@ -14,7 +14,7 @@ enum-told c = search needs
 read-accepted-requires : tie.Need-read-accepted-requires
 read-accepted-requires c κs =
     let k = c .before .before in
-    sym (ap toldAnswer (sym (k .enum-told .given .1)) ∙ k .before .before .verdict .ensures)
+    sym (ap answered (sym (k .enum-told .given .1)) ∙ k .before .before .verdict .ensures)
 
 enum-known-refused : tie.Need-enum-known-refused
 enum-known-refused c = search needs
@@ -29,12 +29,12 @@ returns : tie.Need-returns
 returns c =
     let s = c .before .before .before .before in
     let k = s .before .before .before in
-    read-accepted-as _ _ _ (ap toldAnswer (sym (k .enum-told .given .1)) ∙ k .before .before .verdict .ensures) (s .read-accepted .ensures)
+    read-accepted-as _ _ _ (ap answered (sym (k .enum-told .given .1)) ∙ k .before .before .verdict .ensures) (s .read-accepted .ensures)
 
 returns-2 : tie.Need-returns-2
 returns-2 c =
     let k = c .before in
-    read-refused _ _ _ (ap toldAnswer (sym (k .refused .given .1)) ∙ k .before .before .verdict .ensures)
+    read-refused _ _ _ (ap answered (sym (k .refused .given .1)) ∙ k .before .before .verdict .ensures)
 
 pub read-spec : {M : Type 1} → statement M
 read-spec =

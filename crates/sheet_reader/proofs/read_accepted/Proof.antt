@@ -1,7 +1,7 @@
 use mathlib.Core.Path.{refl}
 use native.Mathlib.Omega.{arith}
 use lib.ListN.{length}
-use Rattle.ordering.proofs.Orders.{order-is}
+use Rattle.sizes.proofs.Orders.{order-is}
 use Rattle.sheet.specs.Format.{orderIn}
 use Rattle.sheet.proofs.Triangle.{length-is}
 use Rattle.sheet_reader.proofs.Stored.{all-read}
@@ -14,21 +14,27 @@ known : (c : tie.Start) → Readable (c .args .sheet .now) (length (c .args .cod
 known c = readable _ _ _ (c .pre)
 
 shared-slice-read-n : tie.Need-shared-slice-read-n
-shared-slice-read-n c = let r = known (c .before .before .before .before) in omega (arith, r .head)
+shared-slice-read-n c = let at-start = c .before .before .before .before in omega (arith, known at-start .head)
 
 cast-n : tie.Need-cast-n
 cast-n c = omega (arith, c .shared-slice-known2 .given 0)
 
 read-codes-requires : tie.Need-read-codes-requires
-read-codes-requires c κs = let r = known (c .before .before .before .before .before) in (r .codes-long, omega (arith, r .sheet-long, length-is (orderIn (c .before .before .before .before .before .args .sheet .now))))
+read-codes-requires c κs =
+    let at-start = c .before .before .before .before .before in
+    let r = known at-start in
+    (r .codes-long, omega (arith, r .sheet-long, length-is (orderIn (at-start .args .sheet .now))))
 
 read-entries-requires : tie.Need-read-entries-requires
 read-entries-requires c κs =
-    let r = known (c .before .before .before .before .before .before .before .before .before) in
+    let at-start = c .before .before .before .before .before .before .before .before .before in
+    let r = known at-start in
     (refl, order-is _ (r .order) .2, r .sheet-long, r .matrix-long)
 
 shared-slice-read-t6 : tie.Need-shared-slice-read-t6
-shared-slice-read-t6 c = let r = known (c .before .before .before .before .before .before .before .before .before .before .before .before .before) in omega (arith, r .head)
+shared-slice-read-t6 c =
+    let at-start = c .before .before .before .before .before .before .before .before .before .before .before .before .before in
+    omega (arith, known at-start .head)
 
 cast-t13 : tie.Need-cast-t13
 cast-t13 c = omega (arith, c .shared-slice-known3 .given 1)

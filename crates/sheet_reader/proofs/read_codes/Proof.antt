@@ -8,6 +8,7 @@ use Rattle.sheet_reader.proofs.Stored.{codes-read}
 use Rattle.sheet_reader.proofs.read_codes.Statement.{statement}
 use Rattle.sheet_reader.proofs.read_codes.Tie as tie
 
+-- The first k codes are those of the sheet; the other codes are left.
 abbrev Inv-loop : tie.InvT-loop
 Inv-loop sheet codes₀ k₀ k-end codes k = (k ≤ length codes₀) × Filled 0 (λ k. getD sheet (2 + k) 0) (orderIn sheet) k codes
 
@@ -33,7 +34,7 @@ loop-less : tie.Need-loop-less Inv-loop μ-loop
 loop-less c = omega arith
 
 loop-again : tie.Need-loop-again Inv-loop μ-loop
-loop-again c = let k = c .before .before .loop in (omega arith, filled-next _ _ _ (k .inv .1) (omega arith) refl)
+loop-again c = let at-loop = c .before .before in (omega arith, filled-next _ _ _ (at-loop .loop .inv .1) (omega arith) refl)
 
 same-length : tie.Need-same-length Inv-loop μ-loop
 same-length c = omega arith

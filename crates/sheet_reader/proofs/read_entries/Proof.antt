@@ -10,6 +10,7 @@ use Rattle.sheet_reader.proofs.Stored.{entries-read}
 use Rattle.sheet_reader.proofs.read_entries.Statement.{statement}
 use Rattle.sheet_reader.proofs.read_entries.Tie as tie
 
+-- The first k values of the matrix are its entries, row by row; n * n - k are left.
 abbrev Inv-loop : tie.InvT-loop
 Inv-loop n sheet matrix₀ k₀ k-end matrix k = (k ≤ n * n) × Filled nan (λ i. entryIn sheet (i / n + 1) (i % n + 1)) (n * n) k matrix
 
@@ -19,8 +20,9 @@ abbrev μ-loop : tie.MeasureT-loop
 place : (c : tie.In-loop Inv-loop μ-loop) → let n = c .before .before .before .before .args .n in
     (c .before .loop .k / n < n) × (c .before .loop .k % n < n)
 place c =
-    let n = c .before .before .before .before .args .n in
-    (row-lt n (c .before .loop .k) (omega arith), column-lt n (c .before .loop .k) (omega arith))
+    let at-loop = c .before in
+    let n = at-loop .before .before .before .args .n in
+    (row-lt n (at-loop .loop .k) (omega arith), column-lt n (at-loop .loop .k) (omega arith))
 
 loop-holds : tie.Need-loop-holds Inv-loop μ-loop
 loop-holds c = (omega arith, filled-none _ (omega arith))
@@ -38,7 +40,10 @@ add-mirrored-2 : tie.Need-add-mirrored-2 Inv-loop μ-loop
 add-mirrored-2 c = let w = place c in omega (arith, w .1)
 
 mirrored-requires : tie.Need-mirrored-requires Inv-loop μ-loop
-mirrored-requires c κs = let p = c .before .before .before .before .pre in let w = place c in (p .0, p .1, p .2, omega arith, omega (arith, w .0), omega arith, omega (arith, w .1))
+mirrored-requires c κs =
+    let p = c .before .before .before .before .pre in
+    let w = place c in
+    (p .0, p .1, p .2, omega arith, omega (arith, w .0), omega arith, omega (arith, w .1))
 
 from-bits-requires : tie.Need-from-bits-requires Inv-loop μ-loop
 from-bits-requires c κs = search needs
@@ -57,8 +62,8 @@ loop-less c = omega arith
 
 loop-again : tie.Need-loop-again Inv-loop μ-loop
 loop-again c =
-    let k = c .before .before .before .loop in
-    (omega arith, filled-next _ _ _ (k .inv .1) (omega arith) (c .from-bits .ensures ∙ c .before .mirrored .ensures))
+    let at-loop = c .before .before .before in
+    (omega arith, filled-next _ _ _ (at-loop .loop .inv .1) (omega arith) (c .from-bits .ensures ∙ c .before .mirrored .ensures))
 
 same-length : tie.Need-same-length Inv-loop μ-loop
 same-length c = omega arith

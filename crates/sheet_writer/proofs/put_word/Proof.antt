@@ -1,6 +1,6 @@
 use native.Mathlib.Omega.{arith}
 use lib.ListN.{length-set}
-use Rattle.sheet_writer.proofs.Written.{word-put}
+use Rattle.sheet_writer.proofs.SheetBytes.{word-put}
 use borrow.Author.Needs.{needs}
 use Rattle.sheet_writer.proofs.put_word.Statement.{statement}
 use Rattle.sheet_writer.proofs.put_word.Tie as tie

@@ -1,10 +1,10 @@
 use mathlib.Core.Path.{_≡_, _∙_}
 use native.Mathlib.Omega.{arith}
 use lib.ListN.{length, set, length-set}
-use Rattle.ordering.proofs.Orders.{order-is}
+use Rattle.sizes.proofs.Orders.{order-is}
 use Rattle.sheet.proofs.Triangle.{length-is}
 use Rattle.sheet_writer.proofs.Tables.{Writable, writable}
-use Rattle.sheet_writer.proofs.Written.{written-over}
+use Rattle.sheet_writer.proofs.SheetBytes.{written-over}
 use Rattle.sheet_writer.proofs.write_accepted.Statement.{statement}
 use Rattle.sheet_writer.proofs.write_accepted.Tie as tie
 
@@ -28,21 +28,29 @@ slice-write-sheet-2 : tie.Need-slice-write-sheet-2
 slice-write-sheet-2 c = let k = known (c .before .before .before) in simp length-set (omega (arith, k .room))
 
 write-codes-requires : tie.Need-write-codes-requires
-write-codes-requires c κs = let k = known (c .before .before .before .before) in simp length-set (omega (arith, k .room, k .codes-long, length-is (c .before .before .before .before .args .n)))
+write-codes-requires c κs =
+    let at-start = c .before .before .before .before in
+    let k = known at-start in
+    simp length-set (omega (arith, k .room, k .codes-long, length-is (at-start .args .n)))
 
 write-entries-requires : tie.Need-write-entries-requires
-write-entries-requires c κs = let k = known (c .before .before .before .before .before .before .before .before) in (order-is _ (k .order) .2, k .matrix-long, omega (arith, k .room, as-long (c .before .before .before .before .before .before .before .before)))
+write-entries-requires c κs =
+    let at-start = c .before .before .before .before .before .before .before .before in
+    let k = known at-start in
+    (order-is _ (k .order) .2, k .matrix-long, omega (arith, k .room, as-long at-start))
 
 same-length : tie.Need-same-length
-same-length c = omega (arith, as-long (c .before .before .before .before .before .before .before .before .before .before .before))
+same-length c =
+    let at-start = c .before .before .before .before .before .before .before .before .before .before .before in
+    omega (arith, as-long at-start)
 
 returns : tie.Need-returns
 returns c =
-    let e = c .before .before in
-    let d = e .before .before .before .before in
-    let s = d .before .before .before .before .before in
-    let k = known s in
-    written-over _ _ _ _ (s .args .sheet .now) (k .codes-long) (k .room) (d .write-codes .ensures) (e .write-entries .ensures)
+    let entries = c .before .before in
+    let codes = entries .before .before .before .before in
+    let at-start = codes .before .before .before .before .before in
+    let k = known at-start in
+    written-over _ _ _ _ (at-start .args .sheet .now) (k .codes-long) (k .room) (codes .write-codes .ensures) (entries .write-entries .ensures)
 
 pub write-accepted-spec : {M : Type 1} → statement M
 write-accepted-spec =

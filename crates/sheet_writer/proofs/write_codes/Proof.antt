@@ -3,10 +3,11 @@ use mathlib.Core.Path.{_≡_, _∙_}
 use native.Mathlib.Omega.{arith}
 use lib.ListN.{length, length-set}
 use Rattle.sheet_writer.specs.Steps.{withCodes}
-use Rattle.sheet_writer.proofs.Written.{codes-none, codes-next}
+use Rattle.sheet_writer.proofs.SheetBytes.{codes-none, codes-next}
 use Rattle.sheet_writer.proofs.write_codes.Statement.{statement}
 use Rattle.sheet_writer.proofs.write_codes.Tie as tie
 
+-- The first k codes are written, and nothing else has changed; the other codes are left.
 abbrev Inv-loop : tie.InvT-loop
 Inv-loop codes sheet₀ k₀ k-end sheet k = (k ≤ length codes) × (length sheet ≡ length sheet₀) × (sheet ≡ withCodes codes k sheet₀)
 
@@ -32,13 +33,18 @@ loop-less : tie.Need-loop-less Inv-loop μ-loop
 loop-less c = omega arith
 
 loop-again : tie.Need-loop-again Inv-loop μ-loop
-loop-again c = let k = c .before .before .loop in (omega arith, length-set (k .sheet) _ _ ∙ k .inv .1, codes-next _ _ _ (k .inv .2))
+loop-again c =
+    let at-loop = c .before .before in
+    (omega arith, length-set (at-loop .loop .sheet) _ _ ∙ at-loop .loop .inv .1, codes-next _ _ _ (at-loop .loop .inv .2))
 
 same-length : tie.Need-same-length Inv-loop μ-loop
 same-length c = omega arith
 
 returns : tie.Need-returns Inv-loop μ-loop
-returns c = let e : c .before .loop .k ≡ length (c .before .before .args .codes .now) = omega arith in rw e at (c .before .loop .inv .2)
+returns c =
+    let at-loop = c .before in
+    let e : at-loop .loop .k ≡ length (at-loop .before .args .codes .now) = omega arith in
+    rw e at (at-loop .loop .inv .2)
 
 pub write-codes-spec : {M : Type 1} → statement M
 write-codes-spec =

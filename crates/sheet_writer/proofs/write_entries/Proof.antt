@@ -9,10 +9,12 @@ use Rattle.matrix.proofs.Within.{entry-in}
 use Rattle.sheet.specs.Format.{sheetLength, entriesFrom, entriesTo}
 use Rattle.sheet.proofs.Triangle.{length-is, rows-below, few-entries}
 use Rattle.sheet_writer.specs.Steps.{withEntries}
-use Rattle.sheet_writer.proofs.Written.{entries-none, entries-next, row-none, row-all, offset-start, offset-row, bytes-long}
+use Rattle.sheet_writer.proofs.SheetBytes.{entries-none, entries-next, row-none, row-all, offset-start, offset-row, bytes-long}
 use Rattle.sheet_writer.proofs.write_entries.Statement.{statement}
 use Rattle.sheet_writer.proofs.write_entries.Tie as tie
 
+-- In the inner loop the first j entries of row i + 1 are written and i + 1 - j are left, in the outer loop those of the first i rows are and
+-- n - i rows are left. In both the length stays, and the offset is behind the last entry.
 abbrev Inv-loop2 : tie.InvT-loop2
 Inv-loop2 n matrix sheet₀ offset₀ i j₀ j-end sheet offset j =
     (j ≤ i + 1) × (length sheet ≡ length sheet₀) × (offset ≡ offset₀ + 8 * j)
@@ -29,12 +31,14 @@ abbrev μ-loop : tie.MeasureT-loop
 μ-loop n matrix sheet₀ offset₀ i₀ sheet offset i = n - i
 
 -- there is room for the entry
-room : (c : tie.In-loop2 Inv-loop2 μ-loop2 Inv-loop μ-loop) → c .before .loop2 .offset + 8 ≤ sheetLength (c .before .before .before .before .before .before .args .n)
+room : (c : tie.In-loop2 Inv-loop2 μ-loop2 Inv-loop μ-loop) → let at-loop2 = c .before in
+    at-loop2 .loop2 .offset + 8 ≤ sheetLength (at-loop2 .before .before .before .before .before .args .n)
 room c =
-    let n = c .before .before .before .before .before .before .args .n in
+    let at-loop = c .before .before .before in
+    let n = at-loop .before .before .before .args .n in
     let u = c .before .loop2 .inv in
-    let v = c .before .before .before .loop .inv in
-    let w = rows-below (c .before .before .before .loop .i) n (omega arith) in
+    let v = at-loop .loop .inv in
+    let w = rows-below (at-loop .loop .i) n (omega arith) in
     let l = length-is n in
     omega arith
 
@@ -64,16 +68,17 @@ to-bits-requires c κs = search needs
 
 put-word-requires : tie.Need-put-word-requires Inv-loop2 μ-loop2 Inv-loop μ-loop
 put-word-requires c κs =
-    let k = c .before .before .before in
-    let u = k .before .loop2 .inv in
-    let v = k .before .before .before .loop .inv in
-    omega (arith, room k)
+    let in-loop2 = c .before .before .before in
+    let at-loop2 = in-loop2 .before in
+    let u = at-loop2 .loop2 .inv in
+    let v = at-loop2 .before .before .loop .inv in
+    omega (arith, room in-loop2)
 
 add-offset-2 : tie.Need-add-offset-2 Inv-loop2 μ-loop2 Inv-loop μ-loop
 add-offset-2 c =
-    let k = c .before .before .before .before .before .before in
-    let s = k .before .before .before .before .before .before in
-    omega (arith, room k, few-entries (s .args .n) (s .pre .0) .2)
+    let in-loop2 = c .before .before .before .before .before .before in
+    let at-start = in-loop2 .before .before .before .before .before .before in
+    omega (arith, room in-loop2, few-entries (at-start .args .n) (at-start .pre .0) .1)
 
 add-j : tie.Need-add-j Inv-loop2 μ-loop2 Inv-loop μ-loop
 add-j c = omega arith
@@ -83,13 +88,16 @@ loop2-less c = omega arith
 
 loop2-again : tie.Need-loop2-again Inv-loop2 μ-loop2 Inv-loop μ-loop
 loop2-again c =
-    let p = c .before .before in
-    let k = p .before .before .before .before in
-    let u = k .before .loop2 .inv in (
+    let put = c .before .before in
+    let read = put .before .before .before in
+    let at-loop2 = read .before .before in
+    let at-start = at-loop2 .before .before .before .before .before in
+    let u = at-loop2 .loop2 .inv in
+    let entry = read .entry .ensures ∙ entry-in _ _ _ _ (at-start .pre .1) (omega arith) (omega arith) in (
       omega arith,
-      bytes-long _ _ _ _ (p .put-word .ensures) ∙ u .1,
+      bytes-long _ _ _ _ (put .put-word .ensures) ∙ u .1,
       omega arith,
-      λ b e. entries-next _ _ b _ _ (omega arith) (u .3 b e) (p .before .before .before .entry .ensures ∙ entry-in _ _ _ _ (k .before .before .before .before .before .before .pre .1) (omega arith) (omega arith)) (p .before .before .to-bits .ensures) (omega arith) (p .put-word .ensures),
+      λ b e. entries-next _ _ b _ _ (omega arith) (u .3 b e) entry (put .before .before .to-bits .ensures) (omega arith) (put .put-word .ensures),
     )
 
 add-i : tie.Need-add-i Inv-loop2 μ-loop2 Inv-loop μ-loop
@@ -100,16 +108,21 @@ loop-less c = omega arith
 
 loop-again : tie.Need-loop-again Inv-loop2 μ-loop2 Inv-loop μ-loop
 loop-again c =
-    let u = c .before .loop2 .inv in
-    let v = c .before .before .before .loop .inv in
-    let e : c .before .loop2 .j ≡ c .before .before .before .loop .i + 1 = omega arith in
+    let at-loop2 = c .before in
+    let at-loop = at-loop2 .before .before in
+    let u = at-loop2 .loop2 .inv in
+    let v = at-loop .loop .inv in
+    let e : at-loop2 .loop2 .j ≡ at-loop .loop .i + 1 = omega arith in
     (omega arith, u .1 ∙ v .1, offset-row _ _ (v .2) (rw e at (u .2)), row-all _ _ _ _ (rw e at (u .3 _ (v .3))))
 
 same-length : tie.Need-same-length Inv-loop2 μ-loop2 Inv-loop μ-loop
 same-length c = omega arith
 
 returns : tie.Need-returns Inv-loop2 μ-loop2 Inv-loop μ-loop
-returns c = let e : c .before .loop .i ≡ c .before .before .before .before .args .n = omega arith in rw e at (c .before .loop .inv .3)
+returns c =
+    let at-loop = c .before in
+    let e : at-loop .loop .i ≡ at-loop .before .before .before .args .n = omega arith in
+    rw e at (at-loop .loop .inv .3)
 
 pub write-entries-spec : {M : Type 1} → statement M
 write-entries-spec =

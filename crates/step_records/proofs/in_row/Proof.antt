@@ -51,10 +51,11 @@ use denote.Triple.Table.{entered, cited}
 use denote.Triple.Walked.{says, Stays, stay-none, stay-none-slice, walkOf, goes-none, goes-none-slice, Walks, ends-at, walked, walk-meets}
 use denote.Exit.{yes}
 use borrow.Struct.Items.{is-same}
-use Rattle.refusal.specs.Refusal.{toldAnswer}
+use Rattle.refusal.specs.Answers.{answered}
 use Rattle.refusal.specs.declared.Answer.{Answer}
 use Rattle.refusal.proofs.Answer as Ans
 use Rattle.refusal.proofs.Answer.Laws as Ans′
+use Rattle.sizes.specs.Sizes.{mostProcessors}
 use Rattle.step_records.specs.Records.{recordsOf, rowOutcome}
 use Rattle.step_records.specs.declared.Record.{Record}
 use Rattle.step_records.proofs.Record as Rec
@@ -72,7 +73,7 @@ use Rattle.step_records.proofs.in_row.Code as code
 use Rattle.step_records.proofs.in_row.Code.Mir as mirs
 
 abbrev Row : RattleType
-Row = Array Rec.the-row 16
+Row = Array Rec.the-row mostProcessors
 
 abbrev stayed : Stays (f.ended .signature .params) (f.ended .kept)
 stayed =
@@ -86,7 +87,7 @@ abbrev word : Ty
 word = tyInt w64
 
 abbrev arrayTy : Ty
-arrayTy = tyArray Rec′.mir 16
+arrayTy = tyArray Rec′.mir mostProcessors
 
 abbrev matrixTy : Ty
 matrixTy = sliceTy (tyRef (named 0) imm (tyFloat binary64))
@@ -105,7 +106,7 @@ abbrev val : List Record → Val
 val zs = only (spelled zs)
 
 tells : (zs : List Record) (vs : List Val) → Is Row zs vs → vs ≡ spelled zs
-tells = array-tells Rec.the-row (StructLaws.vals Rec.the-type Rec′.the-laws) (StructLaws.tells Rec.the-type Rec′.the-laws) 16
+tells = array-tells Rec.the-row (StructLaws.vals Rec.the-type Rec′.the-laws) (StructLaws.tells Rec.the-type Rec′.the-laws) mostProcessors
 
 -- an answer and a row are the struct of both
 abbrev both : Val → Val → Val
@@ -113,7 +114,7 @@ both u z = vstruct (ofList (u ∷ z ∷ []))
 
 is-both : (r : Answer) (zs : List Record) (u z : Val) → Is Ans.the-row r (u ∷ []) → Is Row zs (z ∷ []) → Is Res.the-row (record { answer = r; row = zs }) (both u z ∷ [])
 is-both r zs u z is-u is-z =
-    ((u ∷ [], (z ∷ [], tt)), (refl, (is-u, (is-same (Struct (shape Rec.the-type)) Record (Rec.the-type .to) (Rec.the-type .to-one) 16 zs (z ∷ []) is-z, tt))))
+    ((u ∷ [], (z ∷ [], tt)), (refl, (is-u, (is-same (Struct (shape Rec.the-type)) Record (Rec.the-type .to) (Rec.the-type .to-one) mostProcessors zs (z ∷ []) is-z, tt))))
 
 module _ {M : Type 1} (𝓤 : URA M) (H : Heap 𝓤) (A : Atoms 𝓤) (W : Given 𝓤 H A) where
   -- a local array as its elements side by side, and back
@@ -121,17 +122,17 @@ module _ {M : Type 1} (𝓤 : URA M) (H : Heap 𝓤) (A : Atoms 𝓤) (W : Given
   unfolding partOf
   spreads l xs z is =
       qed W (‵ (fat fullShare arrayTy l 0 z) ∷ []) ∵ use1 W (‵ (cellAt fullShare (Row .mir) (z ∷ []) l 0)) (W .laws .at-raw fullShare arrayTy l 0 z) $
-      owned ! Row (Is Row) (array-makes 𝓤 H A W Rec.the-row (StructLaws.makes Rec.the-type Rec′.the-plain 𝓤 H A) 16) xs (z ∷ []) is $ move ! (1 ∷ 0 ∷ []) $ fjoin ! $
+      owned ! Row (Is Row) (array-makes 𝓤 H A W Rec.the-row (StructLaws.makes Rec.the-type Rec′.the-plain 𝓤 H A) mostProcessors) xs (z ∷ []) is $ move ! (1 ∷ 0 ∷ []) $ fjoin ! $
       fpack ! (List Val) (λ us. fsep (cellAt fullShare (Row .mir) us l 0) (Row .own xs us)) (z ∷ []) $
-      use1 W (‵ (arr-parts (shares Rec.the-row) 16 .part fullShare xs l 0)) (array-apart 𝓤 H A W Rec.the-row fullShare tt 16 xs l 0) $ fsplit ! $ drop ! $
+      use1 W (‵ (arr-parts (shares Rec.the-row) mostProcessors .part fullShare xs l 0)) (array-apart 𝓤 H A W Rec.the-row fullShare tt mostProcessors xs l 0) $ fsplit ! $ drop ! $
       use1 W (‵ (cells (mem Rec.the-row) xs l 0)) (whole-in 𝓤 H A W Rec.the-row xs l 0) $ done !
 
-  gathers : (l : ℕ) (zs : List Record) (m : ℕ) → m ≡ 16
+  gathers : (l : ℕ) (zs : List Record) (m : ℕ) → m ≡ mostProcessors
       → ent 𝓤 (⋆ 𝓤 H A (‵ (Arr (mem Rec.the-row) m .lies zs l 0) ∷ [])) (mean 𝓤 H A (given (Is Row zs (val zs ∷ [])) (‵ (fat fullShare arrayTy l 0 (val zs)))))
   unfolding partOf
   gathers l zs m long =
       qed W (‵ (Arr (mem Rec.the-row) m .lies zs l 0) ∷ []) ∵ fsplit ! $ feqL ! (λ e. use1 W (‵ (row Rec.the-row fullShare zs l 0)) (whole-out 𝓤 H A W Rec.the-row zs l 0) $
-      feqI ! ℕ (length zs) 16 (e ∙ long) $ fjoin ! $ use1 W (‵ (partAt Row fullShare zs l 0)) (array-whole 𝓤 H A W Rec.the-row fullShare 16 zs l 0) $
+      feqI ! ℕ (length zs) mostProcessors (e ∙ long) $ fjoin ! $ use1 W (‵ (partAt Row fullShare zs l 0)) (array-whole 𝓤 H A W Rec.the-row fullShare mostProcessors zs l 0) $
       fpick ! (λ vs. fsplit ! $ move ! (1 ∷ []) $ facts ! Row (Is Row) (shows 𝓤 H A Row) zs vs (λ p.
       rewrite ! 0 (λ (us : List Val). ‵ (cellAt fullShare (Row .mir) us l 0)) (tells zs vs p) refl $
       use1 W (‵ (fat fullShare arrayTy l 0 (val zs))) (W .laws .raw-at fullShare arrayTy l 0 (val zs)) $
@@ -140,7 +141,7 @@ module _ {M : Type 1} (𝓤 : URA M) (H : Heap 𝓤) (A : Atoms 𝓤) (W : Given
 -- A call: the matrix xm, and the row xs as the value v.
 module _ {M : Type 1} (𝓤 : URA M) (H : Heap 𝓤) (A : Atoms 𝓤) (W : Given 𝓤 H A) (mem′ : Memory → SProp 𝓤) (run : Routine → Fun 𝓤) (κ₀ : Lft) (q₀ : Share)
     (xm : RefT (List Float)) (xs : List Record) (v : Val) (n step : ℕ) (n-fits : n < 2 ^ 64) (step-fits : step < 2 ^ 64)
-    (matrix-room : Room f64 (length (now xm))) (is-v : Is Row xs (v ∷ [])) (long : length xs ≡ 16) where
+    (matrix-room : Room f64 (length (now xm))) (is-v : Is Row xs (v ∷ [])) (long : length xs ≡ mostProcessors) where
   abbrev vm : Val
   vm = sliceVal (xm .ptr) (length (xm .now))
 
@@ -163,10 +164,10 @@ module _ {M : Type 1} (𝓤 : URA M) (H : Heap 𝓤) (A : Atoms 𝓤) (W : Given
   Lent = ShrSlice (named 0) κ₀ f64 .own xm (vm ∷ [])
 
   abbrev Says : Answer → List Record → Type 0
-  Says r zs = rowOutcome (toldAnswer r) zs ≡ recordsOf n (now xm) step xs
+  Says r zs = rowOutcome (answered r) zs ≡ recordsOf n (now xm) step xs
 
   typed : (zs : List Record) (z : Val) → Is Row zs (z ∷ []) → Holds (hasTy arrayTy z) × WT z
-  typed zs z is = array-typed Rec.the-row (StructLaws.lawful Rec.the-type Rec′.the-laws 𝓤 H A W .typed) 16 zs _ is .0
+  typed zs z is = array-typed Rec.the-row (StructLaws.lawful Rec.the-type Rec′.the-laws 𝓤 H A W .typed) mostProcessors zs _ is .0
 
   room : Room Rec.the-row (length xs)
   room = subst (Room Rec.the-row) (sym long) (lit< tt, lit< tt)
@@ -203,7 +204,7 @@ module _ {M : Type 1} (𝓤 : URA M) (H : Heap 𝓤) (A : Atoms 𝓤) (W : Given
       suffices ! _ (ends-at 𝓤 H A f.ended stayed (f.clauses 𝓤 H A mem′ run) W (((κ₀, tt), (q₀, tt), tt, a, vals), tt) (both u (val zs)) (record { answer = r; row = zs })
       (tt, (tt, (tt, (tt, tt)))) (tt, (tt, (tt, (tt, tt))))) $ says ! say $
       nothing ! $ move ! (1 ∷ 0 ∷ []) $ join ! $ frame ! $ nothing ! $
-      owned ! Row (Is Row) (array-makes 𝓤 H A W Rec.the-row (StructLaws.makes Rec.the-type Rec′.the-plain 𝓤 H A) 16) xs (v ∷ []) is-v $ fjoin ! $
+      owned ! Row (Is Row) (array-makes 𝓤 H A W Rec.the-row (StructLaws.makes Rec.the-type Rec′.the-plain 𝓤 H A) mostProcessors) xs (v ∷ []) is-v $ fjoin ! $
       owned ! usize (Is usize) (uint-makes 𝓤 H A W w64) step _ (refl, step-fits) $ fjoin ! $ move ! (1 ∷ 0 ∷ []) $ fjoin ! $
       owned ! usize (Is usize) (uint-makes 𝓤 H A W w64) n _ (refl, n-fits) $ fjoin ! $ frame ! $
       owned ! Res.the-row (Is Res.the-row) (StructLaws.makes Res.the-type Res′.the-plain 𝓤 H A) (record { answer = r; row = zs }) (both u (val zs) ∷ []) is $ done !

@@ -49,7 +49,7 @@ use denote.Triple.Table.{entered, cited}
 use denote.Triple.Walked.{says, Stays, stay-none, stay-none-slice, stay-slice, walkOf, goes-none, goes-none-slice, goes-slice, Walks, ends-at, walked, walk-meets}
 use denote.Exit.{yes}
 use borrow.Author.Tests.{lt-ltb, le-ltb}
-use Rattle.refusal.specs.Refusal.{toldAnswer}
+use Rattle.refusal.specs.Answers.{answered}
 use Rattle.refusal.specs.declared.Answer.{Answer}
 use Rattle.refusal.proofs.Answer as Ans
 use Rattle.refusal.proofs.Answer.Laws as Ans′
@@ -154,10 +154,10 @@ module _ {M : Type 1} (𝓤 : URA M) (H : Heap 𝓤) (A : Atoms 𝓤) (W : Given
 
   -- how many records are written where the verdict is v
   abbrev many : Answer → ℕ
-  many v = written n (toldAnswer v)
+  many v = written n (answered v)
 
   abbrev Says : Answer → Type 0
-  Says v = toldAnswer v ≡ beforeRecords n (now xm) (length ys)
+  Says v = answered v ≡ beforeRecords n (now xm) (length ys)
 
   abbrev Post : Val → SProp 𝓤
   Post = walkOf 𝓤 H A f.ended stayed (f.clauses 𝓤 H A mem run) .post (((κ₀, (κ₁, tt)), (q₀, (q₁, tt)), tt, a, vals), tt)
@@ -232,7 +232,7 @@ module _ {M : Type 1} (𝓤 : URA M) (H : Heap 𝓤) (A : Atoms 𝓤) (W : Given
       qed W (Exit (many v)) ∵
       suffices ! _ (ends-at 𝓤 H A f.ended stayed (f.clauses 𝓤 H A mem run) W (((κ₀, (κ₁, tt)), (q₀, (q₁, tt)), tt, a, vals), tt) w v
       (tt, (tt, (tt, (zs (many v), tt)))) (tt, (tt, (tt, (length-over (many v) rec ys, tt))))) $
-      says ! (outcome n (now xm) step ys (toldAnswer v) say) $
+      says ! (outcome n (now xm) step ys (answered v) say) $
       -- the tokens
       move ! (3 ∷ []) $ split ! $ move ! (1 ∷ []) $ drop ! $ nothing ! $ move ! (4 ∷ 0 ∷ []) $ join ! $ move ! (1 ∷ 0 ∷ []) $ join ! $ frame ! $
       -- the parameters, from the last to the first

@@ -1,15 +1,15 @@
--- The index stays within the registers. The measure is the number of those that are left. Assumes nothing.
 use Prim.Native.Nat.{_-_, _≤_}
 use borrow.Author.Needs.{needs}
-use Rattle.ordering.specs.Registers.{most}
+use Rattle.sizes.specs.Sizes.{mostProcessors}
 use Rattle.test_entries.proofs.write_registers.Statement.{statement}
 use Rattle.test_entries.proofs.write_registers.Tie as tie
 
+-- The index stays within the registers. What falls is the number of registers left.
 abbrev Inv-loop : tie.InvT-loop
-Inv-loop lefts rights k₀ k = k ≤ most
+Inv-loop lefts rights k₀ k = k ≤ mostProcessors
 
 abbrev μ-loop : tie.MeasureT-loop
-μ-loop lefts rights k₀ k = most - k
+μ-loop lefts rights k₀ k = mostProcessors - k
 
 loop-holds : tie.Need-loop-holds Inv-loop μ-loop
 loop-holds c = search needs

@@ -30,13 +30,20 @@ slice-aggregate-put-2 : tie.Need-slice-aggregate-put-2
 slice-aggregate-put-2 c = search needs
 
 put-requires-3 : tie.Need-put-requires-3
-put-requires-3 c κs = omega (arith, few-digits (c .before .before .before .before .before .before .before .before .before .before .before))
+put-requires-3 c κs =
+    let second = c .before .before .before .before in
+    let first = second .before .before .before .before .before in
+    omega (arith, few-digits (first .before .before))
 
 slice-aggregate-put-3 : tie.Need-slice-aggregate-put-3
 slice-aggregate-put-3 c = search needs
 
 put-requires-4 : tie.Need-put-requires-4
-put-requires-4 c κs = omega (arith, few-digits (c .before .before .before .before .before .before .before .before .before .before .before .before .before .before .before .before))
+put-requires-4 c κs =
+    let third = c .before .before .before .before in
+    let second = third .before .before .before .before .before in
+    let first = second .before .before .before .before .before in
+    omega (arith, few-digits (first .before .before))
 
 same-length : tie.Need-same-length
 same-length c = search needs

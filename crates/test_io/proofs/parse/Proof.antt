@@ -10,6 +10,7 @@ use Rattle.test_io.proofs.Reading.{spoilt, one-more, room, grown}
 use Rattle.test_io.proofs.parse.Statement.{statement}
 use Rattle.test_io.proofs.parse.Tie as tie
 
+-- The first i bytes spell the number n, which has at most i digits. What falls is the number of bytes left of the 16.
 abbrev Inv-loop : tie.InvT-loop
 Inv-loop line n₀ i₀ n i = (i ≤ 16) × (n < 16 ^ i) × (spelt i line ≡ Word n)
 

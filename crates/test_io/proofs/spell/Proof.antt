@@ -1,62 +1,19 @@
-use mathlib.Core.Path.{_≡_, refl, _∙_}
-use mathlib.Core.List.{_++_}
-use Prim.Native.Nat.{suc, _-_, _<_, _≤_}
-use native.Mathlib.Omega.{arith}
 use borrow.Author.Needs.{needs}
-use lib.ListN.{length, drop, length-set}
-use Rattle.test_io.specs.Lines.{hexOf, lineOf}
-use Rattle.test_io.proofs.Writing.{one-digit}
+use Rattle.text.specs.Text.{hexOf}
+use Rattle.text.proofs.TextPieces.{put-whole}
+use Rattle.test_io.specs.Lines.{lineOf}
 use Rattle.test_io.proofs.spell.Statement.{statement}
 use Rattle.test_io.proofs.spell.Tie as tie
 
-abbrev Inv-loop : tie.InvT-loop
-Inv-loop n line₀ rest₀ i₀ line rest i = (i ≤ 16) × (length line ≡ 17) × (hexOf i rest ++ drop i line ≡ lineOf n)
+slice-aggregate-put-hex : tie.Need-slice-aggregate-put-hex
+slice-aggregate-put-hex c = search needs
 
-abbrev μ-loop : tie.MeasureT-loop
-μ-loop n line₀ rest₀ i₀ line rest i = i
+put-hex-requires : tie.Need-put-hex-requires
+put-hex-requires c κs = search needs
 
-loop-holds : tie.Need-loop-holds Inv-loop μ-loop
-unfolding lineOf
-loop-holds c = (search needs, refl, refl)
-
-sub-i : tie.Need-sub-i Inv-loop μ-loop
-sub-i c = search needs
-
-code-requires : tie.Need-code-requires Inv-loop μ-loop
-code-requires c κs = search needs
-
-array-write-line : tie.Need-array-write-line Inv-loop μ-loop
-array-write-line c = search needs
-
-loop-less : tie.Need-loop-less Inv-loop μ-loop
-loop-less c = search needs
-
-loop-again : tie.Need-loop-again Inv-loop μ-loop
-loop-again c =
-    let h = c .before .before .loop .inv in
-    let i = c .before .before .loop .i in
-    let line = c .before .before .loop .line in
-    let more : suc (i - 1) ≡ i = omega arith in
-    let inside : i - 1 < length line = omega arith in (
-      search needs,
-      length-set line (i - 1) (c .code .result) ∙ h .1,
-      rw (c .code .ensures, one-digit line (c .before .before .loop .rest) (i - 1) inside, more) (h .2),
-    )
-
-returns : tie.Need-returns Inv-loop μ-loop
-unfolding hexOf
-returns c = let none : c .before .loop .i ≡ 0 = omega arith in rw none at (c .before .loop .inv .2)
+returns : tie.Need-returns
+unfolding lineOf hexOf
+returns c = put-whole _ _ _ _ (c .before .put-hex .ensures .0) .1
 
 pub spell-spec : {M : Type 1} → statement M
-spell-spec =
-    tie.close
-    (tie.spec
-    Inv-loop
-    μ-loop
-    loop-holds
-    sub-i
-    code-requires
-    array-write-line
-    loop-less
-    loop-again
-    returns)
+spell-spec = tie.close (tie.spec slice-aggregate-put-hex put-hex-requires returns)

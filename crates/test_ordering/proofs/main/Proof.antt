@@ -1,8 +1,8 @@
--- Nothing has to hold from turn to turn. The measure is the number of turns that are left. Assumes nothing.
 use borrow.Author.Needs.{needs}
 use Rattle.test_ordering.proofs.main.Statement.{statement}
 use Rattle.test_ordering.proofs.main.Tie as tie
 
+-- Nothing has to hold from turn to turn. What falls is the number of turns left.
 abbrev Inv-loop : tie.InvT-loop
 Inv-loop turns₀ turns = Unit {0}
 

@@ -1,15 +1,15 @@
--- The index stays within the row. The measure is the number of records that are left. Assumes nothing.
 use Prim.Native.Nat.{_-_, _≤_}
 use borrow.Author.Needs.{needs}
-use Rattle.ordering.specs.Registers.{most}
+use Rattle.sizes.specs.Sizes.{mostProcessors}
 use Rattle.test_records.proofs.print_row.Statement.{statement}
 use Rattle.test_records.proofs.print_row.Tie as tie
 
+-- The index stays within the row. What falls is the number of records left.
 abbrev Inv-loop : tie.InvT-loop
-Inv-loop row k₀ k = k ≤ most
+Inv-loop row k₀ k = k ≤ mostProcessors
 
 abbrev μ-loop : tie.MeasureT-loop
-μ-loop row k₀ k = most - k
+μ-loop row k₀ k = mostProcessors - k
 
 loop-holds : tie.Need-loop-holds Inv-loop μ-loop
 loop-holds c = search needs

@@ -1,4 +1,4 @@
-use Rattle.tile_start.specs.Beginning.{tileWith}
+use Rattle.tile_start.specs.Beginning.{startingTile}
 use borrow.Author.Needs.{needs}
 use Rattle.tile_start.proofs.tile_with.Statement.{statement}
 use Rattle.tile_start.proofs.tile_with.Tie as tie
@@ -7,7 +7,7 @@ zero-part-requires : tie.Need-zero-part-requires
 zero-part-requires c κs = search needs
 
 returns : tie.Need-returns
-unfolding tileWith
+unfolding startingTile
 returns c = rw (c .zero-part .ensures)
 
 pub tile-with-spec : {M : Type 1} → statement M

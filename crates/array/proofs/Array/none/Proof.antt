@@ -1,5 +1,5 @@
 use Rattle.lists.specs.Tabulate.{tabulate}
-use Rattle.array.proofs.Starting.{all-alike, none-is}
+use Rattle.array.proofs.ArrayStart.{all-alike, none-is}
 use borrow.Author.Needs.{needs}
 use Rattle.array.proofs.Array.none.Statement.{statement}
 use Rattle.array.proofs.Array.none.Tie as tie

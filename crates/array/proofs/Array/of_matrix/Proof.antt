@@ -1,20 +1,23 @@
+-- The tiles before k are those of the start. The measure is how many places are left.
 use borrow.Author.Needs.{needs}
 use Prim.Native.Nat.{_-_, _*_, _/_, _%_, _≤_}
 use mathlib.Core.Path.{refl}
 use native.Mathlib.Omega.{arith}
 use Rattle.lists.proofs.Filled.{Filled, filled-none, filled-next, filled-all}
-use Rattle.ordering.specs.Registers.{most}
+use Rattle.sizes.specs.Sizes.{mostProcessors}
 use Rattle.tile_start.specs.Beginning.{startTile}
 use Rattle.array.specs.Arrays.{noTile}
-use Rattle.array.proofs.Starting.{start-is}
+use Rattle.array.proofs.ArrayStart.{start-is}
 use Rattle.array.proofs.Array.of_matrix.Statement.{statement}
 use Rattle.array.proofs.Array.of_matrix.Tie as tie
 
 abbrev Inv-loop : tie.InvT-loop
-Inv-loop n sweeps matrix tiles₀ k₀ tiles k = (k ≤ most * most) × Filled noTile (λ k. startTile n matrix (k / most) (k % most)) (most * most) k tiles
+Inv-loop n sweeps matrix tiles₀ k₀ tiles k =
+    (k ≤ mostProcessors * mostProcessors)
+    × Filled noTile (λ k. startTile n matrix (k / mostProcessors) (k % mostProcessors)) (mostProcessors * mostProcessors) k tiles
 
 abbrev μ-loop : tie.MeasureT-loop
-μ-loop n sweeps matrix tiles₀ k₀ tiles k = most * most - k
+μ-loop n sweeps matrix tiles₀ k₀ tiles k = mostProcessors * mostProcessors - k
 
 zero-tile-requires : tie.Need-zero-tile-requires Inv-loop μ-loop
 zero-tile-requires c κs = search needs
@@ -38,7 +41,7 @@ loop-less : tie.Need-loop-less Inv-loop μ-loop
 loop-less c = omega arith
 
 loop-again : tie.Need-loop-again Inv-loop μ-loop
-loop-again c = let k = c .before .before .loop in (omega arith, filled-next _ _ _ (k .inv .1) (omega arith) (c .tile-at .ensures))
+loop-again c = let at-loop = c .before .before .loop in (omega arith, filled-next _ _ _ (at-loop .inv .1) (omega arith) (c .tile-at .ensures))
 
 returns : tie.Need-returns Inv-loop μ-loop
 returns c = start-is _ _ _ (filled-all _ _ (c .before .loop .inv .1) (omega arith))

@@ -1,6 +1,6 @@
 use mathlib.Core.Path.{sym, ap, _∙_}
-use Rattle.refusal.specs.Refusal.{toldAnswer}
-use Rattle.array.proofs.Running.{starts-accepted, starts-refused}
+use Rattle.refusal.specs.Answers.{answered}
+use Rattle.array.proofs.TicksInARow.{starts-accepted, starts-refused}
 use borrow.Author.Needs.{needs}
 use Rattle.array.proofs.Array.start.Statement.{statement}
 use Rattle.array.proofs.Array.start.Tie as tie
@@ -21,10 +21,14 @@ none-requires : tie.Need-none-requires
 none-requires c κs = search needs
 
 returns : tie.Need-returns
-returns c = let k = c .before in starts-accepted _ _ _ (ap toldAnswer (sym (k .enum-told .given .1)) ∙ k .before .before .verdict .ensures) (c .of-matrix .ensures)
+returns c =
+    let k = c .before in
+    starts-accepted _ _ _ (ap answered (sym (k .enum-told .given .1)) ∙ k .before .before .verdict .ensures) (c .of-matrix .ensures)
 
 returns-2 : tie.Need-returns-2
-returns-2 c = let k = c .before .before in starts-refused _ _ _ _ (ap toldAnswer (sym (k .refused .given .1)) ∙ k .before .before .verdict .ensures) (c .none .ensures)
+returns-2 c =
+    let k = c .before .before in
+    starts-refused _ _ _ _ (ap answered (sym (k .refused .given .1)) ∙ k .before .before .verdict .ensures) (c .none .ensures)
 
 pub start-spec : {M : Type 1} → statement M
 start-spec =

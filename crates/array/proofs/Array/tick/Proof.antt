@@ -1,6 +1,6 @@
 use mathlib.Core.Path.{sym, ap, _∙_}
-use Rattle.tile_schedule.specs.Answers.{toldProgress}
-use Rattle.array.proofs.Handed.{stopped-stays, refused-stays, made-moves, one-more}
+use Rattle.tile_schedule.specs.Answers.{progressAnswered}
+use Rattle.array.proofs.TickedArray.{stopped-stays, refused-stays, made-moves, one-more}
 use borrow.Author.Needs.{needs}
 use Rattle.array.proofs.Array.tick.Statement.{statement}
 use Rattle.array.proofs.Array.tick.Tie as tie
@@ -15,19 +15,19 @@ enum-told-2 : tie.Need-enum-told-2
 enum-told-2 c = search needs
 
 returns : tie.Need-returns
-returns c = stopped-stays _ (ap toldProgress (sym (c .enum-told2 .given .1)) ∙ c .before .before .answer-to .ensures)
+returns c = stopped-stays _ (ap progressAnswered (sym (c .enum-told2 .given .1)) ∙ c .before .before .answer-to .ensures)
 
 enum-known-refused : tie.Need-enum-known-refused
 enum-known-refused c = search needs
 
 returns-2 : tie.Need-returns-2
-returns-2 c = let k = c .before in refused-stays _ _ (ap toldProgress (sym (k .refused .given .1)) ∙ k .before .before .answer-to .ensures)
+returns-2 c = let k = c .before in refused-stays _ _ (ap progressAnswered (sym (k .refused .given .1)) ∙ k .before .before .answer-to .ensures)
 
 after-requires : tie.Need-after-requires
-after-requires c κs = one-more _ (ap toldProgress (sym (c .enum-told .given .1)) ∙ c .before .before .answer-to .ensures)
+after-requires c κs = one-more _ (ap progressAnswered (sym (c .enum-told .given .1)) ∙ c .before .before .answer-to .ensures)
 
 returns-3 : tie.Need-returns-3
-returns-3 c = let k = c .before in made-moves _ (ap toldProgress (sym (k .enum-told .given .1)) ∙ k .before .before .answer-to .ensures) (c .after .ensures)
+returns-3 c = let k = c .before in made-moves _ (ap progressAnswered (sym (k .enum-told .given .1)) ∙ k .before .before .answer-to .ensures) (c .after .ensures)
 
 pub tick-spec : {M : Type 1} → statement M
 tick-spec =

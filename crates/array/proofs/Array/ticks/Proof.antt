@@ -1,5 +1,5 @@
 use native.Mathlib.Omega.{arith}
-use Rattle.array.proofs.Staying.{none-made, goes-on, all-left}
+use Rattle.array.proofs.ArrayEnd.{none-made, goes-on, all-left}
 use borrow.Author.Needs.{needs}
 use Rattle.array.proofs.Array.ticks.Statement.{statement}
 use Rattle.array.proofs.Array.ticks.Tie as tie

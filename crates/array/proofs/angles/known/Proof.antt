@@ -1,4 +1,4 @@
-use Rattle.array.proofs.Recalling.{known-at, known-next}
+use Rattle.array.proofs.AngleTable.{known-at, known-next}
 use borrow.Author.Needs.{needs}
 use Rattle.array.proofs.angles.known.Statement.{statement}
 use Rattle.array.proofs.angles.known.Tie as tie

@@ -1,4 +1,4 @@
-use Rattle.array.proofs.Nearby.{down-last, down-other}
+use Rattle.array.proofs.TileNeighbours.{down-last, down-other}
 use borrow.Author.Needs.{needs}
 use Rattle.array.proofs.wiring.down.Statement.{statement}
 use Rattle.array.proofs.wiring.down.Tie as tie

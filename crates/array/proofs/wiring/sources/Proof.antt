@@ -1,5 +1,5 @@
 use native.Mathlib.Omega.{arith}
-use Rattle.array.proofs.Nearby.{down-le, toward-le, near-is}
+use Rattle.array.proofs.TileNeighbours.{down-le, nearer-le, near-is}
 use borrow.Author.Needs.{needs}
 use Rattle.array.proofs.wiring.sources.Statement.{statement}
 use Rattle.array.proofs.wiring.sources.Tie as tie
@@ -43,20 +43,20 @@ add-t15 c = let s = c .before .before .before .before in omega (arith, down-le _
 mul-t16 : tie.Need-mul-t16
 mul-t16 c = search needs
 
-toward-requires : tie.Need-toward-requires
-toward-requires c κs = search needs
+nearer-requires : tie.Need-nearer-requires
+nearer-requires c κs = search needs
 
 add-t18 : tie.Need-add-t18
-add-t18 c = let s = c .before .before .before .before .before in omega (arith, toward-le _ _ _ (s .pre .0) (s .pre .1))
+add-t18 c = let s = c .before .before .before .before .before in omega (arith, nearer-le _ _ _ (s .pre .0) (s .pre .1))
 
-toward-requires-2 : tie.Need-toward-requires-2
-toward-requires-2 c κs = search needs
+nearer-requires-2 : tie.Need-nearer-requires-2
+nearer-requires-2 c κs = search needs
 
 mul-t20 : tie.Need-mul-t20
-mul-t20 c = let s = c .before .before .before .before .before .before in omega (arith, toward-le _ _ _ (s .pre .1) (s .pre .0))
+mul-t20 c = let s = c .before .before .before .before .before .before in omega (arith, nearer-le _ _ _ (s .pre .1) (s .pre .0))
 
 add-t21 : tie.Need-add-t21
-add-t21 c = let s = c .before .before .before .before .before .before in omega (arith, toward-le _ _ _ (s .pre .1) (s .pre .0))
+add-t21 c = let s = c .before .before .before .before .before .before in omega (arith, nearer-le _ _ _ (s .pre .1) (s .pre .0))
 
 returns : tie.Need-returns
 returns c =
@@ -64,7 +64,8 @@ returns c =
     let d = t .before in
     let u = d .before .before in
     let s = u .before .before in
-    near-is _ _ _ (s .pre .0) (s .pre .1) (s .pre .2) (u .before .up .ensures) (u .up2 .ensures) (d .before .down .ensures) (d .down2 .ensures) (t .toward .ensures) (c .toward2 .ensures)
+    near-is _ _ _ (s .pre .0) (s .pre .1) (s .pre .2) (u .before .up .ensures) (u .up2 .ensures) (d .before .down .ensures)
+    (d .down2 .ensures) (t .nearer .ensures) (c .nearer2 .ensures)
 
 pub sources-spec : {M : Type 1} → statement M
 sources-spec =
@@ -83,9 +84,9 @@ sources-spec =
     mul-t14
     add-t15
     mul-t16
-    toward-requires
+    nearer-requires
     add-t18
-    toward-requires-2
+    nearer-requires-2
     mul-t20
     add-t21
     returns)

@@ -1,6 +1,5 @@
 use mathlib.Core.Path.{sym, _∙_}
-use Rattle.plain_run.proofs.Starts.{cleared}
-use Rattle.plain_run.proofs.Endings.{spoiled-outcome}
+use Rattle.runs.proofs.Starts.{cleared, spoiled-outcome}
 use Rattle.array_run.proofs.Results.{spoiled-over, cells-over}
 use borrow.Author.Needs.{needs}
 use Rattle.array_run.proofs.ending.hand_over.Statement.{statement}
@@ -27,7 +26,8 @@ returns c =
     let s₁ = s₂ .before .before .before .before in
     let k = s₁ .before .before in
     let p = k .before .before .before .before .pre in
-    spoiled-over _ (sym (k .before .is-marked .ensures) ∙ k .if1 .taken) (spoiled-outcome _ (cleared _ (p .1) (s₁ .clear .ensures)) (cleared _ (p .2) (s₂ .clear2 .ensures)))
+    spoiled-over _ (sym (k .before .is-marked .ensures) ∙ k .if1 .taken)
+    (spoiled-outcome _ (cleared _ (p .1) (s₁ .clear .ensures)) (cleared _ (p .2) (s₂ .clear2 .ensures)))
 
 write-cells-requires : tie.Need-write-cells-requires
 write-cells-requires c κs = search needs

@@ -1,8 +1,11 @@
-use Prim.Native.Nat.{_-_, _/_, _≤_}
+-- No tile of the rows before i is marked, and in the inner loop none of row i before column j. The measures are how many rows and how many
+-- columns are left.
+use borrow.Author.Needs.{needs}
+use Prim.Native.Nat.{_-_, _≤_}
 use mathlib.Core.Path.{_≡_}
 use mathlib.Core.Bool.{false}
 use native.Mathlib.Omega.{arith}
-use Rattle.systolic.proofs.Bounded.{any-none, any-more}
+use Rattle.lists.proofs.Bounded.{any-none, any-more}
 use Rattle.array.specs.Arrays.{noQuad, noPart, noTile, tileAt}
 use Rattle.array_run.proofs.Results.{markedInRow, markedBefore, one-marked, none-marked}
 use Rattle.array_run.proofs.ending.is_marked.Statement.{statement}
@@ -19,6 +22,9 @@ Inv-loop array processors i₀ i = (i ≤ processors) × (markedBefore processor
 
 abbrev μ-loop : tie.MeasureT-loop
 μ-loop array processors i₀ i = processors - i
+
+processors-of-requires : tie.Need-processors-of-requires Inv-loop2 μ-loop2 Inv-loop μ-loop
+processors-of-requires c κs = search needs
 
 loop-holds : tie.Need-loop-holds Inv-loop2 μ-loop2 Inv-loop μ-loop
 loop-holds c = (omega arith, any-none _)
@@ -62,11 +68,13 @@ loop-less c = omega arith
 
 loop-again : tie.Need-loop-again Inv-loop2 μ-loop2 Inv-loop μ-loop
 loop-again c =
-    let e : c .before .loop2 .j ≡ c .before .before .before .before .args .t1 .n / 2 = omega arith in
-    (omega arith, any-more _ _ (c .before .before .before .loop .inv .1) (rw e at (c .before .loop2 .inv .1)))
+    let inner = c .before .loop2 in
+    let at-loop = c .before .before .before in
+    let e : inner .j ≡ at-loop .before .processors-of .result = omega arith in
+    (omega arith, any-more _ _ (at-loop .loop .inv .1) (rw e at (inner .inv .1)))
 
 returns-2 : tie.Need-returns-2 Inv-loop2 μ-loop2 Inv-loop μ-loop
-returns-2 c = none-marked _ _ _ (c .before .loop .inv .1) (omega arith)
+returns-2 c = let at-loop = c .before in rw (← (at-loop .before .processors-of .ensures)) (none-marked _ _ _ (at-loop .loop .inv .1) (omega arith))
 
 pub is-marked-spec : {M : Type 1} → statement M
 is-marked-spec =
@@ -76,6 +84,7 @@ is-marked-spec =
     μ-loop2
     Inv-loop
     μ-loop
+    processors-of-requires
     loop-holds
     loop2-holds
     mul-if1

@@ -1,10 +1,11 @@
+-- The first k entries of both results are those in the cells. The measure is how many entries are left.
 use borrow.Author.Needs.{needs}
 use Prim.Native.Nat.{ℕ, _+_, _-_, _*_, _/_, _%_, _<_, _≤_}
 use mathlib.Core.Path.{_∙_}
 use native.Mathlib.Omega.{arith}
 use lib.Ieee.{nan}
 use Rattle.lists.proofs.Filled.{Filled, filled-none, filled-next}
-use Rattle.ordering.specs.Pairs.{limit}
+use Rattle.sizes.specs.Sizes.{largestOrder}
 use Rattle.matrix.proofs.Flat.{row-lt, column-lt}
 use Rattle.array.specs.Arrays.{noQuad, noPart, noTile, tileAt}
 use Rattle.array_run.specs.Results.{matrixIn, vectorsIn}
@@ -24,7 +25,7 @@ abbrev μ-loop : tie.MeasureT-loop
 record Place (n k : ℕ) : Type 0 where
   row-in : k / n < n
   column-in : k % n < n
-  few : n ≤ limit
+  few : n ≤ largestOrder
 
 place : (c : tie.In-loop Inv-loop μ-loop) → Place (c .before .before .before .before .args .t1 .n) (c .before .loop .k)
 place c =

@@ -1,4 +1,4 @@
-use Rattle.capi.specs.Said.{saidOf}
+use Rattle.capi.specs.CAnswers.{cAnswerOf}
 use borrow.Author.Needs.{needs}
 use Rattle.capi.proofs.answers.number_of.Statement.{statement}
 use Rattle.capi.proofs.answers.number_of.Tie as tie
@@ -13,11 +13,11 @@ refuse-requires : tie.Need-refuse-requires
 refuse-requires c κs = search needs
 
 returns : tie.Need-returns
-unfolding saidOf
+unfolding cAnswerOf
 returns c = rw (c .enum-told .given .1)
 
 returns-2 : tie.Need-returns-2
-unfolding saidOf
+unfolding cAnswerOf
 returns-2 c = rw (c .before .before .before .before .answer .given .1) (c .refuse .ensures)
 
 pub number-of-spec : {M : Type 1} → statement M

@@ -1,4 +1,4 @@
-use Rattle.capi.proofs.Saying.{placed}
+use Rattle.capi.proofs.CAnswers.{placed}
 use borrow.Author.Needs.{needs}
 use Rattle.capi.proofs.answers.refuse.Statement.{statement}
 use Rattle.capi.proofs.answers.refuse.Tie as tie

@@ -1,6 +1,6 @@
 use borrow.Author.Tests.{not-true, not-false}
 use mathlib.Core.Path.{sym, _∙_}
-use Rattle.capi.proofs.Keeping.{start-refused, start-stored}
+use Rattle.capi.proofs.ArrayByHand.{start-refused, start-stored}
 use borrow.Author.Needs.{needs}
 use Rattle.capi.proofs.hand.weimrukas_array_start.Statement.{statement}
 use Rattle.capi.proofs.hand.weimrukas_array_start.Tie as tie
@@ -15,7 +15,9 @@ number-of-requires : tie.Need-number-of-requires
 number-of-requires c κs = search needs
 
 returns : tie.Need-returns
-returns c = start-refused _ _ _ _ _ _ (sym (c .before .before .before .before .before .is-array .ensures) ∙ not-true _ (c .before .before .before .before .if1 .taken)) (c .before .before .before .verdict .ensures) (c .number-of .ensures)
+returns c = start-refused _ _ _ _ _ _
+    (sym (c .before .before .before .before .before .is-array .ensures) ∙ not-true _ (c .before .before .before .before .if1 .taken))
+    (c .before .before .before .verdict .ensures) (c .number-of .ensures)
 
 start-requires : tie.Need-start-requires
 start-requires c κs = search needs
@@ -30,7 +32,11 @@ same-length : tie.Need-same-length
 same-length c = search needs
 
 returns-2 : tie.Need-returns-2
-returns-2 c = start-stored _ _ _ _ _ _ _ (sym (c .before .before .before .before .before .before .before .before .before .before .is-array .ensures) ∙ not-false _ (c .before .before .before .before .before .before .before .before .before .if1 .left)) (c .before .before .before .before .before .before .before .before .start .ensures) (c .before .before .before .before .before .store .ensures) (c .number-of2 .ensures)
+returns-2 c = start-stored _ _ _ _ _ _ _
+    (sym (c .before .before .before .before .before .before .before .before .before .before .is-array .ensures)
+    ∙ not-false _ (c .before .before .before .before .before .before .before .before .before .if1 .left))
+    (c .before .before .before .before .before .before .before .before .start .ensures) (c .before .before .before .before .before .store .ensures)
+    (c .number-of2 .ensures)
 
 pub weimrukas-array-start-spec : {M : Type 1} → statement M
 weimrukas-array-start-spec =

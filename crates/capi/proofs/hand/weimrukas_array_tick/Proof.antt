@@ -1,6 +1,6 @@
 use borrow.Author.Tests.{not-true, not-false}
 use mathlib.Core.Path.{sym, _∙_}
-use Rattle.capi.proofs.Keeping.{tick-refused-by-3, tick-made, tick-stopped, tick-refused}
+use Rattle.capi.proofs.ArrayByHand.{tick-refused-by-3, tick-made, tick-stopped, tick-refused}
 use borrow.Author.Needs.{needs}
 use Rattle.capi.proofs.hand.weimrukas_array_tick.Statement.{statement}
 use Rattle.capi.proofs.hand.weimrukas_array_tick.Tie as tie
@@ -42,7 +42,8 @@ returns-2 : tie.Need-returns-2
 returns-2 c =
     let t = c .before .before .before .before .before .before .before in
     let e = t .before .before .before in
-    tick-made _ _ (sym (e .before .is-array .ensures) ∙ not-false _ (e .if1 .left)) _ (t .before .load .ensures) _ (t .tick .ensures) (c .before .before .before .before .before .enum-told .given .1) (c .before .before .store .ensures)
+    tick-made _ _ (sym (e .before .is-array .ensures) ∙ not-false _ (e .if1 .left)) _ (t .before .load .ensures) _ (t .tick .ensures)
+    (c .before .before .before .before .before .enum-told .given .1) (c .before .before .store .ensures)
 
 same-length-2 : tie.Need-same-length-2
 same-length-2 c = search needs
@@ -51,7 +52,8 @@ returns-3 : tie.Need-returns-3
 returns-3 c =
     let t = c .before .before in
     let e = t .before .before .before in
-    tick-stopped _ _ (sym (e .before .is-array .ensures) ∙ not-false _ (e .if1 .left)) _ (t .before .load .ensures) _ (t .tick .ensures) (c .enum-told2 .given .1)
+    tick-stopped _ _ (sym (e .before .is-array .ensures) ∙ not-false _ (e .if1 .left)) _ (t .before .load .ensures) _ (t .tick .ensures)
+    (c .enum-told2 .given .1)
 
 same-length-3 : tie.Need-same-length-3
 same-length-3 c = search needs
@@ -60,7 +62,8 @@ returns-4 : tie.Need-returns-4
 returns-4 c =
     let t = c .before .before .before .before in
     let e = t .before .before .before in
-    tick-refused _ _ (sym (e .before .is-array .ensures) ∙ not-false _ (e .if1 .left)) _ (t .before .load .ensures) _ (t .tick .ensures) _ (c .before .before .answer .given .1) (c .number2 .ensures)
+    tick-refused _ _ (sym (e .before .is-array .ensures) ∙ not-false _ (e .if1 .left)) _ (t .before .load .ensures) _ (t .tick .ensures) _
+    (c .before .before .answer .given .1) (c .number2 .ensures)
 
 pub weimrukas-array-tick-spec : {M : Type 1} → statement M
 weimrukas-array-tick-spec =

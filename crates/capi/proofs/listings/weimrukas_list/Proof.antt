@@ -1,4 +1,4 @@
-use Rattle.capi.proofs.Saying.{list-said}
+use Rattle.capi.proofs.CAnswers.{list-said}
 use borrow.Author.Needs.{needs}
 use Rattle.capi.proofs.listings.weimrukas_list.Statement.{statement}
 use Rattle.capi.proofs.listings.weimrukas_list.Tie as tie

@@ -38,7 +38,13 @@ same-length-2 : tie.Need-same-length-2
 same-length-2 c = search needs
 
 returns-2 : tie.Need-returns-2
-returns-2 c = pairs-listed _ _ _ _ _ (c .before .before .before .before .before .before .before .before .before .before .before .before .before .before .pairs .ensures) (sym (c .before .before .before .before .before .before .before .before .before .before .before .before .before .before .before .before .pairs-too-short .ensures) ∙ c .before .before .before .before .before .before .before .before .before .before .before .before .before .before .before .if1 .left) (c .number-alone .ensures) (c .before .before .before .before .before .before .before .before .put-registers .ensures) (c .before .before .before .put-registers2 .ensures)
+returns-2 c =
+    let rights = c .before .before .before in
+    let lefts = rights .before .before .before .before .before in
+    let listed = lefts .before .before .before .before .before .before in
+    let test = listed .before in
+    pairs-listed _ _ _ _ _ (listed .pairs .ensures) (sym (test .before .pairs-too-short .ensures) ∙ test .if1 .left) (c .number-alone .ensures)
+    (lefts .put-registers .ensures) (rights .put-registers2 .ensures)
 
 pub weimrukas-pairs-spec : {M : Type 1} → statement M
 weimrukas-pairs-spec =

@@ -1,4 +1,4 @@
-use Rattle.capi.proofs.Saying.{parameters-said}
+use Rattle.capi.proofs.CAnswers.{parameters-said}
 use borrow.Author.Needs.{needs}
 use Rattle.capi.proofs.rotations.weimrukas_parameters.Statement.{statement}
 use Rattle.capi.proofs.rotations.weimrukas_parameters.Tie as tie
@@ -22,7 +22,9 @@ canonical-requires-3 : tie.Need-canonical-requires-3
 canonical-requires-3 c κs = search needs
 
 returns : tie.Need-returns
-returns c = let p = c .before .before .before .before .before in parameters-said (p .of-pair .ensures) (c .before .before .before .before .of-parameters .ensures) (c .before .before .before .turns .ensures) (c .before .before .canonical .ensures) (c .before .canonical2 .ensures) (c .canonical3 .ensures)
+returns c = let p = c .before .before .before .before .before in
+    parameters-said (p .of-pair .ensures) (c .before .before .before .before .of-parameters .ensures) (c .before .before .before .turns .ensures)
+    (c .before .before .canonical .ensures) (c .before .canonical2 .ensures) (c .canonical3 .ensures)
 
 pub weimrukas-parameters-spec : {M : Type 1} → statement M
 weimrukas-parameters-spec =

@@ -1,4 +1,4 @@
-use Rattle.capi.proofs.Saying.{root-given, root-refused}
+use Rattle.capi.proofs.CAnswers.{root-given, root-refused}
 use borrow.Author.Needs.{needs}
 use Rattle.capi.proofs.rotations.weimrukas_root.Statement.{statement}
 use Rattle.capi.proofs.rotations.weimrukas_root.Tie as tie

@@ -1,4 +1,4 @@
-use Rattle.capi.proofs.Saying.{read-given, read-refused}
+use Rattle.capi.proofs.CAnswers.{read-given, read-refused}
 use borrow.Author.Needs.{needs}
 use Rattle.capi.proofs.sheets.weimrukas_read_sheet.Statement.{statement}
 use Rattle.capi.proofs.sheets.weimrukas_read_sheet.Tie as tie
@@ -31,7 +31,8 @@ same-length-4 : tie.Need-same-length-4
 same-length-4 c = search needs
 
 returns-2 : tie.Need-returns-2
-returns-2 c = read-refused _ _ _ _ _ _ _ (c .before .before .before .before .refused .given .1) (c .before .before .before .before .before .before .before .before .before .before .read .ensures) (c .refuse .ensures)
+returns-2 c = read-refused _ _ _ _ _ _ _ (c .before .before .before .before .refused .given .1)
+    (c .before .before .before .before .before .before .before .before .before .before .read .ensures) (c .refuse .ensures)
 
 pub weimrukas-read-sheet-spec : {M : Type 1} → statement M
 weimrukas-read-sheet-spec =

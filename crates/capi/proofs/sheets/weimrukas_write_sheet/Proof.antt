@@ -1,4 +1,4 @@
-use Rattle.capi.proofs.Saying.{write-said}
+use Rattle.capi.proofs.CAnswers.{write-said}
 use borrow.Author.Needs.{needs}
 use Rattle.capi.proofs.sheets.weimrukas_write_sheet.Statement.{statement}
 use Rattle.capi.proofs.sheets.weimrukas_write_sheet.Tie as tie

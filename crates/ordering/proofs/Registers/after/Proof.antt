@@ -2,19 +2,22 @@ use Prim.Native.Nat.{_-_, _≤_}
 use mathlib.Core.Path.{_≡_, _∙_}
 use native.Mathlib.Omega.{arith}
 use Rattle.systolic.specs.Slots.{inOrder, lineAt}
-use Rattle.ordering.specs.Registers.{registersOf, most}
-use Rattle.ordering.proofs.Coming.{at-start, next-step, same-step}
+use Rattle.ordering.specs.Registers.{registersOf}
+use Rattle.sizes.specs.Sizes.{mostProcessors}
+use Rattle.ordering.proofs.Movement.{at-start, next-step, same-step}
 use Rattle.ordering.proofs.Registers.after.Statement.{statement}
 use Rattle.ordering.proofs.Registers.after.Tie as tie
 
+-- The registers are those at step s. What falls is step - s.
 abbrev Inv-loop : tie.InvT-loop
-Inv-loop processors step registers₀ s₀ registers s = (s ≤ step) × (1 ≤ processors) × (processors ≤ most) × (registers ≡ registersOf processors (lineAt (inOrder 1) (processors - 1) s))
+Inv-loop processors first step registers₀ s₀ registers s =
+    (s ≤ step) × (1 ≤ processors) × (processors ≤ mostProcessors) × (registers ≡ registersOf processors (lineAt (inOrder first) (processors - 1) s))
 
 abbrev μ-loop : tie.MeasureT-loop
-μ-loop processors step registers₀ s₀ registers s = step - s
+μ-loop processors first step registers₀ s₀ registers s = step - s
 
 start-requires : tie.Need-start-requires Inv-loop μ-loop
-start-requires c κs = omega arith
+start-requires c κs = (omega arith, omega arith)
 
 loop-holds : tie.Need-loop-holds Inv-loop μ-loop
 loop-holds c = (omega arith, omega arith, omega arith, c .start .ensures ∙ at-start _ _)

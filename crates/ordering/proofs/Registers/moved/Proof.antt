@@ -8,8 +8,11 @@ use Rattle.ordering.proofs.Columns.{column-none, column-next, registers
 use Rattle.ordering.proofs.Registers.moved.Statement.{statement}
 use Rattle.ordering.proofs.Registers.moved.Tie as tie
 
+-- The first k registers of both sides hold what comes into them. What falls is processors - k.
 abbrev Inv-loop : tie.InvT-loop
-Inv-loop processors old-left old-right lefts₀ rights₀ k₀ lefts rights k = (k ≤ processors) × (lefts ≡ column k (λ i. comingInto old-left old-right (processors - 1) left i)) × (rights ≡ column k (λ i. comingInto old-left old-right (processors - 1) right i))
+Inv-loop processors old-left old-right lefts₀ rights₀ k₀ lefts rights k =
+    (k ≤ processors) × (lefts ≡ column k (λ i. comingInto old-left old-right (processors - 1) left i))
+    × (rights ≡ column k (λ i. comingInto old-left old-right (processors - 1) right i))
 
 abbrev μ-loop : tie.MeasureT-loop
 μ-loop processors old-left old-right lefts₀ rights₀ k₀ lefts rights k = processors - k
@@ -47,9 +50,13 @@ loop-less c = omega arith
 
 loop-again : tie.Need-loop-again Inv-loop μ-loop
 loop-again c =
-    let b = c .before .before .before .before .before .before .before .loop in
-    let i = b .inv in
-    (omega arith, column-next _ (b .k) _ _ (i .1) (omega arith) (c .before .before .before .into-left .ensures _), column-next _ (b .k) _ _ (i .2) (omega arith) (c .into-right .ensures))
+    let at-left = c .before .before .before in
+    let loop = at-left .before .before .before .before .loop in
+    let i = loop .inv in (
+      omega arith,
+      column-next _ (loop .k) _ _ (i .1) (omega arith) (at-left .into-left .ensures _),
+      column-next _ (loop .k) _ _ (i .2) (omega arith) (c .into-right .ensures),
+    )
 
 returns : tie.Need-returns Inv-loop μ-loop
 unfolding inSlot comingInto prior slot

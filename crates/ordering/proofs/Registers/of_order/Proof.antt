@@ -1,23 +1,55 @@
-use mathlib.Core.Path.{sym, _∙_}
+use native.Mathlib.Omega.{arith}
+use mathlib.Core.Path.{_≡_, sym, _∙_}
+use mathlib.Core.Bool.{true}
 use borrow.Author.Needs.{needs}
-use Rattle.ordering.proofs.Orders.{order-half, none-beside, order-beside, first-at}
+use borrow.Author.Tests.{not-true, not-false}
+use Rattle.sizes.specs.Sizes.{isOrder}
+use Rattle.sizes.proofs.Orders.{order-half}
+use Rattle.ordering.proofs.OrderRegisters.{none-beside, order-beside, first-at}
 use Rattle.ordering.proofs.Registers.of_order.Statement.{statement}
 use Rattle.ordering.proofs.Registers.of_order.Tie as tie
 
-is-no-order-requires : tie.Need-is-no-order-requires
-is-no-order-requires c κs = search needs
+is-order-requires : tie.Need-is-order-requires
+is-order-requires c κs = search needs
 
 none-requires : tie.Need-none-requires
 none-requires c κs = search needs
 
 returns : tie.Need-returns
-returns c = none-beside _ _ (sym (c .before .before .is-no-order .ensures) ∙ c .before .if1 .taken) (c .none .ensures)
+returns c = none-beside _ _ (sym (c .before .before .is-order .ensures) ∙ not-true _ (c .before .if1 .taken)) (c .none .ensures)
+
+processors-of-requires : tie.Need-processors-of-requires
+processors-of-requires c κs = search needs
+
+first-line-requires : tie.Need-first-line-requires
+first-line-requires c κs = search needs
+
+-- past the test n is an order
+ordered : (c : tie.Else1) → isOrder (c .before .before .args .n) ≡ true
+ordered c = sym (c .before .is-order .ensures) ∙ not-false _ (c .if1 .left)
 
 start-requires : tie.Need-start-requires
-start-requires c κs = let h = order-half _ (sym (c .before .is-no-order .ensures) ∙ c .if1 .left) in h .1
+start-requires c κs =
+    let p = c .before in
+    let h = order-half _ (ordered (p .before)) in
+    let N = p .processors-of .ensures in
+    let b = c .first-line .ensures in
+    (omega arith, omega arith)
 
 returns-2 : tie.Need-returns-2
-returns-2 c = order-beside _ _ (sym (c .before .before .is-no-order .ensures) ∙ c .before .if1 .left) (c .start .ensures ∙ first-at _)
+returns-2 c =
+    let f = c .before in
+    let p = f .before in
+    order-beside _ _ (ordered (p .before)) (first-at _ (p .processors-of .ensures) (f .first-line .ensures) (c .start .ensures))
 
 pub of-order-spec : {M : Type 1} → statement M
-of-order-spec = tie.close (tie.spec is-no-order-requires none-requires returns start-requires returns-2)
+of-order-spec =
+    tie.close
+    (tie.spec
+    is-order-requires
+    none-requires
+    returns
+    processors-of-requires
+    first-line-requires
+    start-requires
+    returns-2)

@@ -5,6 +5,7 @@ use Rattle.root.proofs.DigitLoop.{At, root-bound, start, taken, passed,
 use Rattle.root.proofs.whole.digits.Statement.{statement}
 use Rattle.root.proofs.whole.digits.Tie as tie
 
+-- root has at most i binary digits, and its square and the rest are the number of the digits taken so far. What falls is 54 - i.
 abbrev Inv-loop : tie.InvT-loop
 Inv-loop k left₀ rest₀ root₀ i₀ left rest root i = At k left rest root i
 

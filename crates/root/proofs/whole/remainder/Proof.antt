@@ -43,10 +43,10 @@ add-wrapping-sub-u64-2 : tie.Need-add-wrapping-sub-u64-2
 add-wrapping-sub-u64-2 c = search needs
 
 mul-wrapping-sub-u64-7 : tie.Need-mul-wrapping-sub-u64-7
-mul-wrapping-sub-u64-7 c = let b = split-le (c .before .before .before .before .args .q) (c .before .before .before .before .pre .1) in omega arith
+mul-wrapping-sub-u64-7 c = let at-start = c .before .before .before .before in let b = split-le (at-start .args .q) (at-start .pre .1) in omega arith
 
 add-wrapping-sub-u64-3 : tie.Need-add-wrapping-sub-u64-3
-add-wrapping-sub-u64-3 c = let b = split-le (c .before .before .before .before .args .q) (c .before .before .before .before .pre .1) in omega arith
+add-wrapping-sub-u64-3 c = let at-start = c .before .before .before .before in let b = split-le (at-start .args .q) (at-start .pre .1) in omega arith
 
 wrapping-sub-u64-requires-3 : tie.Need-wrapping-sub-u64-requires-3
 wrapping-sub-u64-requires-3 c κs = search needs

@@ -41,7 +41,10 @@ cast-result-2 : tie.Need-cast-result-2
 cast-result-2 c = search needs
 
 add-result-4 : tie.Need-add-result-4
-add-result-4 c = omega (arith, bit-le (ltb (c .before .before .args .q * 2) (c .before .remainder .result + 3)), bit-le (ltb (c .before .before .args .q * 4) (c .before .remainder .result + 3)))
+add-result-4 c =
+    let q = c .before .before .args .q in
+    let left = c .before .remainder .result in
+    omega (arith, bit-le (ltb (q * 2) (left + 3)), bit-le (ltb (q * 4) (left + 3)))
 
 returns-2 : tie.Need-returns-2
 returns-2 c r =

@@ -1,10 +1,10 @@
--- The index stays within the slice. The measure is what is left of it. Assumes nothing.
 use Prim.Native.Nat.{_-_, _≤_}
 use borrow.Author.Needs.{needs}
 use lib.ListN.{length}
 use Rattle.test_io.proofs.values.print_values.Statement.{statement}
 use Rattle.test_io.proofs.values.print_values.Tie as tie
 
+-- The index stays within the slice. What falls is the number of values left.
 abbrev Inv-loop : tie.InvT-loop
 Inv-loop a k₀ k-end k = k ≤ length a
 

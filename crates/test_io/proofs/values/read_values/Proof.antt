@@ -1,4 +1,3 @@
--- The index stays within the slice, which keeps its length. The measure is what is left of it. Assumes nothing.
 use Prim.Native.Nat.{_-_, _≤_}
 use mathlib.Core.Path.{_≡_}
 use borrow.Author.Needs.{needs}
@@ -6,6 +5,7 @@ use lib.ListN.{length}
 use Rattle.test_io.proofs.values.read_values.Statement.{statement}
 use Rattle.test_io.proofs.values.read_values.Tie as tie
 
+-- The index stays within the slice, which keeps its length. What falls is the number of values left.
 abbrev Inv-loop : tie.InvT-loop
 Inv-loop a₀ k₀ k-end a k = (k ≤ length a₀) × (length a ≡ length a₀)
 

@@ -1,9 +1,9 @@
--- The count stays within the ticks. The measure is the number of those that are left. Assumes nothing.
 use Prim.Native.Nat.{_-_, _≤_}
 use borrow.Author.Needs.{needs}
 use Rattle.test_runs.proofs.by_hand.make_ticks.Statement.{statement}
 use Rattle.test_runs.proofs.by_hand.make_ticks.Tie as tie
 
+-- The counter stays within the ticks. What falls is the number of ticks left.
 abbrev Inv-loop : tie.InvT-loop
 Inv-loop ticks told₀ array₀ counter₀ told array counter = counter ≤ ticks
 

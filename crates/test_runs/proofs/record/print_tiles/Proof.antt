@@ -1,14 +1,18 @@
--- The index stays within the tiles. The measure is the number of those that are left. Assumes nothing.
-use Prim.Native.Nat.{_-_, _≤_}
+use Prim.Native.Nat.{_-_, _*_, _≤_}
 use borrow.Author.Needs.{needs}
+use Rattle.sizes.specs.Sizes.{mostProcessors}
 use Rattle.test_runs.proofs.record.print_tiles.Statement.{statement}
 use Rattle.test_runs.proofs.record.print_tiles.Tie as tie
 
+-- The index stays within the tiles. What falls is the number of tiles left.
 abbrev Inv-loop : tie.InvT-loop
-Inv-loop array processors k₀ k = k ≤ 256
+Inv-loop array processors k₀ k = k ≤ mostProcessors * mostProcessors
 
 abbrev μ-loop : tie.MeasureT-loop
-μ-loop array processors k₀ k = 256 - k
+μ-loop array processors k₀ k = mostProcessors * mostProcessors - k
+
+processors-of-requires : tie.Need-processors-of-requires Inv-loop μ-loop
+processors-of-requires c κs = search needs
 
 loop-holds : tie.Need-loop-holds Inv-loop μ-loop
 loop-holds c = search needs
@@ -43,6 +47,7 @@ print-tiles-spec =
     (tie.spec
     Inv-loop
     μ-loop
+    processors-of-requires
     loop-holds
     mul-tile
     element-copy-out-tile

@@ -2,7 +2,6 @@
 use mathlib.Core.Path.{sym}
 use lib.Seq.{length-take-le}
 use borrow.Author.Needs.{needs}
-use borrow.Author.Needs.{needs}
 use Rattle.test_sheets.proofs.buffers.lend.Statement.{statement}
 use Rattle.test_sheets.proofs.buffers.lend.Tie as tie
 

@@ -1,9 +1,9 @@
--- The index stays within the eight bytes. The measure is the number of those that are left. Assumes nothing.
 use Prim.Native.Nat.{_-_, _≤_}
 use borrow.Author.Needs.{needs}
 use Rattle.test_sheets.proofs.packed.first_word.Statement.{statement}
 use Rattle.test_sheets.proofs.packed.first_word.Tie as tie
 
+-- The index stays within the eight bytes. What falls is the number of bytes left.
 abbrev Inv-loop : tie.InvT-loop
 Inv-loop bytes word₀ k₀ word k = k ≤ 8
 

@@ -1,10 +1,10 @@
--- The index stays within the slice. The measure is what is left of it. Assumes nothing.
 use Prim.Native.Nat.{_-_, _≤_}
 use borrow.Author.Needs.{needs}
 use lib.ListN.{length}
 use Rattle.test_sheets.proofs.packed.print_bytes.Statement.{statement}
 use Rattle.test_sheets.proofs.packed.print_bytes.Tie as tie
 
+-- The index stays within the slice. What falls is the number of bytes left.
 abbrev Inv-loop : tie.InvT-loop
 Inv-loop bytes k₀ k-end k = k ≤ length bytes
 

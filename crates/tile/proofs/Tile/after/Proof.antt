@@ -1,6 +1,6 @@
 use mathlib.Core.Path.{ap, _∙_}
 use Rattle.systolic.specs.Tiles.{phaseIn}
-use Rattle.tile.proofs.Ticking.{tile-settled}
+use Rattle.tile.proofs.TileTick.{tile-settled}
 use borrow.Author.Needs.{needs}
 use Rattle.tile.proofs.Tile.after.Statement.{statement}
 use Rattle.tile.proofs.Tile.after.Tie as tie
@@ -18,9 +18,10 @@ is-marked-requires : tie.Need-is-marked-requires
 is-marked-requires c κs = search needs
 
 returns : tie.Need-returns
-returns c =
+returns c = λ s.
     let p = c .before .before .before .before in
-    tile-settled (p .before .before .args .self) _ _ _ _ (p .phase-in .ensures ∙ ap phaseIn (p .before .action-at .ensures)) (c .before .after .ensures) (c .is-marked .ensures)
+    let phase = p .phase-in .ensures ∙ ap phaseIn (p .before .action-at .ensures) in
+    tile-settled s (p .before .before .args .self) _ _ _ _ phase (c .before .after .ensures) (c .is-marked .ensures)
 
 pub after-spec : {M : Type 1} → statement M
 after-spec =

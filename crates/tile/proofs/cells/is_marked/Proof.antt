@@ -1,5 +1,5 @@
 use mathlib.Core.Path.{sym, _∙_}
-use Rattle.tile.specs.Turned.{someNotFinite}
+use Rattle.tile.specs.Turned.{partNotFinite}
 use borrow.Author.Needs.{needs}
 use Rattle.tile.proofs.cells.is_marked.Statement.{statement}
 use Rattle.tile.proofs.cells.is_marked.Tie as tie
@@ -11,14 +11,14 @@ not-finite-requires : tie.Need-not-finite-requires
 not-finite-requires c κs = search needs
 
 returns-2 : tie.Need-returns-2
-unfolding someNotFinite
+unfolding partNotFinite
 returns-2 c = rw (c .before .before .before .before .if1 .left, sym (c .before .not-finite .ensures) ∙ c .if2 .taken)
 
 not-finite-requires-2 : tie.Need-not-finite-requires-2
 not-finite-requires-2 c κs = search needs
 
 returns-3 : tie.Need-returns-3
-unfolding someNotFinite
+unfolding partNotFinite
 returns-3 c = let u = c .before in
     rw (u .before .before .before .before .if1 .left, sym (u .before .not-finite .ensures) ∙ u .if2 .left) (c .not-finite2 .ensures)
 

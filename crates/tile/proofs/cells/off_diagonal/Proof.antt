@@ -17,7 +17,9 @@ turn-columns-requires c κs = search needs
 
 returns : tie.Need-returns
 unfolding offDiagonalOf
-returns c = rw (← (c .before .before .before .of-angle .ensures), ← (c .before .before .of-angle2 .ensures), ← (c .before .turn-both .ensures), ← (c .turn-columns .ensures))
+returns c =
+    let b = c .before .before in
+    rw (← (b .before .of-angle .ensures), ← (b .of-angle2 .ensures), ← (c .before .turn-both .ensures), ← (c .turn-columns .ensures))
 
 pub off-diagonal-spec : {M : Type 1} → statement M
 off-diagonal-spec =

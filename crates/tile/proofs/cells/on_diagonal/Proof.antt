@@ -1,3 +1,4 @@
+use Rattle.runs.specs.Blocks.{matrixBlock}
 use Rattle.tile.specs.Turned.{onDiagonalOf}
 use borrow.Author.Needs.{needs}
 use Rattle.tile.proofs.cells.on_diagonal.Statement.{statement}
@@ -12,14 +13,17 @@ diagonal-requires c κs = search needs
 turn-columns-requires : tie.Need-turn-columns-requires
 turn-columns-requires c κs = search needs
 
-passed-on-requires : tie.Need-passed-on-requires
-passed-on-requires c κs = search needs
+sent-requires : tie.Need-sent-requires
+sent-requires c κs = search needs
 
 returns : tie.Need-returns
-unfolding onDiagonalOf
-returns c = rw (← (c .before .before .before .of-pair .ensures), ← (c .before .before .diagonal .ensures), ← (c .before .turn-columns .ensures), ← (c .passed-on .ensures))
+unfolding onDiagonalOf matrixBlock
+returns c =
+    let turned = c .before in
+    let sides = turned .before in
+    rw (← (sides .before .of-pair .ensures), ← (sides .diagonal .ensures), ← (turned .turn-columns .ensures), ← (c .sent .ensures))
 
 pub on-diagonal-spec : {M : Type 1} → statement M
 on-diagonal-spec =
     tie.close
-    (tie.spec of-pair-requires diagonal-requires turn-columns-requires passed-on-requires returns)
+    (tie.spec of-pair-requires diagonal-requires turn-columns-requires sent-requires returns)

@@ -1,3 +1,4 @@
+use Rattle.runs.specs.Blocks.{columnsBlock}
 use Rattle.tile.specs.Turned.{columnsTurned}
 use borrow.Author.Needs.{needs}
 use Rattle.tile.proofs.cells.turn_columns.Statement.{statement}
@@ -10,11 +11,11 @@ enum-known-parameters : tie.Need-enum-known-parameters
 enum-known-parameters c = search needs
 
 returns : tie.Need-returns
-unfolding columnsTurned
+unfolding columnsTurned columnsBlock
 returns c = rw (c .enum-told .given .1)
 
 returns-2 : tie.Need-returns-2
-unfolding columnsTurned
+unfolding columnsTurned columnsBlock
 returns-2 c = rw (c .before .before .before .before .before .before .before .before .before .parameters .given .1)
 
 pub turn-columns-spec : {M : Type 1} → statement M

@@ -1,0 +1,95 @@
+-- What a C function answers and leaves, from what a call answers and leaves. Assumes nothing.
+use Prim.Native.Nat.{ℕ}
+use mathlib.Core.Path.{_≡_, ap}
+use mathlib.Core.List.{List, [], _∷_}
+use lib.Ieee.{Float}
+use Rattle.refusal.specs.Answers.{Answered, valueOr}
+use Rattle.refusal.specs.Refusal.{numberOf, valuesOf}
+use Rattle.refusal.specs.declared.Refusal.{Refusal}
+use Rattle.runs.specs.Outcome.{Outcome, outcome}
+use Rattle.root.specs.declared.Root.{Root}
+use Rattle.root.specs.declared.Root.the-variants as root
+use Rattle.root.specs.Sqrt.{rootAnswered}
+use Rattle.rotation.specs.declared.Parameters.{Parameters}
+use Rattle.step_records.specs.declared.Record.{Record}
+use Rattle.step_records.specs.Records.{recordOf}
+use Rattle.sheet_reader.specs.declared.Reading.{Reading}
+use Rattle.sheet_reader.specs.declared.Reading.the-variants as reading
+use Rattle.sheet_reader.specs.Reader.{ReadOutcome, readOutcome, readingAnswered}
+use Rattle.sheet_writer.specs.Writer.{WriteOutcome, writeOutcome}
+use Rattle.listing_text.specs.Printed.{printing}
+use Rattle.listing.specs.Listing.{ListingOutcome, listed}
+use Rattle.array_run.specs.declared.Completion.{Completion}
+use Rattle.array_run.specs.declared.Completion.the-variants.{Completed, Refused}
+use Rattle.array_run.specs.Whole.{completionAnswered}
+use Rattle.capi.specs.CAnswers.{placeOr, CAnswer, cAnswer, placeOr, refusedAs, cAnswerOf, numberAnswered}
+use Rattle.capi.specs.Calls.{ofRoot, turns, ofParameters, ofRun, ofWhole, ofReading, ofWriting, ofListing}
+
+-- ---- the lent row and column
+module _ (i j : ℕ) where
+  pub place-set : {r c : ℕ} {values : List ℕ} → r ∷ c ∷ [] ≡ values → (r, c) ≡ placeOr values i j
+  unfolding placeOr
+  place-set e = rw (← e)
+
+  pub place-kept : {values : List ℕ} → [] ≡ values → (i, j) ≡ placeOr values i j
+  unfolding placeOr
+  place-kept e = rw (← e)
+
+module _ (i j : ℕ) where
+  pub placed : (r : Refusal) {k row column : ℕ} → k ≡ numberOf r → (row, column) ≡ placeOr (valuesOf r) i j
+      → cAnswer k row column ≡ refusedAs (numberOf r) (valuesOf r) i j
+  unfolding refusedAs
+  placed r e f = rw e (ap (λ (x : ℕ × ℕ). cAnswer (numberOf r) (x .0) (x .1)) f)
+
+  -- ---- a run
+  module _ {l e : List Float} where
+    pub run-said : {s : CAnswer} {a : Answered Unit} (o : Outcome Unit) → outcome a l e ≡ o → s ≡ cAnswerOf a i j → (s, l, e) ≡ ofRun o i j
+    unfolding ofRun
+    run-said o h k = rw k (ap (λ (x : Outcome Unit). ofRun x i j) h)
+
+    module _ (t : ℕ) (x : Completion) where
+      pub whole-made : (made : ℕ) (o : Outcome ℕ) → x ≡ Completed made → outcome (completionAnswered x) l e ≡ o → (cAnswer 0 i j, made, l, e) ≡ ofWhole o t i j
+      unfolding ofWhole cAnswerOf
+      whole-made made o z h = ap (λ (y : Outcome ℕ). ofWhole y t i j) (rw z at h)
+
+      pub whole-refused : {s : CAnswer} (r : Refusal) (o : Outcome ℕ) → x ≡ Refused r → outcome (completionAnswered x) l e ≡ o
+          → s ≡ refusedAs (numberOf r) (valuesOf r) i j → (s, t, l, e) ≡ ofWhole o t i j
+      unfolding ofWhole cAnswerOf
+      whole-refused r o z h k = rw k (ap (λ (y : Outcome ℕ). ofWhole y t i j) (rw z at h))
+
+  -- ---- a sheet
+  module _ {codes : List ℕ} {l : List Float} (n sweeps : ℕ) (x : Reading) where
+    pub read-given : (order count : ℕ) (o : ReadOutcome) → x ≡ reading.Read order count → readOutcome (readingAnswered x) codes l ≡ o
+        → (cAnswer 0 i j, (order, count), codes, l) ≡ ofReading o n sweeps i j
+    unfolding ofReading cAnswerOf
+    read-given order count o z h = ap (λ (y : ReadOutcome). ofReading y n sweeps i j) (rw z at h)
+
+    pub read-refused : {s : CAnswer} (r : Refusal) (o : ReadOutcome) → x ≡ reading.Refused r → readOutcome (readingAnswered x) codes l ≡ o
+        → s ≡ refusedAs (numberOf r) (valuesOf r) i j → (s, (n, sweeps), codes, l) ≡ ofReading o n sweeps i j
+    unfolding ofReading cAnswerOf
+    read-refused r o z h k = rw k (ap (λ (y : ReadOutcome). ofReading y n sweeps i j) (rw z at h))
+
+  pub write-said : {b : List ℕ} {s : CAnswer} {a : Answered Unit} (o : WriteOutcome) → writeOutcome a b ≡ o → s ≡ cAnswerOf a i j → (s, b) ≡ ofWriting o i j
+  unfolding ofWriting
+  write-said o h k = rw k (ap (λ (x : WriteOutcome). ofWriting x i j) h)
+
+  pub list-said : {count : ℕ} {b : List ℕ} {s : CAnswer} {a : Answered Unit} (o : ListingOutcome) → listed a (printing count b) ≡ o → s ≡ cAnswerOf a i j
+      → (s, count, b) ≡ ofListing o i j
+  unfolding ofListing
+  list-said o h k = rw k (ap (λ (x : ListingOutcome). ofListing x i j) h)
+
+-- ---- a root
+module _ (old : Float) (x : Root) where
+  pub root-given : {a : Answered Float} (y : Float) → x ≡ root.Of y → rootAnswered x ≡ a → (0, y) ≡ ofRoot a old
+  unfolding ofRoot numberAnswered
+  root-given y z h = ap (λ (a : Answered Float). ofRoot a old) (rw z at h)
+
+  pub root-refused : {a : Answered Float} {k : ℕ} (r : Refusal) → x ≡ root.Refused r → rootAnswered x ≡ a → k ≡ numberOf r → (k, old) ≡ ofRoot a old
+  unfolding ofRoot numberAnswered
+  root-refused r z h e = rw e (ap (λ (a : Answered Float). ofRoot a old) (rw z at h))
+
+-- ---- the parameters of a pair
+pub parameters-said : {P Q : Parameters} {x : Record} {k : ℕ} {t c s : Float} → P ≡ Q → x ≡ recordOf P → k ≡ turns P → t ≡ x .t → c ≡ x .c → s ≡ x .s
+    → (k, t, c, s) ≡ ofParameters Q
+unfolding ofParameters
+parameters-said p x k t c s = rw (t, c, s, k, x, p)

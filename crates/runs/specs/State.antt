@@ -1,0 +1,26 @@
+-- Document 01, "Plain run", "The array": what a run begins with. Definitions only.
+use Prim.Native.Nat.{ℕ}
+use mathlib.Core.Bool.{cond}
+use mathlib.Core.List.{List}
+use lib.Dec.{eqb}
+use lib.Ieee.{Float}
+use Rattle.float64.specs.Values.{plusZero, one}
+use Rattle.matrix.specs.Matrix.{at, flat}
+
+-- The two matrices of a run, by row and column from 1.
+pub record State : Type 0 where
+  pub matrix : ℕ → ℕ → Float
+  pub vectors : ℕ → ℕ → Float
+
+abbrev pub state : (ℕ → ℕ → Float) → (ℕ → ℕ → Float) → State
+state A E = record { matrix = A; vectors = E }
+
+unfoldable pub identity : ℕ → ℕ → Float
+identity r c = cond (eqb r c) one plusZero
+
+-- The matrix as lent, and the identity.
+unfoldable pub startOf : ℕ → List Float → State
+startOf n l = state (at n l) identity
+
+unfoldable pub zeros : ℕ → List Float
+zeros n = flat n (λ r c. plusZero)

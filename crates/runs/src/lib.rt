@@ -1,0 +1,40 @@
+// What the plain run and the array's run share: the refusals before a run, and the identity.
+ghost use mathlib.Core.Path.{_≡_};
+ghost use Rattle.refusal.specs.Answers.{answered};
+ghost use Rattle.runs.specs.State.{identity};
+ghost use Rattle.runs.specs.Outcome.{beforeRun, slicesAnswer};
+use refusal::Answer;
+use refusal::Refusal;
+
+// Refusals 1, 2, 3, 5 and 6 of a run whose two results have the lengths first and second.
+pub fn verdict(n: usize, sweeps: usize, matrix: &[f64], first: usize, second: usize) -> Answer
+    ensures { λ r. ⌜ answered r ≡ beforeRun n sweeps (now (matrix .entry)) first second ⌝ }
+{
+    match sizes::tested(n, sweeps) {
+        Answer::Accepted => slices_tested(n, matrix, first, second),
+        Answer::Refused(refused) => Answer::Refused(refused),
+    }
+}
+
+// Refusals 3, 5 and 6.
+fn slices_tested(n: usize, matrix: &[f64], first: usize, second: usize) -> Answer
+    ensures { λ r. ⌜ answered r ≡ slicesAnswer n (now (matrix .entry)) first second ⌝ }
+{
+    if !matrix::is_square(n, first) {
+        return Answer::Refused(Refusal::Length);
+    }
+    if !matrix::is_square(n, second) {
+        return Answer::Refused(Refusal::Length);
+    }
+    matrix::tested(n, matrix)
+}
+
+// The entry of the identity in row r and column c.
+pub fn identity(r: usize, c: usize) -> f64
+    ensures { λ x. ⌜ x ≡ identity r c ⌝ }
+{
+    if r == c {
+        return 1.0;
+    }
+    0.0
+}
