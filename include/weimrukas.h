@@ -6,11 +6,15 @@
  *
  * Answers. Where nothing else is said a function answers 0, or the number of a refusal in document 01's table:
  *
- *      1  order: not even, or outside 2 to 32              6  entry a_ij and its mirror a_ji differ in bits
- *      2  sweeps: above 16                                 7  lent bytes, text, registers or records: too short
- *      3  a slice or a sheet has another length            8  end of a run: an entry is no longer finite
- *      4  line code: zero, or used before                  9  square root: not a number, or below zero
+ *      1  order: not even, or outside 2 to WEIMRUKAS_MOST_LINES
+ *      2  sweeps: above WEIMRUKAS_MOST_SWEEPS
+ *      3  a slice or a sheet has another length
+ *      4  line code: zero, or used before
  *      5  entry: not finite
+ *      6  entry a_ij and its mirror a_ji differ in bits
+ *      7  lent bytes, text, registers or records: too short
+ *      8  end of a run: an entry is no longer finite
+ *      9  square root: not a number, or below zero
  *
  * Where several apply, the first is answered that stands in the function's own list below. 5 and 6 set *row and *column, from 1, to
  * the first such entry in row order. No other answer sets them.
@@ -36,10 +40,11 @@ extern "C" {
 
 #define WEIMRUKAS_MOST_LINES 32 /* the largest order */
 #define WEIMRUKAS_MOST_SWEEPS 16
+#define WEIMRUKAS_MOST_PROCESSORS (WEIMRUKAS_MOST_LINES / 2)
 
 /* The length of a sheet of order n with codes of one byte, and bytes that are enough for its listing. */
 #define WEIMRUKAS_SHEET_LENGTH(n) (2 + (n) + 4 * (n) * ((n) + 1))
-#define WEIMRUKAS_TEXT_LENGTH(n) (15 + 566 * (n))
+#define WEIMRUKAS_TEXT_LENGTH(n) (15 + (n) * (22 + 17 * (n)))
 
 /* Sets *root to the f64 nearest to the exact square root of x. 9. */
 uint8_t weimrukas_root(double x, double *root);
@@ -93,17 +98,17 @@ uint8_t weimrukas_write_sheet(size_t n, size_t sweeps, const uint8_t *codes, siz
 uint8_t weimrukas_list(const uint8_t *sheet, size_t sheet_length, uint8_t *text, size_t text_length, size_t *length, size_t *row, size_t *column);
 
 /*
- * The array by hand. Its record is WEIMRUKAS_ARRAY_WORDS words: n, sweeps and the number of the next tick, and then 16 rows of 16 tiles, each
- * of WEIMRUKAS_TILE_WORDS: the cells of the matrix (alpha, beta, gamma, delta: row by row) and of the eigenvectors, the matrix lines and the
- * vector lines by the same corners, the tangents that it sends along its row and its column, all as bits of doubles, and 1 where it is marked,
- * otherwise 0. A record that a caller wrote may hold any words: each pattern of no number counts as 7FF8000000000000, each mark but 0 as 1, and
- * a tick that is made writes all words anew in that form.
+ * The array by hand. Its record is WEIMRUKAS_ARRAY_WORDS words: n, sweeps and the number of the next tick, and then
+ * WEIMRUKAS_MOST_PROCESSORS rows of as many tiles, each of WEIMRUKAS_TILE_WORDS: the cells of the matrix (alpha, beta, gamma, delta: row
+ * by row) and of the eigenvectors, the matrix lines and the vector lines by the same corners, the tangents that it sends along its row and
+ * its column, all as bits of doubles, and 1 where it is marked, otherwise 0. A record that a caller wrote may hold any words: each pattern of
+ * no number counts as 7FF8000000000000, each mark but 0 as 1, and a tick that is made writes all words anew in that form.
  */
 #define WEIMRUKAS_TILE_WORDS 19
-#define WEIMRUKAS_ARRAY_WORDS (3 + 256 * WEIMRUKAS_TILE_WORDS)
+#define WEIMRUKAS_ARRAY_WORDS (3 + WEIMRUKAS_MOST_PROCESSORS * WEIMRUKAS_MOST_PROCESSORS * WEIMRUKAS_TILE_WORDS)
 
 /* Where the tile in row i and column j, both from 0, begins. */
-#define WEIMRUKAS_TILE(i, j) (3 + (16 * (i) + (j)) * WEIMRUKAS_TILE_WORDS)
+#define WEIMRUKAS_TILE(i, j) (3 + (WEIMRUKAS_MOST_PROCESSORS * (i) + (j)) * WEIMRUKAS_TILE_WORDS)
 
 /* The array before its first tick. 1, 2, 3, 5, 6, each of which sets all words to 0 where there are WEIMRUKAS_ARRAY_WORDS of them. */
 uint8_t weimrukas_array_start(size_t n, size_t sweeps, const double *matrix, size_t matrix_length, uint64_t *words, size_t words_length,

@@ -18,7 +18,7 @@ pub const fn sheet_length(n: usize) -> usize {
 
 /// Bytes that are enough for the listing of a sheet of order n.
 pub const fn text_length(n: usize) -> usize {
-    15 + 566 * n
+    15 + n * (22 + 17 * n)
 }
 
 /// Bytes that are enough for the line of a refusal.
