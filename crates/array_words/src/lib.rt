@@ -18,10 +18,10 @@ pub const TILE: usize = 19;
 pub const ARRAY: usize = 3 + MOST_TILES * TILE;
 
 // Whether so many words are those of an array.
-pub fn is_array(length: usize) -> bool
-    ensures { λ r. ⌜ r ≡ eqb length arrayWords ⌝ }
+pub fn is_array(count: usize) -> bool
+    ensures { λ r. ⌜ r ≡ eqb count arrayWords ⌝ }
 {
-    length == ARRAY
+    count == ARRAY
 }
 
 // The array in the words. A word beyond their end counts as 0.

@@ -11,7 +11,7 @@ use Rattle.plain_pair.specs.Pair.{pairTurned, pairRotated}
 use Rattle.plain_pair.proofs.TurnedEntries.{Spot, first, second, neither, spot, all-first, all-second, all-other}
 use Rattle.plain_pair.proofs.TurnedEntries.{at-first-first, at-second-second, at-first-second, at-second-first}
 use Rattle.plain_pair.proofs.TurnedEntries.{at-first-other, at-second-other, at-other-first, at-other-second, at-others}
-use Rattle.claims.specs.Report.{Other, ColumnsTurned, MatrixTurned, Cleared, PairByTheReport}
+use Rattle.claims.specs.Report.{ColumnsTurned, MatrixTurned, Cleared, PairByTheReport}
 
 module _ (p q : ℕ) (apart : ¬ (p ≡ q)) where
   cleared : (P : Parameters) (A : ℕ → ℕ → Float) → Cleared p q (pairTurned P p q A)

@@ -9,6 +9,7 @@ use lib.ListN.{length, drop}
 use lib.Seq.{drop-at}
 use lib.Ieee.{Float}
 use Rattle.refusal.specs.declared.Refusal.the-variants.{Spoiled}
+use Rattle.refusal.proofs.FirstRefusal.{refused-given}
 use Rattle.refusal.specs.Answers.{Answered, given, refused, refusedBy, answered, orElse, first, unlessRefused, giving}
 use Rattle.float64.specs.Values.{finite, sameBits}
 use Rattle.lists.specs.Over.{over}
@@ -72,7 +73,7 @@ module _ (n : ℕ) (l : List Float) where
 
 -- ---- a refusal, seen through what a call answers
 given-refused : {A B : Type 0} {x : A} {k : ℕ} {values : List ℕ} → _≡_ {A = Answered A} (given x) (refused k values) → B
-given-refused e = let z : _≡_ {A = ℕ} 0 1 = cc in absurd (omega arith)
+given-refused e = refused-given (sym e)
 
 same-number : {A : Type 0} {i k : ℕ} {ys zs : List ℕ} → _≡_ {A = Answered A} (refused i ys) (refused k zs) → i ≡ k
 same-number e = cc

@@ -1,7 +1,7 @@
 -- What the reader, the run and the printer give together. Assumes nothing.
 use Prim.Native.Nat.{ℕ, _*_, _<_, _≤_}
 use mathlib.Core.Path.{_≡_, refl, sym, ap, _∙_}
-use mathlib.Core.Bool.{Bool, true, false, cond, true≢false}
+use mathlib.Core.Bool.{Bool, true, false, cond}
 use mathlib.Core.List.{List, []}
 use native.Mathlib.Omega.{arith}
 use borrow.Author.Tests.{lt-ltb, le-ltb, ltb-false}
@@ -11,6 +11,7 @@ use lib.Ieee.{Float}
 use Rattle.refusal.specs.Answers.{Answered, given, refused, refusedBy, giving, valueOr, unlessRefused}
 use Rattle.refusal.specs.Refusal.{numberOf}
 use Rattle.refusal.specs.declared.Refusal.{Refusal}
+use Rattle.refusal.proofs.FirstRefusal.{refused-given}
 use Rattle.sizes.specs.Sizes.{isOrder, largestOrder}
 use Rattle.sizes.proofs.Orders.{order-is}
 use Rattle.matrix.specs.Matrix.{flat}
@@ -85,10 +86,6 @@ module _ (n sweeps : ℕ) (codes t : List ℕ) (l : List Float) where
   by-zeros r v e f = rw (flat-length n _, e, f) (unseen r v (zeros n) (zeros n) (beforeRun n sweeps l (n * n) (n * n)) _)
 
 -- ---- the reading
-abbrev isGiven : {A : Type 0} → Answered A → Bool
-isGiven (given x) = true
-isGiven (refused k values) = false
-
 module _ (b : List ℕ) where
   -- the buffers of a reader have the lengths that the order asks for, where there is one
   abbrev pub Fitting : ℕ → ℕ → Type 0
@@ -125,7 +122,7 @@ module _ (b : List ℕ) where
             as-matrix = ap (λ (o : ReadOutcome). o .matrix) k;
           },
         )
-        go (refused j values) e k = absurd (true≢false (ap (λ (o : ReadOutcome). isGiven (o .answer)) k))
+        go (refused j values) e k = refused-given (sym (ap (λ (o : ReadOutcome). o .answer) k))
 
     was-refused : (r : Refusal) → x ≡ reading.Refused r → readAnswer b (length c) (length m) ≡ refusedBy r
     unfolding readOf contentOf
@@ -134,7 +131,7 @@ module _ (b : List ℕ) where
         go : (a : Answered Unit) → readAnswer b (length c) (length m) ≡ a
             → readOutcome (refusedBy r) codes l ≡ unlessRefused a (contentOf b) (λ (x : Answered (ℕ × ℕ)). readOutcome x c m)
             → readAnswer b (length c) (length m) ≡ refusedBy r
-        go (given tt) e k = absurd (true≢false (sym (ap (λ (o : ReadOutcome). isGiven (o .answer)) k)))
+        go (given tt) e k = refused-given (ap (λ (o : ReadOutcome). o .answer) k)
         go (refused j values) e k = e ∙ sym (ap (λ (o : ReadOutcome). giving tt (o .answer)) k)
 
   pub within-limit : (lc lm n : ℕ) → readAnswer b lc lm ≡ given tt → n ≡ orderIn b → n ≤ largestOrder

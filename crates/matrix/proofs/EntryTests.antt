@@ -1,14 +1,12 @@
 -- The tests of one entry. Assumes nothing.
-use Prim.Native.Nat.{ℕ, zero, suc, _+_, _<_}
-use mathlib.Core.Path.{_≡_, refl, sym, ap, _∙_}
+use Prim.Native.Nat.{ℕ, _+_, _<_}
+use mathlib.Core.Path.{_≡_, _∙_}
 use mathlib.Core.Bool.{true, false}
 use mathlib.Core.List.{List}
-use mathlib.Core.Logic.{⊎-elim}
 use native.Mathlib.Omega.{arith}
-use native.Mathlib.Nat.{le-of-suc-le-suc, eq-or-lt-of-le}
 use borrow.Author.Tests.{lt-ltb, le-ltb}
 use lib.Ieee.{Float}
-use Rattle.refusal.specs.Answers.{Answered, given, refused, refusedBy, first}
+use Rattle.refusal.specs.Answers.{given, refusedBy, first}
 use Rattle.refusal.specs.declared.Refusal.the-variants.{NotFinite, NotMirrored}
 use Rattle.float64.specs.Values.{finite, sameBits}
 use Rattle.refusal.proofs.FirstRefusal.{first-fine}

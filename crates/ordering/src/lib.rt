@@ -2,7 +2,7 @@
 ghost use mathlib.Core.Path.{_≡_};
 ghost use Prim.Native.Nat.{ℕ, _-_, _≤_, _<_};
 ghost use Rattle.systolic.specs.Slots.{left, right, inOrder, prior, lineAt};
-ghost use Rattle.sizes.specs.Sizes.{mostProcessors, isOrder};
+ghost use Rattle.sizes.specs.Sizes.{mostProcessors};
 ghost use Rattle.ordering.specs.Registers.{registersOf, comingInto, inSlot};
 ghost use Rattle.ordering.specs.Pairs.{noRegisters, orNone, registersAt, afterStep, Lists};
 use refusal::Answer;

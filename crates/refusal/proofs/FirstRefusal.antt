@@ -1,7 +1,7 @@
 -- Tables: which answer is the first refusal, and what is known where there is none. Assumes nothing.
 use Prim.Native.Nat.{ℕ, zero, suc, _+_, _≤_, _<_}
 use mathlib.Core.Path.{_≡_, refl, sym, ap, _∙_}
-use mathlib.Core.Bool.{Bool, true, false, cond, _||_, true≢false}
+use mathlib.Core.Bool.{Bool, true, false, cond, true≢false}
 use mathlib.Core.List.{List, [], _∷_, _++_}
 use mathlib.Core.Logic.{⊎-elim}
 use native.Mathlib.Omega.{arith}
@@ -9,7 +9,7 @@ use native.Mathlib.Nat.{le-of-suc-le-suc, eq-or-lt-of-le}
 use borrow.Author.Tests.{ltb-true, ltb-false}
 use lib.Dec.{ltb}
 use Rattle.refusal.specs.declared.Refusal.{Refusal}
-use Rattle.refusal.specs.Answers.{Answered, given, refused, refusedBy, orElse, row, table, first}
+use Rattle.refusal.specs.Answers.{Answered, given, refused, orElse, row, table, first}
 
 abbrev isGiven : {A : Type 0} → Answered A → Bool
 isGiven (given x) = true
@@ -31,11 +31,6 @@ row-given false r e = refl
 pub of-test : (b : Bool) (a : Answered Unit) → (a ≡ given tt → b ≡ true) → cond b (given tt) a ≡ given tt → b ≡ true
 of-test true a f e = refl
 of-test false a f e = f e
-
--- two rows with one refusal are one row
-pub rows-joined : (a b : Bool) (r : Refusal) (rest : Answered Unit) → orElse (row (a || b) r) rest ≡ orElse (row a r) (orElse (row b r) rest)
-rows-joined true b r rest = refl
-rows-joined false b r rest = refl
 
 pub else-else : (a b c : Answered Unit) → orElse (orElse a b) c ≡ orElse a (orElse b c)
 else-else (given x) b c = refl

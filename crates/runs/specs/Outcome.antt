@@ -9,13 +9,14 @@ use Rattle.refusal.specs.declared.Refusal.the-variants.{Length}
 use Rattle.sizes.specs.Sizes.{orderRow, sweepsRow}
 use Rattle.matrix.specs.Entries.{isSquare, finiteRow, mirrorRow}
 
--- The rows of the table before a run. lr and lv are the lengths of the two results.
+-- The rows for the slices: lr and lv are the lengths of the two results, l is the matrix.
 abbrev pub sliceRows : ℕ → List Float → ℕ → ℕ → List (Answered Unit)
 sliceRows n l lr lv = row (not (isSquare n lr && (isSquare n lv && isSquare n (length l)))) Length ∷ finiteRow n l ∷ mirrorRow n l ∷ []
 
 unfoldable pub slicesAnswer : ℕ → List Float → ℕ → ℕ → Answered Unit
 slicesAnswer n l lr lv = table (sliceRows n l lr lv)
 
+-- The rows of the table before a run.
 abbrev pub runRows : ℕ → ℕ → List Float → ℕ → ℕ → List (Answered Unit)
 runRows n sweeps l lr lv = orderRow n ∷ sweepsRow sweeps ∷ sliceRows n l lr lv
 

@@ -22,5 +22,6 @@ identity r c = cond (eqb r c) one plusZero
 unfoldable pub startOf : ℕ → List Float → State
 startOf n l = state (at n l) identity
 
+-- What refusal 8 leaves in a result.
 unfoldable pub zeros : ℕ → List Float
 zeros n = flat n (λ r c. plusZero)

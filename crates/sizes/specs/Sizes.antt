@@ -1,7 +1,8 @@
--- Document 01, "Sizes": the limits, and what follows from the order n and the sweeps. No other crate names a limit. Definitions only.
+-- Document 01, "Sizes": the limits, and what follows from the order n and the sweeps. No other definition names a limit; the page of
+-- claims states document 01's figures. Definitions only.
 use Prim.Native.Nat.{ℕ, _+_, _-_, _*_, _/_, _%_}
 use mathlib.Core.Bool.{Bool, not, _&&_}
-use mathlib.Core.List.{List, [], _∷_}
+use mathlib.Core.List.{[], _∷_}
 use lib.Dec.{eqb, leb, ltb}
 use Rattle.refusal.specs.Answers.{Answered, row, table}
 use Rattle.refusal.specs.declared.Refusal.the-variants.{Order, Sweeps}

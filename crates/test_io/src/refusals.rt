@@ -1,5 +1,6 @@
 // Refusals: the word refused and the number, then the row and the column where the refusal has them, each in a line of its own.
 use refusal::Answer;
+use refusal::Place;
 use refusal::Refusal;
 
 // Writes a refusal, and nothing for a call that is accepted.
@@ -16,10 +17,9 @@ pub fn print_refusal(refused: Refusal) -> bool {
 
 // Writes the row and the column of a refusal that has them.
 fn print_place(refused: Refusal) -> bool {
-    match refused {
-        Refusal::NotFinite(row, column) => print_row_and_column(row, column),
-        Refusal::NotMirrored(row, column) => print_row_and_column(row, column),
-        _ => true,
+    match refusal::place_of(refused) {
+        Place::At(row, column) => print_row_and_column(row, column),
+        Place::Nowhere => true,
     }
 }
 

@@ -1,5 +1,5 @@
-// Writes the sizes that include/weimrukas.h has too: the limits, the words of an array, and for each number up to the largest order the length
-// of its sheet and the room for its listing. tools/compare_header writes the expected output, from the header.
+// Writes the sizes that include/weimrukas.h has too: the limits, the words of an array, the longest sheet and listing, and for each number up
+// to the largest order the length of its sheet and the room for its listing. tools/compare_header writes the expected output, from the header.
 use sizes::LARGEST_ORDER;
 use sizes::MOST_PROCESSORS;
 use sizes::MOST_SWEEPS;
@@ -15,6 +15,8 @@ fn print_limits() -> bool {
         && test_io::print_number(b"processors", MOST_PROCESSORS as u64)
         && test_io::print_number(b"words", array_words::ARRAY as u64)
         && test_io::print_number(b"tile", array_words::TILE as u64)
+        && test_io::print_number(b"longest sheet", sheet::LONGEST as u64)
+        && test_io::print_number(b"longest text", listing_text::LONGEST as u64)
 }
 
 fn print_lengths() {

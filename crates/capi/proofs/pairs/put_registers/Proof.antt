@@ -8,6 +8,7 @@ use Rattle.capi.proofs.Listing.{registers-listed}
 use Rattle.capi.proofs.pairs.put_registers.Statement.{statement}
 use Rattle.capi.proofs.pairs.put_registers.Tie as tie
 
+-- The first k places hold the registers, and 0 where there are none. What falls is the number of places left.
 abbrev Inv-loop : tie.InvT-loop
 Inv-loop registers to₀ k₀ k-end to k = (k ≤ length to₀) × Filled 0 (λ i. getD registers i 0) (length to₀) k to
 
