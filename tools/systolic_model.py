@@ -8,17 +8,17 @@ The model follows the documents and not those definitions: document 01, "Pairs a
 import pathlib
 
 ALPHA, BETA, GAMMA, DELTA = "αβγδ"
-LINES = (ALPHA, BETA, GAMMA, DELTA)
+CORNERS = (ALPHA, BETA, GAMMA, DELTA)
 
 
 # The rules of Toy.antt. A step is counted from 0 and a processor from 1; Toy.antt counts it from 0.
 
 PRIME = 997
-LINE_START, ROW_START, COLUMN_START = 901, 902, 903
+WIRE_START, ROW_START, COLUMN_START = 901, 902, 903
 
 
 def mixed(step, processor, b):
-    k, i, (x, y, z, w) = step, processor - 1, [b[line] for line in LINES]
+    k, i, (x, y, z, w) = step, processor - 1, [b[corner] for corner in CORNERS]
     return {
         ALPHA: (2 * x + 3 * y + 5 * z + 7 * w + 11 * k + 13 * i + 1) % PRIME,
         BETA: (7 * x + 2 * y + 3 * z + 4 * w + 17 * k + 19 * i + 2) % PRIME,
@@ -124,7 +124,7 @@ def plain_run(N, first, steps):
             for r in others:
                 a[r, p], a[r, q] = column_turned(v, a[r, p], a[r, q])
             b = mixed(step, k, b)
-            a[p, p], a[p, q], a[q, p], a[q, q] = (b[line] for line in LINES)
+            a[p, p], a[p, q], a[q, p], a[q, q] = (b[corner] for corner in CORNERS)
         registers.move()
     return a
 
@@ -135,7 +135,7 @@ def part(a, registers, i, j):
     return {ALPHA: a[p, r], BETA: a[p, s], GAMMA: a[q, r], DELTA: a[q, s]}
 
 
-# Document 000: which input an output is connected to, given as the input's line, row and column.
+# Document 000: which input an output is connected to, given as the input's corner, row and column.
 
 UPSIDE_DOWN = {ALPHA: GAMMA, BETA: DELTA, GAMMA: ALPHA, DELTA: BETA}
 SIDEWAYS = {ALPHA: BETA, BETA: ALPHA, GAMMA: DELTA, DELTA: GAMMA}
@@ -154,20 +154,20 @@ def out_beta(N, i, j):
 
 def out_delta(N, i, j):
     """The mirror of out β with the rows upside down."""
-    line, row, column = out_beta(N, N + 1 - i, j)
-    return UPSIDE_DOWN[line], N + 1 - row, column
+    wire, row, column = out_beta(N, N + 1 - i, j)
+    return UPSIDE_DOWN[wire], N + 1 - row, column
 
 
 def out_alpha(N, i, j):
     """The mirror of out β with the columns from right to left."""
-    line, row, column = out_beta(N, i, N + 1 - j)
-    return SIDEWAYS[line], row, N + 1 - column
+    wire, row, column = out_beta(N, i, N + 1 - j)
+    return SIDEWAYS[wire], row, N + 1 - column
 
 
 def out_gamma(N, i, j):
     """The mirror of out α with the rows upside down."""
-    line, row, column = out_alpha(N, N + 1 - i, j)
-    return UPSIDE_DOWN[line], N + 1 - row, column
+    wire, row, column = out_alpha(N, N + 1 - i, j)
+    return UPSIDE_DOWN[wire], N + 1 - row, column
 
 
 CONNECTED_TO = {ALPHA: out_alpha, BETA: out_beta, GAMMA: out_gamma, DELTA: out_delta}
@@ -184,29 +184,29 @@ def interchange(i, j, x):
     return {ALPHA: x[DELTA], BETA: x[GAMMA], GAMMA: x[BETA], DELTA: x[ALPHA]}
 
 
-def lines_of_phase(N, i, j, phase):
-    """Program 3: the lines that P_ij sets where T - Δ is the phase modulo 3."""
-    lines = set()
+def wires_of_phase(N, i, j, phase):
+    """Program 3: the wires that P_ij sets where T - Δ is the phase modulo 3."""
+    wires = set()
     if phase == 0:
         if i > j:
-            lines.add(BETA)
+            wires.add(BETA)
         if i < j:
-            lines.add(GAMMA)
+            wires.add(GAMMA)
     elif phase == 1:
         if i == 1 or j == 1:
-            lines.add(ALPHA)
+            wires.add(ALPHA)
         if i == N or j == N:
-            lines.add(DELTA)
+            wires.add(DELTA)
     else:
         if i > 1 and j > 1:
-            lines.add(ALPHA)
+            wires.add(ALPHA)
         if i <= j:
-            lines.add(BETA)
+            wires.add(BETA)
         if i >= j:
-            lines.add(GAMMA)
+            wires.add(GAMMA)
         if i < N and j < N:
-            lines.add(DELTA)
-    return lines
+            wires.add(DELTA)
+    return wires
 
 
 # Document 01, "The array".
@@ -230,9 +230,9 @@ def turned(_, i, j, h, v, x):
 class Tile:
     def __init__(self, cells):
         self.cells = cells
-        self.lines = {line: LINE_START for line in LINES}
-        self.row_line = ROW_START
-        self.column_line = COLUMN_START
+        self.wires = {wire: WIRE_START for wire in CORNERS}
+        self.row_wire = ROW_START
+        self.column_wire = COLUMN_START
         self.mark = False
 
 
@@ -243,26 +243,26 @@ class Array:
         self.places = [(i, j) for i in range(1, N + 1) for j in range(1, N + 1)]
         a = plain_run(N, 1, 0)
         self.tiles = {(i, j): Tile(part(a, Registers(N), i, j)) for i, j in self.places}
-        self.lines_set = {}  # in the last tick, by tile
+        self.wires_set = {}  # in the last tick, by tile
         self.received = {}
 
     def inputs(self):
-        """What the lines and the parameter lines bring to each tile."""
+        """What the wires and the parameter wires bring to each tile."""
         cells = {place: {} for place in self.places}
         for (i, j), tile in self.tiles.items():
-            for line in LINES:
-                end, row, column = CONNECTED_TO[line](self.N, i, j)
+            for wire in CORNERS:
+                end, row, column = CONNECTED_TO[wire](self.N, i, j)
                 assert end not in cells[row, column]
-                cells[row, column][end] = tile.lines[line]
+                cells[row, column][end] = tile.wires[wire]
         parameters = {}
         for i, j in self.places:
             if i != j:
                 inward = 1 if i > j else -1
-                parameters[i, j] = self.tiles[i, j + inward].row_line, self.tiles[i - inward, j].column_line
+                parameters[i, j] = self.tiles[i, j + inward].row_wire, self.tiles[i - inward, j].column_wire
         return cells, parameters
 
     def tick(self):
-        self.lines_set = {place: set() for place in self.places}
+        self.wires_set = {place: set() for place in self.places}
         self.received = {place: 0 for place in self.places}
         if self.T > 3 * self.K + self.N - 1:
             return
@@ -286,23 +286,23 @@ class Array:
                 tile.cells = cells
             self.rotate(i, j, since // 3, tile, parameters)
         out = interchange(i, j, tile.cells)
-        for line in lines_of_phase(self.N, i, j, since % 3):
-            tile.lines[line] = out[line]
-            self.lines_set[i, j].add(line)
+        for wire in wires_of_phase(self.N, i, j, since % 3):
+            tile.wires[wire] = out[wire]
+            self.wires_set[i, j].add(wire)
 
     def rotate(self, i, j, step, tile, parameters):
         if i == j:
-            tile.row_line = along_row(step, i, tile.cells)
-            tile.column_line = along_column(step, i, tile.cells)
+            tile.row_wire = along_row(step, i, tile.cells)
+            tile.column_wire = along_column(step, i, tile.cells)
             tile.cells = mixed(step, i, tile.cells)
             return
         h, v = parameters
         self.received[i, j] = 2
         tile.cells = self.turn(step, i, j, h, v, tile.cells)
-        tile.row_line, tile.column_line = h, v
+        tile.row_wire, tile.column_wire = h, v
 
 
-# Document 003, section 6 with Program 2: the idealized array, where all blocks rotate at once and then move along the lines.
+# Document 003, section 6 with Program 2: the idealized array, where all blocks rotate at once and then move along the wires.
 
 
 def rotated(step, blocks):
@@ -317,9 +317,9 @@ def interchanged(N, blocks):
     after = {place: {} for place in blocks}
     for i, j in blocks:
         out = interchange(i, j, blocks[i, j])
-        for line in LINES:
-            end, row, column = CONNECTED_TO[line](N, i, j)
-            after[row, column][end] = out[line]
+        for wire in CORNERS:
+            end, row, column = CONNECTED_TO[wire](N, i, j)
+            after[row, column][end] = out[wire]
     return after
 
 
@@ -335,13 +335,13 @@ def idealized(N, steps):
 
 
 def run_traffic(N, K):
-    """How many lines are set and how many parameters received in a run."""
-    array, lines_set, received = Array(N, K), 0, 0
+    """How many wires are set and how many parameters received in a run."""
+    array, wires_set, received = Array(N, K), 0, 0
     for _ in range(3 * K + N):
         array.tick()
-        lines_set += sum(len(lines) for lines in array.lines_set.values())
+        wires_set += sum(len(wires) for wires in array.wires_set.values())
         received += sum(array.received.values())
-    return lines_set, received
+    return wires_set, received
 
 
 # What holds of the model itself.
@@ -383,7 +383,7 @@ def digits(values, width=3):
 
 
 def block_digits(block):
-    return digits(block[line] for line in LINES)
+    return digits(block[corner] for corner in CORNERS)
 
 
 def flag(condition):
@@ -453,20 +453,20 @@ def wiring_theorems(theorems):
     for N in range(1, 5):
         table = []
         for i, j in Array(N, 0).places:
-            ends = [CONNECTED_TO[line](N, i, j) for line in LINES]
-            table.append([digits([row - 1, column - 1, LINES.index(end)], 1) for end, row, column in ends])
+            ends = [CONNECTED_TO[wire](N, i, j) for wire in CORNERS]
+            table.append([digits([row - 1, column - 1, CORNERS.index(end)], 1) for end, row, column in ends])
         theorems.add(f"connections-{N}", "connections", (N - 1,), table)
-    theorems.note("of each tile Algorithm Interchange on the cells 1 2 / 3 4, and its lines, at 5 6 / 7 8, after each of the three phases")
-    new, old = dict(zip(LINES, (1, 2, 3, 4))), dict(zip(LINES, (5, 6, 7, 8)))
+    theorems.note("of each tile Algorithm Interchange on the cells 1 2 / 3 4, and its wires, at 5 6 / 7 8, after each of the three phases")
+    new, old = dict(zip(CORNERS, (1, 2, 3, 4))), dict(zip(CORNERS, (5, 6, 7, 8)))
     for N in range(1, 5):
         table = []
         for i, j in Array(N, 0).places:
             out = interchange(i, j, new)
             blocks = [out]
             for phase in range(3):
-                chosen = lines_of_phase(N, i, j, phase)
-                blocks.append({line: out[line] if line in chosen else old[line] for line in LINES})
-            table.append([digits([block[line] for line in LINES], 1) for block in blocks])
+                chosen = wires_of_phase(N, i, j, phase)
+                blocks.append({wire: out[wire] if wire in chosen else old[wire] for wire in CORNERS})
+            table.append([digits([block[corner] for corner in CORNERS], 1) for block in blocks])
         theorems.add(f"outputs-{N}", "outputs", (N - 1,), table)
 
 
@@ -474,12 +474,12 @@ def cells(array):
     return [block_digits(array.tiles[place].cells) for place in array.places]
 
 
-def lines(array):
-    return [block_digits(array.tiles[place].lines) for place in array.places]
+def wires(array):
+    return [block_digits(array.tiles[place].wires) for place in array.places]
 
 
 def parameters(array):
-    return [digits([array.tiles[place].row_line, array.tiles[place].column_line]) for place in array.places]
+    return [digits([array.tiles[place].row_wire, array.tiles[place].column_wire]) for place in array.places]
 
 
 def marks(array):
@@ -488,7 +488,7 @@ def marks(array):
 
 def whole_tiles(array):
     tiles = [array.tiles[place] for place in array.places]
-    values = [[*tile.cells.values(), *tile.lines.values(), tile.row_line, tile.column_line] for tile in tiles]
+    values = [[*tile.cells.values(), *tile.wires.values(), tile.row_wire, tile.column_wire] for tile in tiles]
     return [digits(value) + flag(tile.mark) for value, tile in zip(values, tiles)]
 
 
@@ -505,8 +505,8 @@ def over_ticks(array, ticks, read):
 def array_theorems(theorems):
     subjects = [
         (cells, "the array of N by N tiles that runs K steps, named by N and K: the cells of every tile after some ticks"),
-        (lines, "its outgoing lines"),
-        (parameters, "its parameter lines, along the row and along the column"),
+        (wires, "its outgoing wires"),
+        (parameters, "its parameter wires, along the row and along the column"),
         (marks, "its marks, a digit for each tile"),
     ]
     for read, note in subjects:
@@ -517,7 +517,7 @@ def array_theorems(theorems):
             ticks = some or range(3 * K + N + 2)
             argument = "(" + " ∷ ".join([*map(str, some), "[]"]) + ")" if some else f"(upTo {ticks[-1]})"
             theorems.add(f"{name}-{N}-{K}", name + "After", (N - 1, K, argument), over_ticks(Array(N, K), ticks, read))
-    theorems.note("an array that runs no step: of every tile the cells, the lines, the parameter lines and the mark, beside each other")
+    theorems.note("an array that runs no step: of every tile the cells, the wires, the parameter wires and the mark, beside each other")
     for N in range(1, 5):
         states = over_ticks(Array(N, 0), range(N + 2), whole_tiles)
         theorems.add(f"tiles-{N}-0", "tilesAfter", (N - 1, 0, f"(upTo {N + 1})"), states)
@@ -535,13 +535,13 @@ def traffic_theorems(theorems):
             array.tick()
             state = []
             for place in array.places:
-                tests = [line in array.lines_set[place] for line in LINES] + [array.received[place]]
+                tests = [wire in array.wires_set[place] for wire in CORNERS] + [array.received[place]]
                 state.append(numeral("".join(map(flag, tests))))
             states.append(state)
         theorems.add(f"traffic-{N}", "trafficIn", (N - 1, 2, 3 * 2 + N + 1), states)
-    theorems.note("how many lines are set and how many parameters received in runs of 0 to 3 steps, for N = 1 to 4")
+    theorems.note("how many wires are set and how many parameters received in runs of 0 to 3 steps, for N = 1 to 4")
     totals = [[run_traffic(N, K) for K in range(4)] for N in range(1, 5)]
-    theorems.add("lines-set", "linesSetOver", (4,), [[str(lines_set) for lines_set, _ in row] for row in totals])
+    theorems.add("wires-set", "wiresSetOver", (4,), [[str(wires_set) for wires_set, _ in row] for row in totals])
     theorems.add("received", "receivedOver", (4,), [[str(received) for _, received in row] for row in totals])
 
 
@@ -572,21 +572,21 @@ def run_theorems(theorems):
         theorems.add(f"sent-{N}", "sentOver", (N - 1, 3), states)
 
 
-# What is computed: N and the first line; N and K; where not every tick of a run and one beyond are read, those that are; steps by N.
+# What is computed: N and the first wire; N and K; where not every tick of a run and one beyond are read, those that are; steps by N.
 # N = 5 is the least at which a tile that read its parameters straight from the diagonal would get a later step's.
 FROM = [(1, 1), (2, 0), (2, 1), (3, 1), (4, 0), (4, 1)]
 ARRAYS = [(1, 1), (1, 2), (2, 1), (2, 2), (2, 3), (3, 1), (3, 2), (4, 1), (4, 2), (5, 2)]
 SOME_TICKS = {
     ("cells", 2, 3): [11],
-    ("lines", 2, 3): [9],
+    ("wires", 2, 3): [9],
     ("parameters", 2, 3): [8],
     ("marks", 2, 3): [8],
     ("marks", 3, 2): [3, 5, 7, 10],
     ("cells", 4, 2): [4, 7, 10],
-    ("lines", 4, 2): [2, 4, 6, 8, 10],
+    ("wires", 4, 2): [2, 4, 6, 8, 10],
     ("marks", 4, 2): [5, 8, 11],
     ("cells", 5, 2): [5],
-    ("lines", 5, 2): [5],
+    ("wires", 5, 2): [5],
     ("parameters", 5, 2): [5, 6],
     ("marks", 5, 2): [5],
 }

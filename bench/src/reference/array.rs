@@ -18,8 +18,8 @@ enum Action {
     Nothing,
     First,
     Rotate,
-    Second,
-    Third,
+    Phase1,
+    Phase2,
     Stop,
 }
 
@@ -77,7 +77,7 @@ impl Array {
     /// Makes a tick. Tiles are marked where their cells may have changed.
     pub fn make_tick(&mut self) {
         let actions = self.actions();
-        self.read_lines(actions);
+        self.read_wires(actions);
         self.work(actions);
         self.tick += 1;
     }
@@ -88,16 +88,16 @@ impl Array {
             Some(since) if since < last => match since % 3 {
                 0 if since == 0 => Action::First,
                 0 => Action::Rotate,
-                1 => Action::Second,
-                _ => Action::Third,
+                1 => Action::Phase1,
+                _ => Action::Phase2,
             },
             Some(since) if since == last && last > 0 => Action::Stop,
             _ => Action::Nothing,
         })
     }
 
-    /// All tiles read before any tile sets the lines of its corners.
-    fn read_lines(&mut self, actions: Actions) {
+    /// All tiles read before any tile sets the wires of its corners.
+    fn read_wires(&mut self, actions: Actions) {
         for i in 0..self.side {
             for j in 0..self.side {
                 match actions[i.abs_diff(j)] {
@@ -107,7 +107,7 @@ impl Array {
                         self.read_cells(i, j);
                     }
                     Action::Stop => self.read_cells(i, j),
-                    Action::Nothing | Action::Second | Action::Third => {}
+                    Action::Nothing | Action::Phase1 | Action::Phase2 => {}
                 }
             }
         }
@@ -121,10 +121,10 @@ impl Array {
                     Action::First | Action::Rotate => {
                         tile.rotate(i, j);
                         tile.mark();
-                        tile.set_lines_first(i, j);
+                        tile.set_wires_in_phase_0(i, j);
                     }
-                    Action::Second => tile.set_lines_second(i, j, last),
-                    Action::Third => tile.set_lines_third(i, j, last),
+                    Action::Phase1 => tile.set_wires_in_phase_1(i, j, last),
+                    Action::Phase2 => tile.set_wires_in_phase_2(i, j, last),
                     Action::Stop => tile.mark(),
                     Action::Nothing => {}
                 }
@@ -143,7 +143,7 @@ impl Array {
         }
     }
 
-    /// The lines come from the neighbours' facing corners. At an edge a row or column is its own neighbour.
+    /// The wires come from the neighbours' facing corners. At an edge a row or column is its own neighbour.
     fn read_cells(&mut self, i: usize, j: usize) {
         let last = self.side - 1;
         let (above, lower) = if i == 0 { (0, 0) } else { (i - 1, 1) };
@@ -152,12 +152,12 @@ impl Array {
         let (after, left) = if j == last { (j, 1) } else { (j + 1, 0) };
         self.tiles[i * self.side + j].cells = [
             [
-                self.tile(above, before).lines[lower][right],
-                self.tile(above, after).lines[lower][left],
+                self.tile(above, before).wires[lower][right],
+                self.tile(above, after).wires[lower][left],
             ],
             [
-                self.tile(below, before).lines[upper][right],
-                self.tile(below, after).lines[upper][left],
+                self.tile(below, before).wires[upper][right],
+                self.tile(below, after).wires[upper][left],
             ],
         ];
     }

@@ -8,7 +8,7 @@ use crate::sizes::{self, ARRAY_WORDS, HEAD_WORDS, TILE_WORDS};
 
 // Where the parts of a tile begin in its words.
 const CELLS: usize = 0;
-const LINES: usize = 8;
+const WIRES: usize = 8;
 const ROW: usize = 16;
 const COLUMN: usize = 17;
 const MARK: usize = 18;
@@ -83,7 +83,7 @@ fn tile_of(words: &[u64]) -> Tile {
     let corners = |k: usize| [[cell(k), cell(k + 1)], [cell(k + 2), cell(k + 3)]];
     Tile {
         cells: corners(CELLS),
-        lines: corners(LINES),
+        wires: corners(WIRES),
         row: value(ROW),
         column: value(COLUMN),
         marked: words[MARK] != 0,
@@ -92,7 +92,7 @@ fn tile_of(words: &[u64]) -> Tile {
 
 fn put_tile(tile: &Tile, words: &mut [u64]) {
     put_corners(&tile.cells, &mut words[CELLS..]);
-    put_corners(&tile.lines, &mut words[LINES..]);
+    put_corners(&tile.wires, &mut words[WIRES..]);
     words[ROW] = bits(tile.row);
     words[COLUMN] = bits(tile.column);
     words[MARK] = tile.marked as u64;

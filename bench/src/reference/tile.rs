@@ -1,4 +1,4 @@
-//! One tile: its rotation, its lines, its mark (document 01, "The array"). Rows and columns of tiles are counted from 0.
+//! One tile: its rotation, its wires, its mark (document 01, "The array"). Rows and columns of tiles are counted from 0.
 use crate::reference::rotation::{of_tangent, parameters, Turn};
 
 /// An entry of the matrix and the like entry of the eigenvectors, which move together.
@@ -11,19 +11,19 @@ pub struct Cell {
 /// A value for each corner α β / γ δ, by its row and its column.
 pub type Corners = [[Cell; 2]; 2];
 
-/// Beside its cells a tile holds its outgoing lines: one by each corner, and those that pass a tangent along its row and
+/// Beside its cells a tile holds its outgoing wires: one by each corner, and those that pass a tangent along its row and
 /// its column.
 #[derive(Clone, Copy, Default)]
 pub struct Tile {
     pub cells: Corners,
-    pub lines: Corners,
+    pub wires: Corners,
     pub row: f64,
     pub column: f64,
     pub marked: bool,
 }
 
 impl Tile {
-    /// Off the diagonal the tile turns by the tangents that its parameter lines hold.
+    /// Off the diagonal the tile turns by the tangents that its parameter wires hold.
     pub fn rotate(&mut self, i: usize, j: usize) {
         if i == j {
             self.rotate_on_diagonal();
@@ -85,38 +85,38 @@ impl Tile {
         self.marked |= !(finite(a) & finite(b) & finite(c) & finite(d));
     }
 
-    // Which line is set in which phase: document 003, Program 3.
+    // Which wire is set in which phase: document 003, Program 3.
 
-    pub fn set_lines_first(&mut self, i: usize, j: usize) {
+    pub fn set_wires_in_phase_0(&mut self, i: usize, j: usize) {
         if i > j {
-            self.lines[0][1] = self.leaving(i, j, 0, 1);
+            self.wires[0][1] = self.leaving(i, j, 0, 1);
         }
         if i < j {
-            self.lines[1][0] = self.leaving(i, j, 1, 0);
+            self.wires[1][0] = self.leaving(i, j, 1, 0);
         }
     }
 
-    pub fn set_lines_second(&mut self, i: usize, j: usize, last: usize) {
+    pub fn set_wires_in_phase_1(&mut self, i: usize, j: usize, last: usize) {
         if i == 0 || j == 0 {
-            self.lines[0][0] = self.leaving(i, j, 0, 0);
+            self.wires[0][0] = self.leaving(i, j, 0, 0);
         }
         if i == last || j == last {
-            self.lines[1][1] = self.leaving(i, j, 1, 1);
+            self.wires[1][1] = self.leaving(i, j, 1, 1);
         }
     }
 
-    pub fn set_lines_third(&mut self, i: usize, j: usize, last: usize) {
+    pub fn set_wires_in_phase_2(&mut self, i: usize, j: usize, last: usize) {
         if i > 0 && j > 0 {
-            self.lines[0][0] = self.leaving(i, j, 0, 0);
+            self.wires[0][0] = self.leaving(i, j, 0, 0);
         }
         if i <= j {
-            self.lines[0][1] = self.leaving(i, j, 0, 1);
+            self.wires[0][1] = self.leaving(i, j, 0, 1);
         }
         if i >= j {
-            self.lines[1][0] = self.leaving(i, j, 1, 0);
+            self.wires[1][0] = self.leaving(i, j, 1, 0);
         }
         if i < last && j < last {
-            self.lines[1][1] = self.leaving(i, j, 1, 1);
+            self.wires[1][1] = self.leaving(i, j, 1, 1);
         }
     }
 

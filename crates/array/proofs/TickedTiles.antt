@@ -18,17 +18,17 @@ use Rattle.systolic.specs.Traffic.{rotates, changesCells}
 use Rattle.systolic.specs.Tiles.{joined, turnedTile, settledTile, newTile, tickTile, stepAt, actionAt, distance}
 use Rattle.systolic.specs.Arrays.{nearer, incoming, tick}
 use Rattle.systolic.proofs.Wires.{nearer-ok}
-use Rattle.systolic.proofs.Turning.{tile-kept, parameter-kept, row-ahead, column-ahead}
+use Rattle.systolic.proofs.TurnOrder.{tile-kept, parameter-kept, row-ahead, column-ahead}
 use Rattle.sizes.specs.Sizes.{mostProcessors}
 use Rattle.tile_wires.specs.declared.Part.{Part}
-use Rattle.tile_wires.specs.Lines.{incomingPart}
+use Rattle.tile_wires.specs.Wires.{incomingPart}
 use Rattle.rotation.specs.declared.Angle.{Angle}
 use Rattle.rotation.specs.Rotation.{angleOf}
 use Rattle.runs.specs.Cells.{Cell, Setting}
 use Rattle.tile.specs.declared.Tile.{Tile}
 use Rattle.tile.specs.Tiles.{blockOf, theTile, operations, broughtTo}
 use Rattle.tile.specs.Turned.{turnedOf}
-use Rattle.tile.proofs.CellsBrought.{brought}
+use Rattle.tile.proofs.IncomingCells.{brought}
 use Rattle.tile.proofs.TileTick.{tile-turned}
 use Rattle.array.specs.declared.wiring.Near.{Near}
 use Rattle.array.specs.Arrays.{noTile, tileAt, partOf, tileOf, theArray, downOf, nearerOf, nearOf, tilesAfter}
@@ -67,12 +67,12 @@ nearer-nearer i j h = go (ltb i j) (ltb j i) refl refl
     go false false e f = let p : j ≤ i = ltb-false _ _ e in let q : i ≤ j = ltb-false _ _ f in absurd (h (omega arith))
 
 module _ (m i j : ℕ) (l : List Tile) where
-  -- what the lines bring, from the tiles that the code reads
-  lines-brought : (near : Near) → near ≡ nearOf m i j
-      → broughtTo m i j (blockOf (getD l (near .alpha) noTile .lines)) (blockOf (getD l (near .beta) noTile .lines))
-      (blockOf (getD l (near .gamma) noTile .lines)) (blockOf (getD l (near .delta) noTile .lines))
+  -- what the wires bring, from the tiles that the code reads
+  wires-brought : (near : Near) → near ≡ nearOf m i j
+      → broughtTo m i j (blockOf (getD l (near .alpha) noTile .wires)) (blockOf (getD l (near .beta) noTile .wires))
+      (blockOf (getD l (near .gamma) noTile .wires)) (blockOf (getD l (near .delta) noTile .wires))
       ≡ incoming m (theArray l) i j
-  lines-brought near e =
+  wires-brought near e =
       rw e
       (unfold nearOf in
       (rw (← (joined-up m i), ← (joined-up m j), ← (joined-down m i), ← (joined-down m j))
@@ -110,7 +110,7 @@ module _ (s : Setting) (N K t : ℕ) (l : List Tile) where
   abbrev turnAt : ℕ → ℕ → theory.Tile Cell Float Float
   turnAt i j =
       turnedTile (operations s) (stepAt (distance i j) t) i j (actionAt K (distance i j) t) (theArray l i j) (incoming (N - 1) (theArray l) i j)
-      (theArray l i (nearer i j) .rowLine) (theArray l (nearer j i) j .columnLine)
+      (theArray l i (nearer i j) .rowWire) (theArray l (nearer j i) j .columnWire)
 
   unfoldable pub turnedAt : ℕ → Tile
   turnedAt k = cond (inUse N k) (tileOf (turnAt (k / mostProcessors) (k % mostProcessors))) (getD l k noTile)
@@ -147,10 +147,10 @@ module _ (s : Setting) (N K t : ℕ) (l : List Tile) where
       go false = refl
 
   module _ (k : ℕ) (cur : List Tile) (h : Replaced noTile turnedAt l k cur) where
-    lines-stay : (p : ℕ) → getD cur p noTile .lines ≡ getD l p noTile .lines
-    lines-stay p = replaced-part (λ x. x .lines) k cur p (turned-part (λ x. x .lines) p (unfold tileOf partOf theArray theTile blockOf in refl)) h
+    wires-stay : (p : ℕ) → getD cur p noTile .wires ≡ getD l p noTile .wires
+    wires-stay p = replaced-part (λ x. x .wires) k cur p (turned-part (λ x. x .wires) p (unfold tileOf partOf theArray theTile blockOf in refl)) h
 
-    -- the parameter lines of a tile that does not rotate
+    -- the parameter wires of a tile that does not rotate
     module _ (i j : ℕ) (o : j < mostProcessors) (r : rotates (actionAt K (distance i j) t) ≡ false) where
       placed : {B : Type 0} (g : Tile → B) → g (tileOf (turnAt i j)) ≡ g (tileAt l i j) → g (tileAt cur i j) ≡ g (tileAt l i j)
       unfolding tileAt
@@ -159,23 +159,23 @@ module _ (s : Setting) (N K t : ℕ) (l : List Tile) where
           let b : (i * mostProcessors + j) % mostProcessors ≡ j = omega arith in
           replaced-part g k cur (i * mostProcessors + j) (turned-part g (i * mostProcessors + j) (rw (a, b) e)) h
 
-      pub row-stays : tileAt cur i j .row ≡ tileAt l i j .row
-      row-stays = placed (λ x. x .row) (unfold tileOf theArray theTile in (parameter-kept _ i j _ _ _ _ _ r))
+      pub row-stays : tileAt cur i j .«row_wire» ≡ tileAt l i j .«row_wire»
+      row-stays = placed (λ x. x .«row_wire») (unfold tileOf theArray theTile in (parameter-kept _ i j _ _ _ _ _ r))
 
-      pub column-stays : tileAt cur i j .column ≡ tileAt l i j .column
-      column-stays = placed (λ x. x .column) (unfold tileOf theArray theTile in (parameter-kept _ i j _ _ _ _ _ r))
+      pub column-stays : tileAt cur i j .«column_wire» ≡ tileAt l i j .«column_wire»
+      column-stays = placed (λ x. x .«column_wire») (unfold tileOf theArray theTile in (parameter-kept _ i j _ _ _ _ _ r))
 
     -- what the tiles bring that the code reads
     abbrev readPart : Near → Part
     readPart near =
-        incomingPart (getD cur (near .alpha) noTile .lines) (getD cur (near .beta) noTile .lines) (getD cur (near .gamma) noTile .lines)
-        (getD cur (near .delta) noTile .lines) (N - 1) (k / mostProcessors) (k % mostProcessors)
+        incomingPart (getD cur (near .alpha) noTile .wires) (getD cur (near .beta) noTile .wires) (getD cur (near .gamma) noTile .wires)
+        (getD cur (near .delta) noTile .wires) (N - 1) (k / mostProcessors) (k % mostProcessors)
 
     -- a tile whose cells change
     module _ (spot : Spot N k) (near : Near) (n : near ≡ nearOf (N - 1) (k / mostProcessors) (k % mostProcessors))
         (r : changesCells (actionAt K (distance (k / mostProcessors) (k % mostProcessors)) t) ≡ true) where
       row-read : ¬ (k / mostProcessors ≡ k % mostProcessors)
-          → getD cur (near .row) noTile .row ≡ theArray l (k / mostProcessors) (nearer (k / mostProcessors) (k % mostProcessors)) .rowLine
+          → getD cur (near .row) noTile .«row_wire» ≡ theArray l (k / mostProcessors) (nearer (k / mostProcessors) (k % mostProcessors)) .rowWire
       unfolding theArray theTile
       row-read d =
           let b = nearer-ok (N - 1) (k / mostProcessors) (k % mostProcessors) (omega (arith, spot .below)) (omega (arith, spot .column)) d .0 in
@@ -186,7 +186,7 @@ module _ (s : Setting) (N K t : ℕ) (l : List Tile) where
           (unfold tileAt in (row-stays (k / mostProcessors) _ (omega (arith, spot .below)) (row-ahead K t _ _ d r)))))
 
       column-read : ¬ (k % mostProcessors ≡ k / mostProcessors)
-          → getD cur (near .column) noTile .column ≡ theArray l (nearer (k % mostProcessors) (k / mostProcessors)) (k % mostProcessors) .columnLine
+          → getD cur (near .column) noTile .«column_wire» ≡ theArray l (nearer (k % mostProcessors) (k / mostProcessors)) (k % mostProcessors) .columnWire
       unfolding theArray theTile
       column-read d =
           rw n
@@ -194,16 +194,16 @@ module _ (s : Setting) (N K t : ℕ) (l : List Tile) where
           (rw (nearer-nearer (k % mostProcessors) (k / mostProcessors) d)
           (unfold tileAt in (column-stays _ (k % mostProcessors) (omega arith) (column-ahead K t _ _ (λ z. d (sym z)) r)))))
 
-      lines-read : {q : Part} → q ≡ readPart near → blockOf q ≡ incoming (N - 1) (theArray l) (k / mostProcessors) (k % mostProcessors)
-      lines-read e =
+      wires-read : {q : Part} → q ≡ readPart near → blockOf q ≡ incoming (N - 1) (theArray l) (k / mostProcessors) (k % mostProcessors)
+      wires-read e =
           ap blockOf e
           ∙ brought _ _ _ _ (N - 1) (k / mostProcessors) (k % mostProcessors)
-          ∙ rw (lines-stay (near .alpha), lines-stay (near .beta), lines-stay (near .gamma), lines-stay (near .delta))
-          (lines-brought (N - 1) (k / mostProcessors) (k % mostProcessors) l near n)
+          ∙ rw (wires-stay (near .alpha), wires-stay (near .beta), wires-stay (near .gamma), wires-stay (near .delta))
+          (wires-brought (N - 1) (k / mostProcessors) (k % mostProcessors) l near n)
 
       pub turned-in : {x : Tile} {q : Part} {row column : Angle}
-          → (¬ (k / mostProcessors ≡ k % mostProcessors) → row ≡ angleOf (getD cur (near .row) noTile .row))
-          → (¬ (k % mostProcessors ≡ k / mostProcessors) → column ≡ angleOf (getD cur (near .column) noTile .column))
+          → (¬ (k / mostProcessors ≡ k % mostProcessors) → row ≡ angleOf (getD cur (near .row) noTile .«row_wire»))
+          → (¬ (k % mostProcessors ≡ k / mostProcessors) → column ≡ angleOf (getD cur (near .column) noTile .«column_wire»))
           → q ≡ readPart near
           → x ≡ turnedOf (actionAt K (distance (k / mostProcessors) (k % mostProcessors)) t) (getD cur k noTile) q (k / mostProcessors) (k % mostProcessors) row
           column
@@ -216,10 +216,10 @@ module _ (s : Setting) (N K t : ℕ) (l : List Tile) where
           (ap theTile z
           ∙ tile-turned s (getD cur k noTile) i j _ (stepAt (distance i j) t) q _ _ row column (λ d. e d ∙ ap angleOf (row-read d))
           (λ d. f (λ y. d (sym y)) ∙ ap angleOf (column-read (λ y. d (sym y))))
-          ∙ rw (lines-read g, h .kept k (omega arith) ∙ sym (at-place l k)) (unfold theArray in refl))
+          ∙ rw (wires-read g, h .kept k (omega arith) ∙ sym (at-place l k)) (unfold theArray in refl))
           ∙ sym (turned-used k (in-use N k spot))
 
--- ---- the setting of lines: what each tile is after it
+-- ---- the setting of wires: what each tile is after it
 module _ (s : Setting) (N K t : ℕ) (l₁ : List Tile) where
   abbrev settled : ℕ → Tile → theory.Tile Cell Float Float
   settled k x =

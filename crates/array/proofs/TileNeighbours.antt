@@ -1,4 +1,4 @@
--- Where the lines of a tile come from, and that a tick reads just them. Assumes nothing.
+-- Where the wires of a tile come from, and that a tick reads just them. Assumes nothing.
 use Prim.Native.Nat.{ℕ, suc, _+_, _-_, _*_, _<_, _≤_}
 use mathlib.Core.Path.{_≡_, refl}
 use mathlib.Core.Bool.{Bool, true, false, cond}

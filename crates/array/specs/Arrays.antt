@@ -30,7 +30,7 @@ unfoldable pub noPart : Part
 noPart = record { matrix = noQuad; vectors = noQuad }
 
 unfoldable pub noTile : Tile
-noTile = record { cells = noPart; lines = noPart; row = nan; column = nan; mark = false }
+noTile = record { cells = noPart; wires = noPart; «row_wire» = nan; «column_wire» = nan; mark = false }
 
 -- The tile in row i and column j.
 unfoldable pub tileAt : List Tile → ℕ → ℕ → Tile
@@ -41,7 +41,7 @@ unfoldable pub partOf : Block Cell → Part
 partOf b = record { matrix = quadOf (blockEntries b); vectors = quadOf (blockVectors b) }
 
 unfoldable pub tileOf : theory.Tile Cell Float Float → Tile
-tileOf x = record { cells = partOf (x .cells); lines = partOf (x .lines); row = x .rowLine; column = x .columnLine; mark = x .mark }
+tileOf x = record { cells = partOf (x .cells); wires = partOf (x .wires); «row_wire» = x .rowWire; «column_wire» = x .columnWire; mark = x .mark }
 
 -- A list of tiles as the theory's array.
 unfoldable pub theArray : List Tile → ℕ → ℕ → theory.Tile Cell Float Float
@@ -70,7 +70,7 @@ pub record Ticks (x : Array) (r : Ticked) : Type 0 where
   pub answers : progressAnswered (r .answer) ≡ progressOf (x .n) (x .sweeps) (x .tick)
   pub hands-back : r .array ≡ arrayOf (progressOf (x .n) (x .sweeps) (x .tick)) x
 
--- ---- where the lines of a tile come from
+-- ---- where the wires of a tile come from
 -- The neighbour after i, and the last itself.
 unfoldable pub downOf : ℕ → ℕ → ℕ
 downOf m i = cond (eqb i m) m (suc i)

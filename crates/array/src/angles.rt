@@ -1,4 +1,4 @@
-// The angles of tangents that pass along the lines. All tiles that a tangent reaches turn by one angle, so what is found for the first is kept.
+// The angles of tangents that pass along the wires. All tiles that a tangent reaches turn by one angle, so what is found for the first is kept.
 ghost use mathlib.Core.Path.{_≡_};
 ghost use Prim.Native.Nat.{_*_, _<_};
 ghost use Rattle.rotation.specs.Rotation.{angleOf};
@@ -8,26 +8,26 @@ use rotation::Angle;
 use sizes::MOST_PROCESSORS;
 use sizes::MOST_TILES;
 
-// The angle of the tangent t that passes along the row or column `line` and reaches the tile where it crosses `other`. It is looked up in two
+// The angle of the tangent t that passes along the row or column `along` and reaches the tile where it crosses `other`. It is looked up in two
 // arrays of known tangents and cosines, and kept there. A tile on the diagonal has no use for it.
 pub fn known(
     t: f64,
     tick: usize,
-    line: usize,
+    along: usize,
     other: usize,
     tangents: &mut [f64; MOST_TILES],
     cosines: &mut [f64; MOST_TILES],
 ) -> Angle
     requires { ⌜ Known (now tangents) (now cosines) ⌝ }
-    ensures { λ r. ⌜ (¬ (line ≡ other) → r ≡ angleOf t) × Known (now (tangents .exit)) (now (cosines .exit)) ⌝ }
+    ensures { λ r. ⌜ (¬ (along ≡ other) → r ≡ angleOf t) × Known (now (tangents .exit)) (now (cosines .exit)) ⌝ }
 {
-    if line == other {
+    if along == other {
         return Angle {
             tangent: t,
             cosine: 1.0,
         };
     }
-    let at = place(tick, line, other);
+    let at = place(tick, along, other);
     let old = Angle {
         tangent: tangents[at],
         cosine: cosines[at],
@@ -50,12 +50,12 @@ fn recalled(t: f64, old: Angle) -> Angle
 }
 
 // Where an angle is kept: a tangent moves by one tile a tick, so T - Δ is the same for all tiles that it reaches.
-fn place(tick: usize, line: usize, other: usize) -> usize
+fn place(tick: usize, along: usize, other: usize) -> usize
     ensures { λ r. ⌜ r < mostProcessors * mostProcessors ⌝ }
 {
-    let away = tile_schedule::distance(line, other);
+    let away = tile_schedule::distance(along, other);
     if tick < away {
         return 0;
     }
-    line % MOST_PROCESSORS * MOST_PROCESSORS + (tick - away) % MOST_PROCESSORS
+    along % MOST_PROCESSORS * MOST_PROCESSORS + (tick - away) % MOST_PROCESSORS
 }

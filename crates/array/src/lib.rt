@@ -49,7 +49,7 @@ impl Array {
         }
     }
 
-    // Cells from a matrix of order n and from the identity, lines at +0.
+    // Cells from a matrix of order n and from the identity, wires at +0.
     pub fn of_matrix(n: usize, sweeps: usize, matrix: &[f64]) -> Array
         ensures { λ r. ⌜ r ≡ startArray n sweeps (now (matrix .entry)) ⌝ }
     {
@@ -118,8 +118,8 @@ impl Array {
         self.after(count)
     }
 
-    // The array after `count` more ticks, which are all made. In each tick all tiles turn before any sets its cell lines;
-    // a tile does not set its parameter lines while another takes what they bring.
+    // The array after `count` more ticks, which are all made. In each tick all tiles turn before any sets its cell wires;
+    // a tile does not set its parameter wires while another takes what they bring.
     fn after(self, count: usize) -> Array
         requires { ⌜ GoesOn self count ⌝ }
         ensures { λ r. ⌜ r ≡ ticked count self ⌝ }
@@ -150,9 +150,9 @@ impl Array {
                 let at_beta = from.beta;
                 let at_gamma = from.gamma;
                 let at_delta = from.delta;
-                let row_tangent = array.tiles[at_row].row;
+                let row_tangent = array.tiles[at_row].row_wire;
                 let row = angles::known(row_tangent, tick, i, j, &mut tangents, &mut cosines);
-                let column_tangent = array.tiles[at_column].column;
+                let column_tangent = array.tiles[at_column].column_wire;
                 let column = angles::known(column_tangent, tick, j, i, &mut tangents, &mut cosines);
                 let alpha = array.tiles[at_alpha];
                 let beta = array.tiles[at_beta];

@@ -1,11 +1,11 @@
-// Which tiles the lines of a tile come from.
+// Which tiles the wires of a tile come from.
 ghost use mathlib.Core.Path.{_≡_};
 ghost use Prim.Native.Nat.{_-_, _<_, _≤_};
 ghost use Rattle.sizes.specs.Sizes.{mostProcessors};
 ghost use Rattle.array.specs.Arrays.{nearOf, Inside, downOf, nearerOf};
 use sizes::MOST_PROCESSORS;
 
-// Where the tiles stand whose lines come in by each corner, along the row and along the column.
+// Where the tiles stand whose wires come in by each corner, along the row and along the column.
 pub struct Near {
     pub alpha: usize,
     pub beta: usize,

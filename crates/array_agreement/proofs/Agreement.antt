@@ -40,7 +40,7 @@ use Rattle.plain_run.proofs.Sequence.{plain-sequential, plain-fails, fails-are}
 use Rattle.runs.proofs.Verdicts.{Begins, begins}
 use Rattle.plain_run.proofs.Outcomes.{start-finite}
 use Rattle.tile.specs.declared.Tile.{Tile}
-use Rattle.tile.proofs.CellsBrought.{sideBy, corner-cell}
+use Rattle.tile.proofs.IncomingCells.{sideBy, corner-cell}
 use Rattle.tile.specs.Tiles.{blockOf, theTile, operations}
 use Rattle.tile_start.specs.Beginning.{zeroPart, startingTile, quadAt, partAt, startTile}
 use Rattle.array.specs.declared.Array.{Array}

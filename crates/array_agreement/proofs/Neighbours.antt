@@ -1,5 +1,5 @@
--- Document 01, "Neighbourhood": two arrays with equal n, S and T that agree in one tile and in the lines that lead to it agree in that tile, and so in its
--- outgoing lines, after the tick. Assumes nothing.
+-- Document 01, "Neighbourhood": two arrays with equal n, S and T that agree in one tile and in the wires that lead to it agree in that tile, and so in its
+-- outgoing wires, after the tick. Assumes nothing.
 use Prim.Native.Nat.{ℕ, _+_, _-_, _*_, _/_, _%_, _<_, _≤_}
 use mathlib.Core.Path.{_≡_, refl, sym, ap, _∙_}
 use mathlib.Core.List.{List}
@@ -36,7 +36,7 @@ module _ (x y : Array) (n-same : x .n ≡ y .n) (sweeps-same : x .sweeps ≡ y .
   alike N a =
       record {
         tile = ap theTile (a .tile);
-        lines = a .lines;
+        wires = a .wires;
         row = λ n. unfold theTile in (a .row n);
         column = λ n. unfold theTile in (a .column n);
       }

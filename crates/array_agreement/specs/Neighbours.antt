@@ -9,11 +9,11 @@ use Rattle.systolic.specs.Arrays.{nearer}
 use Rattle.tile.specs.declared.Tile.{Tile}
 use Rattle.array.specs.Arrays.{tileAt, theArray}
 
--- Two arrays agree in the tile in row i and column j and in the lines that lead to it. No parameter line leads to a tile on the diagonal.
+-- Two arrays agree in the tile in row i and column j and in the wires that lead to it. No parameter wire leads to a tile on the diagonal.
 pub record Agree (N : ℕ) (x y : List Tile) (i j : ℕ) : Type 0 where
   pub tile : tileAt x i j ≡ tileAt y i j
-  pub lines : (h g : Side)
-      → pick (λ r c. theArray x r c .lines) (joined (N - 1) h i) (joined (N - 1) g j)
-      ≡ pick (λ r c. theArray y r c .lines) (joined (N - 1) h i) (joined (N - 1) g j)
-  pub row : ¬ (i ≡ j) → tileAt x i (nearer i j) .row ≡ tileAt y i (nearer i j) .row
-  pub column : ¬ (i ≡ j) → tileAt x (nearer j i) j .column ≡ tileAt y (nearer j i) j .column
+  pub wires : (h g : Side)
+      → pick (λ r c. theArray x r c .wires) (joined (N - 1) h i) (joined (N - 1) g j)
+      ≡ pick (λ r c. theArray y r c .wires) (joined (N - 1) h i) (joined (N - 1) g j)
+  pub row : ¬ (i ≡ j) → tileAt x i (nearer i j) .«row_wire» ≡ tileAt y i (nearer i j) .«row_wire»
+  pub column : ¬ (i ≡ j) → tileAt x (nearer j i) j .«column_wire» ≡ tileAt y (nearer j i) j .«column_wire»

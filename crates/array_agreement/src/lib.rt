@@ -1,1 +1,1 @@
-// No code: whole runs and runs by hand agree with the plain run, and a tile after a tick depends only on itself and on the lines that lead to it.
+// No code: whole runs and runs by hand agree with the plain run, and a tile after a tick depends only on itself and on the wires that lead to it.

@@ -1,2 +1,2 @@
 pub mod Results
-pub mod Whole
+pub mod WholeRuns

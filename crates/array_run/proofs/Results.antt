@@ -12,7 +12,7 @@ use Rattle.lists.proofs.Filled.{Filled, filled-all}
 use Rattle.lists.specs.Bounded.{any}
 use Rattle.lists.proofs.Bounded.{any-hit}
 use Rattle.tile_wires.specs.declared.Quad.{Quad}
-use Rattle.tile_wires.specs.Lines.{cornerOf}
+use Rattle.tile_wires.specs.Wires.{cornerOf}
 use Rattle.matrix.specs.Matrix.{flat}
 use Rattle.runs.specs.Outcome.{Outcome, outcome}
 use Rattle.runs.specs.State.{zeros}

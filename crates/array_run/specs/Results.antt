@@ -8,7 +8,7 @@ use Rattle.refusal.specs.Answers.{given, refusedBy}
 use Rattle.refusal.specs.declared.Refusal.the-variants.{Spoiled}
 use Rattle.lists.specs.Bounded.{any}
 use Rattle.tile_wires.specs.declared.Quad.{Quad}
-use Rattle.tile_wires.specs.Lines.{cornerOf}
+use Rattle.tile_wires.specs.Wires.{cornerOf}
 use Rattle.matrix.specs.Matrix.{flat}
 use Rattle.runs.specs.Outcome.{Outcome, outcome}
 use Rattle.runs.specs.State.{zeros}

@@ -21,7 +21,7 @@ use Rattle.array.specs.Arrays.{noTile}
 use Rattle.array_words.specs.Words.{tileWords, arrayWords, quadWord, partWord, tileWord, arrayWord, wordsOf, valueAt}
 use Rattle.array_words.specs.Words.{quadIn, partIn, tileIn, arrayIn, storedIn}
 use Rattle.array_words.specs.Words.{Binary64Quad, Binary64Part, Binary64Tile, Binary64Array}
-use Rattle.array_words.proofs.WordsWritten.{matrix-word, vectors-word, cells-word, lines-word, tile-word}
+use Rattle.array_words.proofs.WordsWritten.{matrix-word, vectors-word, cells-word, wires-word, tile-word}
 
 mark-back : (b : Bool) → not (eqb (cond b 1 0) 0) ≡ b
 mark-back true = refl
@@ -65,9 +65,9 @@ module _ (l : List ℕ) where
   tile-back k x d h =
       rw (
         part-back k (x .cells) (has-first k 8 tileWords (partWord (x .cells)) (tileWord x) (omega arith) (cells-word x) d) (h .cells-fit),
-        part-back (k + 8) (x .lines) (has-next k 8 8 tileWords (partWord (x .lines)) (tileWord x) (omega arith) (lines-word x) d) (h .lines-fit),
-        value-back (k + 16) (x .row) (d 16 (omega arith)) (h .row-fits),
-        value-back (k + 17) (x .column) (d 17 (omega arith)) (h .column-fits),
+        part-back (k + 8) (x .wires) (has-next k 8 8 tileWords (partWord (x .wires)) (tileWord x) (omega arith) (wires-word x) d) (h .wires-fit),
+        value-back (k + 16) (x .«row_wire») (d 16 (omega arith)) (h .row-fits),
+        value-back (k + 17) (x .«column_wire») (d 17 (omega arith)) (h .column-fits),
         d 18 (omega arith),
         mark-back (x .mark),
       )

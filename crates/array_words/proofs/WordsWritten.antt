@@ -32,9 +32,9 @@ pub cells-word : (x : Tile) (w : ℕ) → w < 8 → partWord (x .cells) w ≡ ti
 unfolding tileWord
 cells-word x w h = rw (lt-ltb w 8 h)
 
-pub lines-word : (x : Tile) (w : ℕ) → w < 8 → partWord (x .lines) w ≡ tileWord x (8 + w)
+pub wires-word : (x : Tile) (w : ℕ) → w < 8 → partWord (x .wires) w ≡ tileWord x (8 + w)
 unfolding tileWord
-lines-word x w h = let d : 8 + w - 8 ≡ w = omega arith in rw (le-ltb (8 + w) 8 (omega arith), lt-ltb (8 + w) 16 (omega arith), d)
+wires-word x w h = let d : 8 + w - 8 ≡ w = omega arith in rw (le-ltb (8 + w) 8 (omega arith), lt-ltb (8 + w) 16 (omega arith), d)
 
 -- ---- words behind words
 written-same : (at m : ℕ) (f g : ℕ → ℕ) (l : List ℕ) → ((w : ℕ) → w < m → f w ≡ g w) → writtenAt at m f l ≡ writtenAt at m g l
@@ -62,16 +62,16 @@ pub part-written : (p : Part) (at : ℕ) (l : List ℕ) {r s : List ℕ} → r �
     → s ≡ writtenAt at 8 (partWord p) l
 part-written p at l e f = f ∙ rw e (written-on at 4 4 (quadWord (p .matrix)) (quadWord (p .vectors)) (partWord p) l (matrix-word p) (vectors-word p))
 
-parts-written : (x : Tile) (at : ℕ) (l : List ℕ) {r s : List ℕ} → r ≡ writtenAt at 8 (partWord (x .cells)) l → s ≡ writtenAt (at + 8) 8 (partWord (x .lines)) r
+parts-written : (x : Tile) (at : ℕ) (l : List ℕ) {r s : List ℕ} → r ≡ writtenAt at 8 (partWord (x .cells)) l → s ≡ writtenAt (at + 8) 8 (partWord (x .wires)) r
     → s ≡ writtenAt at 16 (tileWord x) l
-parts-written x at l e f = f ∙ rw e (written-on at 8 8 (partWord (x .cells)) (partWord (x .lines)) (tileWord x) l (cells-word x) (lines-word x))
+parts-written x at l e f = f ∙ rw e (written-on at 8 8 (partWord (x .cells)) (partWord (x .wires)) (tileWord x) l (cells-word x) (wires-word x))
 
 mark-bit : (b : Bool) → boolByte b ≡ cond b 1 0
 mark-bit true = refl
 mark-bit false = refl
 
 pub tile-written : (x : Tile) (at : ℕ) (l : List ℕ) {r s : List ℕ} {a b : ℕ} → r ≡ writtenAt at 8 (partWord (x .cells)) l
-    → s ≡ writtenAt (at + 8) 8 (partWord (x .lines)) r → a ≡ toBits binary64 (x .row) → b ≡ toBits binary64 (x .column)
+    → s ≡ writtenAt (at + 8) 8 (partWord (x .wires)) r → a ≡ toBits binary64 (x .«row_wire») → b ≡ toBits binary64 (x .«column_wire»)
     → set (set (set s (at + 16) a) (at + 17) b) (at + 18) (boolByte (x .mark)) ≡ writtenAt at tileWords (tileWord x) l
 unfolding writtenAt tileWord
 tile-written x at l e f g h = rw (parts-written x at l e f, g, h, mark-bit)

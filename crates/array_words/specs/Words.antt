@@ -32,12 +32,12 @@ quadWord q w =
 unfoldable pub partWord : Part → ℕ → ℕ
 partWord p w = cond (ltb w 4) (quadWord (p .matrix) w) (quadWord (p .vectors) (w - 4))
 
--- the cells, the lines, the tangents along the row and along the column, the mark
+-- the cells, the wires, the tangents along the row and along the column, the mark
 unfoldable pub tileWord : Tile → ℕ → ℕ
 tileWord x w =
     cond (ltb w 8) (partWord (x .cells) w)
-    (cond (ltb w 16) (partWord (x .lines) (w - 8))
-    (cond (eqb w 16) (toBits binary64 (x .row)) (cond (eqb w 17) (toBits binary64 (x .column)) (cond (x .mark) 1 0))))
+    (cond (ltb w 16) (partWord (x .wires) (w - 8))
+    (cond (eqb w 16) (toBits binary64 (x .«row_wire»)) (cond (eqb w 17) (toBits binary64 (x .«column_wire»)) (cond (x .mark) 1 0))))
 
 unfoldable pub arrayWord : Array → ℕ → ℕ
 arrayWord x k =
@@ -67,9 +67,9 @@ unfoldable pub tileIn : List ℕ → ℕ → Tile
 tileIn l k =
     record {
       cells = partIn l k;
-      lines = partIn l (k + 8);
-      row = valueAt l (k + 16);
-      column = valueAt l (k + 17);
+      wires = partIn l (k + 8);
+      «row_wire» = valueAt l (k + 16);
+      «column_wire» = valueAt l (k + 17);
       mark = not (eqb (getD l (k + 18) 0) 0);
     }
 
@@ -99,9 +99,9 @@ pub record Binary64Part (p : Part) : Type 0 where
 
 pub record Binary64Tile (x : Tile) : Type 0 where
   pub cells-fit : Binary64Part (x .cells)
-  pub lines-fit : Binary64Part (x .lines)
-  pub row-fits : T (fits binary64 (x .row))
-  pub column-fits : T (fits binary64 (x .column))
+  pub wires-fit : Binary64Part (x .wires)
+  pub row-fits : T (fits binary64 (x .«row_wire»))
+  pub column-fits : T (fits binary64 (x .«column_wire»))
 
 pub record Binary64Array (x : Array) : Type 0 where
   pub tiles-many : length (x .tiles) ≡ mostProcessors * mostProcessors

@@ -47,9 +47,9 @@ fn tile_in(words: &[u64], at: usize) -> Tile
 {
     Tile {
         cells: part_in(words, at),
-        lines: part_in(words, at + 8),
-        row: value_at(words, at + 16),
-        column: value_at(words, at + 17),
+        wires: part_in(words, at + 8),
+        row_wire: value_at(words, at + 16),
+        column_wire: value_at(words, at + 17),
         mark: word_at(words, at + 18) != 0,
     }
 }
@@ -114,11 +114,11 @@ fn store_tile(tile: Tile, at: usize, words: &mut [u64])
     ensures { λ _. ⌜ now (words .exit) ≡ writtenAt at tileWords (tileWord tile) (now (words .entry)) ⌝ }
 {
     let cells = tile.cells;
-    let lines = tile.lines;
+    let wires = tile.wires;
     store_part(cells, at, words);
-    store_part(lines, at + 8, words);
-    words[at + 16] = float64::to_bits(tile.row);
-    words[at + 17] = float64::to_bits(tile.column);
+    store_part(wires, at + 8, words);
+    words[at + 16] = float64::to_bits(tile.row_wire);
+    words[at + 17] = float64::to_bits(tile.column_wire);
     words[at + 18] = tile.mark as u64;
 }
 

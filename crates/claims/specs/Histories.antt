@@ -40,8 +40,8 @@ abbrev pub EveryRunByHand : Type 0
 EveryRunByHand = (n sweeps : ℕ) (l : List Float) → Binary64 l → (s : Started) (rs : List Ticked) → ByHand n sweeps l s rs
     → ClaimedByHand (startAnswer n sweeps l) n sweeps l s rs
 
--- Whatever all other tiles hold, two arrays alike in order, sweeps, tick, one tile and the lines that lead to it are alike in that tile, and so
--- in its outgoing lines, after the tick.
+-- Whatever all other tiles hold, two arrays alike in order, sweeps, tick, one tile and the wires that lead to it are alike in that tile, and so
+-- in its outgoing wires, after the tick.
 abbrev pub Neighbourhood : Type 0
 Neighbourhood =
     (x y : Array) → x .n ≡ y .n → x .sweeps ≡ y .sweeps → x .tick ≡ y .tick → (r s : Ticked) → Ticks x r → Ticks y s

@@ -5,14 +5,14 @@ use mathlib.Core.Bool.{Bool, true, false, cond}
 use native.Mathlib.Omega.{arith}
 use borrow.Author.Tests.{ltb-true, ltb-false, eqb-true, eqb-false}
 use lib.Dec.{ltb, eqb}
-use Rattle.systolic.specs.Tiles.{Action, idle, first, rotate, second, third, final, action, actionAt, phaseIn}
+use Rattle.systolic.specs.Tiles.{Action, idle, first, rotate, phase1, phase2, final, action, actionAt, phaseIn}
 
 pub data View (K δ t : ℕ) : Action → Type 0 where
   waiting : t < δ → View K δ t idle
   starting : t ≡ δ → 0 < K → View K δ t first
   rotating : (k : ℕ) → t ≡ δ + 3 * suc k → suc k < K → View K δ t rotate
-  setting-second : (k : ℕ) → t ≡ δ + 3 * k + 1 → k < K → View K δ t second
-  setting-third : (k : ℕ) → t ≡ δ + 3 * k + 2 → k < K → View K δ t third
+  setting-phase1 : (k : ℕ) → t ≡ δ + 3 * k + 1 → k < K → View K δ t phase1
+  setting-phase2 : (k : ℕ) → t ≡ δ + 3 * k + 2 → k < K → View K δ t phase2
   finishing : (k : ℕ) → t ≡ δ + 3 * suc k → K ≡ suc k → View K δ t final
   finished : δ + 3 * K < t → View K δ t idle
   stepless : K ≡ 0 → t ≡ δ → View K δ t idle
@@ -24,14 +24,14 @@ module _ (K δ t : ℕ) (h : δ ≤ t) where
   later-rotation (suc q) e r l false z = rotating q (omega arith) l
 
   run-at : (t - δ) / 3 < K → (b c : Bool) → eqb ((t - δ) % 3) 0 ≡ b → eqb ((t - δ) % 3) 1 ≡ c
-      → View K δ t (cond b (cond (eqb ((t - δ) / 3) 0) first rotate) (cond c second third))
+      → View K δ t (cond b (cond (eqb ((t - δ) / 3) 0) first rotate) (cond c phase1 phase2))
   run-at l true c e f = later-rotation ((t - δ) / 3) refl (eqb-true _ _ e) l (eqb ((t - δ) / 3) 0) refl
   run-at l false true e f =
-      let r : (t - δ) % 3 ≡ 1 = eqb-true _ _ f in setting-second ((t - δ) / 3) (omega arith) l
+      let r : (t - δ) % 3 ≡ 1 = eqb-true _ _ f in setting-phase1 ((t - δ) / 3) (omega arith) l
   run-at l false false e f =
       let n : ¬ ((t - δ) % 3 ≡ 0) = eqb-false _ _ e in
       let n′ : ¬ ((t - δ) % 3 ≡ 1) = eqb-false _ _ f in
-      setting-third ((t - δ) / 3) (omega arith) l
+      setting-phase2 ((t - δ) / 3) (omega arith) l
 
   last-at : (k : ℕ) → k ≡ K → t - δ ≡ 3 * K → (b : Bool) → eqb k 0 ≡ b → View K δ t (cond b idle final)
   last-at k e r true z = stepless (omega (arith, eqb-true k 0 z)) (omega (arith, eqb-true k 0 z))
@@ -46,7 +46,7 @@ module _ (K δ t : ℕ) (h : δ ≤ t) where
   act-at : (b : Bool) → ltb ((t - δ) / 3) K ≡ b
       → View K δ t
       (cond b
-      (cond (eqb ((t - δ) % 3) 0) (cond (eqb ((t - δ) / 3) 0) first rotate) (cond (eqb ((t - δ) % 3) 1) second third))
+      (cond (eqb ((t - δ) % 3) 0) (cond (eqb ((t - δ) / 3) 0) first rotate) (cond (eqb ((t - δ) % 3) 1) phase1 phase2))
       (cond (eqb (t - δ) (3 * K)) (cond (eqb K 0) idle final) idle))
   act-at true e = run-at (ltb-true _ _ e) (eqb ((t - δ) % 3) 0) (eqb ((t - δ) % 3) 1) refl refl
   act-at false e = rest-at (ltb-false _ _ e) (eqb (t - δ) (3 * K)) refl
@@ -60,14 +60,14 @@ pub view : (K δ t : ℕ) → View K δ t (actionAt K δ t)
 unfolding actionAt
 view K δ t = view-go K δ t (ltb t δ) refl
 
--- a tile at distance δ sets its lines of phase φ exactly at the ticks δ + φ + 3 k, k < K
+-- a tile at distance δ sets its wires of phase φ exactly at the ticks δ + φ + 3 k, k < K
 pub writes-at : (K δ t φ : ℕ) (a : Action) → View K δ t a → φ < 3 → phaseIn a ≡ φ → (n : ℕ) × (n < K) × (t ≡ δ + φ + 3 * n)
 unfolding phaseIn
 writes-at K δ t φ idle (waiting w) l e = absurd (omega arith)
 writes-at K δ t φ first (starting w z) l e = (0, z, omega arith)
 writes-at K δ t φ rotate (rotating k w z) l e = (suc k, z, omega arith)
-writes-at K δ t φ second (setting-second k w z) l e = (k, z, omega arith)
-writes-at K δ t φ third (setting-third k w z) l e = (k, z, omega arith)
+writes-at K δ t φ phase1 (setting-phase1 k w z) l e = (k, z, omega arith)
+writes-at K δ t φ phase2 (setting-phase2 k w z) l e = (k, z, omega arith)
 writes-at K δ t φ final (finishing k w z) l e = absurd (omega arith)
 writes-at K δ t φ idle (finished w) l e = absurd (omega arith)
 writes-at K δ t φ idle (stepless w z) l e = absurd (omega arith)
@@ -77,8 +77,8 @@ unfolding phaseIn
 at-writes K δ t φ k idle (waiting w) l h e = absurd (omega arith)
 at-writes K δ t φ k first (starting w z) l h e = omega arith
 at-writes K δ t φ k rotate (rotating n w z) l h e = omega arith
-at-writes K δ t φ k second (setting-second n w z) l h e = omega arith
-at-writes K δ t φ k third (setting-third n w z) l h e = omega arith
+at-writes K δ t φ k phase1 (setting-phase1 n w z) l h e = omega arith
+at-writes K δ t φ k phase2 (setting-phase2 n w z) l h e = omega arith
 at-writes K δ t φ k final (finishing n w z) l h e = absurd (omega arith)
 at-writes K δ t φ k idle (finished w) l h e = absurd (omega arith)
 at-writes K δ t φ k idle (stepless w z) l h e = absurd (omega arith)

@@ -5,9 +5,9 @@ pub mod Clock
 pub mod Wires
 pub mod Skew
 pub mod Ticks
-pub mod Printed
+pub mod PrintedTables
 pub mod Neighbourhood
 pub mod Starts
-pub mod Turning
+pub mod TurnOrder
 pub mod Steps
 pub mod Agreement

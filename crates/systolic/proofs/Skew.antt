@@ -8,11 +8,11 @@ use lib.Dec.{eqb}
 use Rattle.systolic.specs.Slots.{Side, slot}
 use Rattle.systolic.specs.Blocks.{Block, cell, pick}
 use Rattle.systolic.specs.Synchronous.{Operations, rotateAll, moveAll, blocksAt, rotatedAt, rowParameter, columnParameter}
-use Rattle.systolic.specs.Tiles.{distance, Tile, carried, joined, phaseOf, Action, idle, first, rotate, second, third}
-use Rattle.systolic.specs.Tiles.{final, actionAt, stepAt, turnTile, newCells, newParameter, phaseIn, newLines, newTile, tickTile}
+use Rattle.systolic.specs.Tiles.{distance, Tile, carried, joined, phaseOf, Action, idle, first, rotate, phase1, phase2}
+use Rattle.systolic.specs.Tiles.{final, actionAt, stepAt, turnTile, newCells, newParameter, phaseIn, newWires, newTile, tickTile}
 use Rattle.systolic.specs.Arrays.{nearer, incoming, tick, arrayAfter}
 use Rattle.systolic.proofs.Cells.{cell-tab, tab-ext}
-use Rattle.systolic.proofs.Clock.{View, waiting, starting, rotating, setting-second, setting-third}
+use Rattle.systolic.proofs.Clock.{View, waiting, starting, rotating, setting-phase1, setting-phase2}
 use Rattle.systolic.proofs.Clock.{finishing, finished, stepless, view, writes-at, at-writes}
 use Rattle.systolic.proofs.Wires.{link, joined-le, InTime, in-time, phase-lt, nearer-ok}
 
@@ -25,10 +25,10 @@ module _ {X H W : Type 0} (S : Operations X H W) (m K : ℕ) where
     pub before : t ≤ distance i j → x .cells ≡ S .initial i j
     pub during : (k : ℕ) → k < K → distance i j + 3 * k < t → t ≤ distance i j + 3 * suc k → x .cells ≡ rotatedAt S m k i j
     pub after : distance i j + 3 * K < t → x .cells ≡ blocksAt S m K i j
-    pub line : (r s : Side) (k : ℕ) → k < K → distance i j + phaseOf m r s i j + 3 * k < t
-        → t ≤ distance i j + phaseOf m r s i j + 3 * suc k → cell r s (x .lines) ≡ cell (carried i r) (carried j s) (rotatedAt S m k i j)
-    pub row : (k : ℕ) → k < K → distance i j + 3 * k < t → t ≤ distance i j + 3 * suc k → x .rowLine ≡ rowParameter S m k i
-    pub column : (k : ℕ) → k < K → distance i j + 3 * k < t → t ≤ distance i j + 3 * suc k → x .columnLine ≡ columnParameter S m k j
+    pub wire : (r s : Side) (k : ℕ) → k < K → distance i j + phaseOf m r s i j + 3 * k < t
+        → t ≤ distance i j + phaseOf m r s i j + 3 * suc k → cell r s (x .wires) ≡ cell (carried i r) (carried j s) (rotatedAt S m k i j)
+    pub row : (k : ℕ) → k < K → distance i j + 3 * k < t → t ≤ distance i j + 3 * suc k → x .rowWire ≡ rowParameter S m k i
+    pub column : (k : ℕ) → k < K → distance i j + 3 * k < t → t ≤ distance i j + 3 * suc k → x .columnWire ≡ columnParameter S m k j
 
   abbrev pub AllKnown : ℕ → Type 0
   AllKnown t = (i j : ℕ) → i ≤ m → j ≤ m → Known t i j (arrayAfter S m K t i j)
@@ -47,7 +47,7 @@ module _ {X H W : Type 0} (S : Operations X H W) (m K : ℕ) where
       go true z = let w : i ≡ j = eqb-true _ _ z in rw (e, ← w)
       go false z = rw (e, f (eqb-false _ _ z), g (eqb-false _ _ z))
 
-  -- a parameter line, whose parameter in step k is that of processor c: i along a row, j along a column
+  -- a parameter wire, whose parameter in step k is that of processor c: i along a row, j along a column
   sent : {P : Type 0} (f : ℕ → ℕ → Block X → P) (c k i j : ℕ) (b : Block X) (p : P) → (i ≡ j → (i ≡ c) × (j ≡ c)) → b ≡ blocksAt S m k i j
       → (¬ (i ≡ j) → p ≡ f k c (blocksAt S m k c c))
       → cond (eqb i j) (f k i b) p ≡ f k c (blocksAt S m k c c)
@@ -66,16 +66,16 @@ module _ {X H W : Type 0} (S : Operations X H W) (m K : ℕ) where
         (phaseOf m (joined m h i .side) (joined m g j .side) (joined m h i .processor) (joined m g j .processor)) (distance i j)
         = in-time m h g i j p q in
         rw (link m h i, link m g j)
-        (all (joined m h i .processor) (joined m g j .processor) (joined-le m h i p) (joined-le m g j q) .line
+        (all (joined m h i .processor) (joined m g j .processor) (joined-le m h i p) (joined-le m g j q) .wire
         (joined m h i .side) (joined m g j .side) k l (omega arith) (omega arith)))
 
-    row-in : (k i j : ℕ) → i ≤ m → j ≤ m → k < K → t ≡ distance i j + 3 * k → ¬ (i ≡ j) → arrayAfter S m K t i (nearer i j) .rowLine ≡ rowParameter S m k i
+    row-in : (k i j : ℕ) → i ≤ m → j ≤ m → k < K → t ≡ distance i j + 3 * k → ¬ (i ≡ j) → arrayAfter S m K t i (nearer i j) .rowWire ≡ rowParameter S m k i
     row-in k i j p q l e n =
         let z : (nearer i j ≤ m) × (suc (distance i (nearer i j)) ≡ distance i j) = nearer-ok m i j p q n in
         all i (nearer i j) p (z .0) .row k l (omega arith) (omega arith)
 
     column-in : (k i j : ℕ) → i ≤ m → j ≤ m → k < K → t ≡ distance i j + 3 * k → ¬ (i ≡ j)
-        → arrayAfter S m K t (nearer j i) j .columnLine ≡ columnParameter S m k j
+        → arrayAfter S m K t (nearer j i) j .columnWire ≡ columnParameter S m k j
     column-in k i j p q l e n =
         let z : (nearer j i ≤ m) × (suc (distance j (nearer j i)) ≡ distance j i) = nearer-ok m j i q p (λ w. n (sym w)) in
         all (nearer j i) j (z .0) q .column k l (omega arith) (omega arith)
@@ -87,7 +87,7 @@ module _ {X H W : Type 0} (S : Operations X H W) (m K : ℕ) where
       abbrev fresh : Action → Block X
       fresh a =
           newCells S (stepAt (distance i j) t) i j a (old .cells) (incoming m (arrayAfter S m K t) i j)
-          (arrayAfter S m K t i (nearer i j) .rowLine) (arrayAfter S m K t (nearer j i) j .columnLine)
+          (arrayAfter S m K t i (nearer i j) .rowWire) (arrayAfter S m K t (nearer j i) j .columnWire)
 
       abbrev now : ℕ
       now = stepAt (distance i j) t
@@ -119,8 +119,8 @@ module _ {X H W : Type 0} (S : Operations X H W) (m K : ℕ) where
       new-before idle (waiting w) l = all i j pi pj .before (omega arith)
       new-before first (starting w z) l = absurd (omega arith)
       new-before rotate (rotating k w z) l = absurd (omega arith)
-      new-before second (setting-second k w z) l = absurd (omega arith)
-      new-before third (setting-third k w z) l = absurd (omega arith)
+      new-before phase1 (setting-phase1 k w z) l = absurd (omega arith)
+      new-before phase2 (setting-phase2 k w z) l = absurd (omega arith)
       new-before final (finishing k w z) l = absurd (omega arith)
       new-before idle (finished w) l = absurd (omega arith)
       new-before idle (stepless w z) l = absurd (omega arith)
@@ -131,8 +131,8 @@ module _ {X H W : Type 0} (S : Operations X H W) (m K : ℕ) where
       new-during idle (waiting w) k l x y = absurd (omega arith)
       new-during first (starting w z) k l x y = same (λ n. fresh first ≡ rotatedAt S m n i j) k 0 (omega arith) (first-rotation z w)
       new-during rotate (rotating n w z) k l x y = same (λ n. fresh rotate ≡ rotatedAt S m n i j) k (suc n) (omega arith) (later-rotation n w z)
-      new-during second (setting-second n w z) k l x y = all i j pi pj .during k l (omega arith) (omega arith)
-      new-during third (setting-third n w z) k l x y = all i j pi pj .during k l (omega arith) (omega arith)
+      new-during phase1 (setting-phase1 n w z) k l x y = all i j pi pj .during k l (omega arith) (omega arith)
+      new-during phase2 (setting-phase2 n w z) k l x y = all i j pi pj .during k l (omega arith) (omega arith)
       new-during final (finishing n w z) k l x y = absurd (omega arith)
       new-during idle (finished w) k l x y = absurd (omega arith)
       new-during idle (stepless w z) k l x y = absurd (omega arith)
@@ -142,8 +142,8 @@ module _ {X H W : Type 0} (S : Operations X H W) (m K : ℕ) where
       new-after idle (waiting w) l = absurd (omega arith)
       new-after first (starting w z) l = absurd (omega arith)
       new-after rotate (rotating k w z) l = absurd (omega arith)
-      new-after second (setting-second k w z) l = absurd (omega arith)
-      new-after third (setting-third k w z) l = absurd (omega arith)
+      new-after phase1 (setting-phase1 k w z) l = absurd (omega arith)
+      new-after phase2 (setting-phase2 k w z) l = absurd (omega arith)
       new-after final (finishing k w z) l = same (λ n. fresh final ≡ blocksAt S m n i j) K (suc k) z (reads k i j pi pj (omega arith) w)
       new-after idle (finished w) l = all i j pi pj .after (omega arith)
       new-after idle (stepless w z) l = same (λ n. fresh idle ≡ blocksAt S m n i j) K 0 w (all i j pi pj .before (omega arith))
@@ -161,21 +161,21 @@ module _ {X H W : Type 0} (S : Operations X H W) (m K : ℕ) where
       new-parameter f c p held o g h rotate (rotating n w z) k l x y =
           same (λ n. cond (eqb i j) (f now i (incoming m (arrayAfter S m K t) i j)) p ≡ f n c (blocksAt S m n c c)) k (suc n) (omega arith)
           (rw (step-later n w) (sent f c (suc n) i j _ _ o (reads n i j pi pj (omega arith) w) (g (suc n) z w)))
-      new-parameter f c p held o g h second (setting-second n w z) k l x y = h k l (omega arith) (omega arith)
-      new-parameter f c p held o g h third (setting-third n w z) k l x y = h k l (omega arith) (omega arith)
+      new-parameter f c p held o g h phase1 (setting-phase1 n w z) k l x y = h k l (omega arith) (omega arith)
+      new-parameter f c p held o g h phase2 (setting-phase2 n w z) k l x y = h k l (omega arith) (omega arith)
       new-parameter f c p held o g h final (finishing n w z) k l x y = absurd (omega arith)
       new-parameter f c p held o g h idle (finished w) k l x y = absurd (omega arith)
       new-parameter f c p held o g h idle (stepless w z) k l x y = absurd (omega arith)
 
-      -- a line is written anew, or holds what it held
-      new-line : (a : Action) → View K (distance i j) t a → (r s : Side) (k : ℕ) → k < K → distance i j + phaseOf m r s i j + 3 * k < suc t
+      -- a wire is written anew, or holds what it held
+      new-wire : (a : Action) → View K (distance i j) t a → (r s : Side) (k : ℕ) → k < K → distance i j + phaseOf m r s i j + 3 * k < suc t
           → suc t ≤ distance i j + phaseOf m r s i j + 3 * suc k
-          → cell r s (newLines m i j a (fresh a) (old .lines)) ≡ cell (carried i r) (carried j s) (rotatedAt S m k i j)
-      unfolding newLines
-      new-line a w r s k l x y = cell-tab _ r s ∙ go (eqb (phaseIn a) (phaseOf m r s i j)) refl
+          → cell r s (newWires m i j a (fresh a) (old .wires)) ≡ cell (carried i r) (carried j s) (rotatedAt S m k i j)
+      unfolding newWires
+      new-wire a w r s k l x y = cell-tab _ r s ∙ go (eqb (phaseIn a) (phaseOf m r s i j)) refl
         where
           go : (b : Bool) → eqb (phaseIn a) (phaseOf m r s i j) ≡ b
-              → cond b (cell (carried i r) (carried j s) (fresh a)) (cell r s (old .lines)) ≡ cell (carried i r) (carried j s) (rotatedAt S m k i j)
+              → cond b (cell (carried i r) (carried j s) (fresh a)) (cell r s (old .wires)) ≡ cell (carried i r) (carried j s) (rotatedAt S m k i j)
           go true e =
               let f : phaseOf m r s i j < 3 = phase-lt m r s i j in
               let z : (n : ℕ) × (n < K) × (t ≡ distance i j + phaseOf m r s i j + 3 * n) =
@@ -184,7 +184,7 @@ module _ {X H W : Type 0} (S : Operations X H W) (m K : ℕ) where
           go false e =
               let f : phaseOf m r s i j < 3 = phase-lt m r s i j in
               let n : ¬ (t ≡ distance i j + phaseOf m r s i j + 3 * k) = λ u. eqb-false _ _ e (at-writes K (distance i j) t (phaseOf m r s i j) k a w f l u) in
-              all i j pi pj .line r s k l (omega arith) (omega arith)
+              all i j pi pj .wire r s k l (omega arith) (omega arith)
 
       next-known : Known (suc t) i j (arrayAfter S m K (suc t) i j)
       unfolding arrayAfter tick tickTile newTile rowParameter columnParameter
@@ -194,7 +194,7 @@ module _ {X H W : Type 0} (S : Operations X H W) (m K : ℕ) where
             before = new-before (actionAt K (distance i j) t) w;
             during = new-during (actionAt K (distance i j) t) w;
             after = new-after (actionAt K (distance i j) t) w;
-            line = new-line (actionAt K (distance i j) t) w;
+            wire = new-wire (actionAt K (distance i j) t) w;
             row = new-parameter (S .sendsRow) i _ _ (λ e. (refl, sym e)) (λ k l. row-in k i j pi pj l) (all i j pi pj .row) (actionAt K (distance i j) t) w;
             column =
                 new-parameter (S .sendsColumn) j _ _ (λ e. (e, refl)) (λ k l. column-in k i j pi pj l) (all i j pi pj .column) (actionAt K (distance i j) t) w;
@@ -207,7 +207,7 @@ module _ {X H W : Type 0} (S : Operations X H W) (m K : ℕ) where
         before = λ _. refl;
         during = λ k l x y. absurd (omega arith);
         after = λ x. absurd (omega arith);
-        line = λ r s k l x y. absurd (omega arith);
+        wire = λ r s k l x y. absurd (omega arith);
         row = λ k l x y. absurd (omega arith);
         column = λ k l x y. absurd (omega arith);
       }

@@ -4,7 +4,7 @@ use mathlib.Core.Path.{_≡_, refl}
 use Rattle.systolic.specs.Slots.{Slot}
 use Rattle.systolic.specs.Blocks.{Block}
 use Rattle.systolic.specs.Sequential.{Rules, operationsOf}
-use Rattle.systolic.specs.Tiles.{distance, Tile, Action, idle, first, rotate, second, third}
+use Rattle.systolic.specs.Tiles.{distance, Tile, Action, idle, first, rotate, phase1, phase2}
 use Rattle.systolic.specs.Tiles.{final, stepAt, actionAt, turnTile, newCells, newParameter, newTile, tickTile}
 use Rattle.systolic.specs.Arrays.{incoming, tick}
 
@@ -15,8 +15,8 @@ module _ {X H W : Type 0} (R : Rules X H W) (l l′ : Slot → ℕ) (M M′ : �
   tile-any-start m k i j idle o b p v = refl
   tile-any-start m k i j first o b p v = refl
   tile-any-start m k i j rotate o b p v = refl
-  tile-any-start m k i j second o b p v = refl
-  tile-any-start m k i j third o b p v = refl
+  tile-any-start m k i j phase1 o b p v = refl
+  tile-any-start m k i j phase2 o b p v = refl
   tile-any-start m k i j final o b p v = refl
 
   pub tick-any-start : (m K t : ℕ) (A : ℕ → ℕ → Tile X H W) (i j : ℕ)

@@ -8,10 +8,10 @@ use borrow.Author.Tests.{ltb-true, ltb-false}
 use lib.Dec.{ltb}
 use Rattle.systolic.specs.Blocks.{Block}
 use Rattle.systolic.specs.Synchronous.{Operations, blocksAt, rotatedAt}
-use Rattle.systolic.specs.Tiles.{distance, Action, idle, first, rotate, second, third, final, actionAt, newTile, tickTile}
+use Rattle.systolic.specs.Tiles.{distance, Action, idle, first, rotate, phase1, phase2, final, actionAt, newTile, tickTile}
 use Rattle.systolic.specs.Arrays.{tick, arrayAfter}
 use Rattle.lists.proofs.Bounded.{up-to, or-false, false-or}
-use Rattle.systolic.proofs.Clock.{View, waiting, starting, rotating, setting-second, setting-third, finishing, finished, stepless, view}
+use Rattle.systolic.proofs.Clock.{View, waiting, starting, rotating, setting-phase1, setting-phase2, finishing, finished, stepless, view}
 use Rattle.systolic.proofs.Skew.{all-known}
 
 module _ {X H W : Type 0} (S : Operations X H W) (m K : ℕ) where
@@ -100,8 +100,8 @@ idle-after m K t i j p q l = go (actionAt K (distance i j) t) (view K (distance 
     go idle v = refl
     go first (starting w z) = absurd (omega arith)
     go rotate (rotating k w z) = absurd (omega arith)
-    go second (setting-second k w z) = absurd (omega arith)
-    go third (setting-third k w z) = absurd (omega arith)
+    go phase1 (setting-phase1 k w z) = absurd (omega arith)
+    go phase2 (setting-phase2 k w z) = absurd (omega arith)
     go final (finishing k w z) = absurd (omega arith)
 
 -- The tiles farthest from the diagonal read for the last time in it.
@@ -112,8 +112,8 @@ final-at m K l = go (actionAt K (distance 0 m) (3 * K + m)) (view K (distance 0 
     go idle (waiting w) = absurd (omega arith)
     go first (starting w z) = absurd (omega arith)
     go rotate (rotating k w z) = absurd (omega arith)
-    go second (setting-second k w z) = absurd (omega arith)
-    go third (setting-third k w z) = absurd (omega arith)
+    go phase1 (setting-phase1 k w z) = absurd (omega arith)
+    go phase2 (setting-phase2 k w z) = absurd (omega arith)
     go final v = refl
     go idle (finished w) = absurd (omega arith)
     go idle (stepless w z) = absurd (omega arith)

@@ -1,4 +1,4 @@
--- Where the lines lead, and when. Assumes nothing.
+-- Where the wires lead, and when. Assumes nothing.
 use Prim.Native.Nat.{ℕ, zero, suc, _+_, _-_, _≤_, _<_}
 use mathlib.Core.Path.{_≡_, refl}
 use mathlib.Core.Bool.{Bool, true, false, cond}
@@ -34,7 +34,7 @@ joined-le m right i l = go (eqb i m) refl
     go true e = omega arith
     go false e = let n : ¬ (i ≡ m) = eqb-false _ _ e in omega arith
 
--- a line of a tile at distance D, written at phase φ, is read by a tile at distance D'
+-- a wire of a tile at distance D, written at phase φ, is read by a tile at distance D'
 abbrev pub InTime : ℕ → ℕ → ℕ → Type 0
 InTime D φ D' = (D' ≤ D + φ) × (D + φ ≤ D' + 2)
 

@@ -13,7 +13,7 @@ interchange i j x =
     (cond (eqb i 0) (record { α = x .β; β = x .α; γ = x .δ; δ = x .γ })
     (cond (eqb j 0) (record { α = x .γ; β = x .δ; γ = x .α; δ = x .β }) (record { α = x .δ; β = x .γ; γ = x .β; δ = x .α })))
 
--- Where a line leads: the tile's row and column, and which of its inputs.
+-- Where a wire leads: the tile's row and column, and which of its inputs.
 pub record Input : Type 0 where
   pub row : ℕ
   pub column : ℕ
@@ -38,7 +38,7 @@ leadsTo m right right i j =
     cond (eqb i m) (cond (eqb j m) (input i j right right) (input i (suc j) right left))
     (cond (eqb j m) (input (suc i) j left right) (input (suc i) (suc j) left left))
 
--- Program 3: whether tile (i, j) sets the line by the corner (r, s) in the phase T - Δ = 0, 1, 2 modulo 3.
+-- Program 3: whether tile (i, j) sets the wire by the corner (r, s) in the phase T - Δ = 0, 1, 2 modulo 3.
 unfoldable pub setInPhase0 : ℕ → Side → Side → ℕ → ℕ → Bool
 setInPhase0 m left left i j = false
 setInPhase0 m left right i j = ltb j i

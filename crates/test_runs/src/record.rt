@@ -1,5 +1,5 @@
 // What is written of a record: the order, the sweeps, the tick, and some of the tiles. Of a tile: its cells, the
-// lines that leave by its corners, those that leave along its row and its column, and its mark.
+// wires that leave by its corners, those that leave along its row and its column, and its mark.
 use array::Array;
 use sizes::MOST_PROCESSORS;
 use sizes::MOST_TILES;
@@ -63,11 +63,11 @@ fn print_if_in_use(processors: usize, i: usize, j: usize, tile: Tile) -> bool {
 
 fn print_tile(tile: Tile) -> bool {
     let cells = tile.cells;
-    let lines = tile.lines;
+    let wires = tile.wires;
     print_part(cells)
-        && print_part(lines)
-        && values::print_value(tile.row)
-        && values::print_value(tile.column)
+        && print_part(wires)
+        && values::print_value(tile.row_wire)
+        && values::print_value(tile.column_wire)
         && test_io::print_word(tile.mark as u64)
 }
 

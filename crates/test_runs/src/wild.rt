@@ -41,9 +41,9 @@ fn filled(n: usize, sweeps: usize, tick: usize, value: f64) -> Array {
     };
     let tile = Tile {
         cells: part,
-        lines: part,
-        row: value,
-        column: value,
+        wires: part,
+        row_wire: value,
+        column_wire: value,
         mark: false,
     };
     Array {

@@ -3,8 +3,8 @@
 use mathlib.Core.Path.{_≡_, refl}
 use mathlib.Core.List.{[], _∷_}
 use Rattle.test_systolic.specs.Readings.{upTo, registersOver, movesOver, meetingSteps, connections, outputs}
-use Rattle.test_systolic.specs.Readings.{cellsAfter, linesAfter, parametersAfter, marksAfter, tilesAfter, stampedAfter}
-use Rattle.test_systolic.specs.Readings.{trafficIn, linesSetOver, receivedOver, plainOver, failsOver, blocksOver}
+use Rattle.test_systolic.specs.Readings.{cellsAfter, wiresAfter, parametersAfter, marksAfter, tilesAfter, stampedAfter}
+use Rattle.test_systolic.specs.Readings.{trafficIn, wiresSetOver, receivedOver, plainOver, failsOver, blocksOver}
 use Rattle.test_systolic.specs.Readings.{sentOver}
 
 -- the left and the right register of each processor, a digit each, before steps 0 to 2 N
@@ -169,7 +169,7 @@ connections-4 : connections 3 ≡
 unfolding connections
 connections-4 = refl
 
--- of each tile Algorithm Interchange on the cells 1 2 / 3 4, and its lines, at 5 6 / 7 8, after each of the three phases
+-- of each tile Algorithm Interchange on the cells 1 2 / 3 4, and its wires, at 5 6 / 7 8, after each of the three phases
 outputs-1 : outputs 0 ≡
     (1234 ∷ 5678 ∷ 1674 ∷ 5238 ∷ []) ∷
     []
@@ -369,8 +369,8 @@ cells-5-2 : cellsAfter 4 2 (5 ∷ []) ≡
 unfolding cellsAfter
 cells-5-2 = refl
 
--- its outgoing lines
-lines-1-1 : linesAfter 0 1 (upTo 5) ≡
+-- its outgoing wires
+wires-1-1 : wiresAfter 0 1 (upTo 5) ≡
     (901901901901 ∷ []) ∷
     (901901901901 ∷ []) ∷
     (566901901774 ∷ []) ∷
@@ -378,10 +378,10 @@ lines-1-1 : linesAfter 0 1 (upTo 5) ≡
     (566436251774 ∷ []) ∷
     (566436251774 ∷ []) ∷
     []
-unfolding linesAfter
-lines-1-1 = refl
+unfolding wiresAfter
+wires-1-1 = refl
 
-lines-1-2 : linesAfter 0 2 (upTo 8) ≡
+wires-1-2 : wiresAfter 0 2 (upTo 8) ≡
     (901901901901 ∷ []) ∷
     (901901901901 ∷ []) ∷
     (566901901774 ∷ []) ∷
@@ -392,10 +392,10 @@ lines-1-2 : linesAfter 0 2 (upTo 8) ≡
     (152726481640 ∷ []) ∷
     (152726481640 ∷ []) ∷
     []
-unfolding linesAfter
-lines-1-2 = refl
+unfolding wiresAfter
+wires-1-2 = refl
 
-lines-2-1 : linesAfter 1 1 (upTo 6) ≡
+wires-2-1 : wiresAfter 1 1 (upTo 6) ≡
     (901901901901 ∷ 901901901901 ∷ 901901901901 ∷ 901901901901 ∷ []) ∷
     (901901901901 ∷ 901901901901 ∷ 901901901901 ∷ 901901901901 ∷ []) ∷
     (566901901901 ∷ 901901819901 ∷ 901576901901 ∷ 901901901278 ∷ []) ∷
@@ -404,10 +404,10 @@ lines-2-1 : linesAfter 1 1 (upTo 6) ≡
     (566436251774 ∷ 457977819203 ∷ 324576634805 ∷ 107221293278 ∷ []) ∷
     (566436251774 ∷ 457977819203 ∷ 324576634805 ∷ 107221293278 ∷ []) ∷
     []
-unfolding linesAfter
-lines-2-1 = refl
+unfolding wiresAfter
+wires-2-1 = refl
 
-lines-2-2 : linesAfter 1 2 (upTo 9) ≡
+wires-2-2 : wiresAfter 1 2 (upTo 9) ≡
     (901901901901 ∷ 901901901901 ∷ 901901901901 ∷ 901901901901 ∷ []) ∷
     (901901901901 ∷ 901901901901 ∷ 901901901901 ∷ 901901901901 ∷ []) ∷
     (566901901901 ∷ 901901819901 ∷ 901576901901 ∷ 901901901278 ∷ []) ∷
@@ -419,16 +419,16 @@ lines-2-2 : linesAfter 1 2 (upTo 9) ≡
     (896313833968 ∷ 621347911522 ∷ 842264990734 ∷ 237418416177 ∷ []) ∷
     (896313833968 ∷ 621347911522 ∷ 842264990734 ∷ 237418416177 ∷ []) ∷
     []
-unfolding linesAfter
-lines-2-2 = refl
+unfolding wiresAfter
+wires-2-2 = refl
 
-lines-2-3 : linesAfter 1 3 (9 ∷ []) ≡
+wires-2-3 : wiresAfter 1 3 (9 ∷ []) ≡
     (574057091566 ∷ 733347281807 ∷ 771687990644 ∷ 673851815471 ∷ []) ∷
     []
-unfolding linesAfter
-lines-2-3 = refl
+unfolding wiresAfter
+wires-2-3 = refl
 
-lines-3-1 : linesAfter 2 1 (upTo 7) ≡
+wires-3-1 : wiresAfter 2 1 (upTo 7) ≡
     (901901901901 ∷ 901901901901 ∷ 901901901901 ∷ 901901901901 ∷ 901901901901 ∷ 901901901901 ∷ 901901901901 ∷ 901901901901 ∷
     901901901901 ∷ []) ∷
     (901901901901 ∷ 901901901901 ∷ 901901901901 ∷ 901901901901 ∷ 901901901901 ∷ 901901901901 ∷ 901901901901 ∷ 901901901901 ∷
@@ -446,10 +446,10 @@ lines-3-1 : linesAfter 2 1 (upTo 7) ≡
     (566436251774 ∷ 457977819203 ∷ 570476309428 ∷ 324576634805 ∷ 107221293278 ∷ 546002176355 ∷ 260087648181 ∷ 943731514725 ∷
     790368972988 ∷ []) ∷
     []
-unfolding linesAfter
-lines-3-1 = refl
+unfolding wiresAfter
+wires-3-1 = refl
 
-lines-3-2 : linesAfter 2 2 (upTo 10) ≡
+wires-3-2 : wiresAfter 2 2 (upTo 10) ≡
     (901901901901 ∷ 901901901901 ∷ 901901901901 ∷ 901901901901 ∷ 901901901901 ∷ 901901901901 ∷ 901901901901 ∷ 901901901901 ∷
     901901901901 ∷ []) ∷
     (901901901901 ∷ 901901901901 ∷ 901901901901 ∷ 901901901901 ∷ 901901901901 ∷ 901901901901 ∷ 901901901901 ∷ 901901901901 ∷
@@ -473,10 +473,10 @@ lines-3-2 : linesAfter 2 2 (upTo 10) ≡
     (896313833968 ∷ 817022143929 ∷ 7039880062 ∷ 623992618353 ∷ 294216522489 ∷ 203227520087 ∷ 60841425424 ∷ 521438445736 ∷
     135499864236 ∷ []) ∷
     []
-unfolding linesAfter
-lines-3-2 = refl
+unfolding wiresAfter
+wires-3-2 = refl
 
-lines-4-1 : linesAfter 3 1 (upTo 8) ≡
+wires-4-1 : wiresAfter 3 1 (upTo 8) ≡
     (901901901901 ∷ 901901901901 ∷ 901901901901 ∷ 901901901901 ∷ 901901901901 ∷ 901901901901 ∷ 901901901901 ∷ 901901901901 ∷
     901901901901 ∷ 901901901901 ∷ 901901901901 ∷ 901901901901 ∷ 901901901901 ∷ 901901901901 ∷ 901901901901 ∷ 901901901901 ∷ []) ∷
     (901901901901 ∷ 901901901901 ∷ 901901901901 ∷ 901901901901 ∷ 901901901901 ∷ 901901901901 ∷ 901901901901 ∷ 901901901901 ∷
@@ -496,10 +496,10 @@ lines-4-1 : linesAfter 3 1 (upTo 8) ≡
     (566436251774 ∷ 457977819203 ∷ 570476309428 ∷ 862306247578 ∷ 324576634805 ∷ 107221293278 ∷ 546002176355 ∷ 90309225654 ∷ 260087648181 ∷
     943731514725 ∷ 790368972988 ∷ 877191800409 ∷ 855711375802 ∷ 332220820842 ∷ 314198086264 ∷ 829692479702 ∷ []) ∷
     []
-unfolding linesAfter
-lines-4-1 = refl
+unfolding wiresAfter
+wires-4-1 = refl
 
-lines-4-2 : linesAfter 3 2 (2 ∷ 4 ∷ 6 ∷ 8 ∷ 10 ∷ []) ≡
+wires-4-2 : wiresAfter 3 2 (2 ∷ 4 ∷ 6 ∷ 8 ∷ 10 ∷ []) ≡
     (566901901901 ∷ 901901819901 ∷ 901901901901 ∷ 901901901901 ∷ 901576901901 ∷ 901901901901 ∷ 901901176901 ∷ 901901901901 ∷
     901901901901 ∷ 901731901901 ∷ 901901901901 ∷ 901901800901 ∷ 901901901901 ∷ 901901901901 ∷ 901198901901 ∷ 901901901702 ∷ []) ∷
     (566436251774 ∷ 457977819203 ∷ 570901309901 ∷ 901901247901 ∷ 324576634805 ∷ 107221293278 ∷ 546002176355 ∷ 901901225654 ∷
@@ -511,18 +511,18 @@ lines-4-2 : linesAfter 3 2 (2 ∷ 4 ∷ 6 ∷ 8 ∷ 10 ∷ []) ≡
     (896313833968 ∷ 817022143929 ∷ 979595423449 ∷ 750824620631 ∷ 623992618353 ∷ 294216522489 ∷ 331168285580 ∷ 901210413425 ∷
     850351824743 ∷ 141417652166 ∷ 469476447196 ∷ 794085711574 ∷ 5175910828 ∷ 204975381707 ∷ 931253415448 ∷ 434662443515 ∷ []) ∷
     []
-unfolding linesAfter
-lines-4-2 = refl
+unfolding wiresAfter
+wires-4-2 = refl
 
-lines-5-2 : linesAfter 4 2 (5 ∷ []) ≡
+wires-5-2 : wiresAfter 4 2 (5 ∷ []) ≡
     (896436251774 ∷ 457977143203 ∷ 570476309428 ∷ 862901247901 ∷ 901901695901 ∷ 324992634805 ∷ 107221293278 ∷ 546002285355 ∷ 90309225654 ∷
     901901323202 ∷ 260087648181 ∷ 943417514725 ∷ 790368972988 ∷ 877191281409 ∷ 46555835639 ∷ 855711901901 ∷ 332220820842 ∷ 314557086264 ∷
     829692479702 ∷ 360369975117 ∷ 901111901901 ∷ 901986901637 ∷ 951331481438 ∷ 567294612442 ∷ 224196808966 ∷ []) ∷
     []
-unfolding linesAfter
-lines-5-2 = refl
+unfolding wiresAfter
+wires-5-2 = refl
 
--- its parameter lines, along the row and along the column
+-- its parameter wires, along the row and along the column
 parameters-1-1 : parametersAfter 0 1 (upTo 5) ≡
     (902903 ∷ []) ∷
     (511781 ∷ []) ∷
@@ -714,7 +714,7 @@ marks-5-2 : marksAfter 4 2 (5 ∷ []) ≡ 1001000010010110001100011 ∷ []
 unfolding marksAfter
 marks-5-2 = refl
 
--- an array that runs no step: of every tile the cells, the lines, the parameter lines and the mark, beside each other
+-- an array that runs no step: of every tile the cells, the wires, the parameter wires and the mark, beside each other
 tiles-1-0 : tilesAfter 0 0 (upTo 2) ≡
     (2603783294649019019019019029030 ∷ []) ∷
     (2603783294649019019019019029030 ∷ []) ∷
@@ -895,15 +895,15 @@ traffic-4 : trafficIn 3 2 11 ≡
 unfolding trafficIn
 traffic-4 = refl
 
--- how many lines are set and how many parameters received in runs of 0 to 3 steps, for N = 1 to 4
-lines-set : linesSetOver 4 ≡
+-- how many wires are set and how many parameters received in runs of 0 to 3 steps, for N = 1 to 4
+wires-set : wiresSetOver 4 ≡
     (0 ∷ 4 ∷ 8 ∷ 12 ∷ []) ∷
     (0 ∷ 16 ∷ 32 ∷ 48 ∷ []) ∷
     (0 ∷ 36 ∷ 72 ∷ 108 ∷ []) ∷
     (0 ∷ 64 ∷ 128 ∷ 192 ∷ []) ∷
     []
-unfolding linesSetOver
-lines-set = refl
+unfolding wiresSetOver
+wires-set = refl
 
 received : receivedOver 4 ≡
     (0 ∷ 0 ∷ 0 ∷ 0 ∷ []) ∷

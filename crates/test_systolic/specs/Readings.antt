@@ -10,10 +10,10 @@ use Rattle.lists.specs.Bounded.{any}
 use Rattle.systolic.specs.Blocks.{Block, cell, tab, pick}
 use Rattle.systolic.specs.Synchronous.{rotateAll, moveAll, blocksAt, rotatedAt, rowParameter, columnParameter}
 use Rattle.systolic.specs.Tiles.{Tile, carried, joined, phaseOf, action, actionAt, stepAt, turnTile}
-use Rattle.systolic.specs.Tiles.{newCells, newParameter, phaseIn, newLines, newTile, tickTile}
+use Rattle.systolic.specs.Tiles.{newCells, newParameter, phaseIn, newWires, newTile, tickTile}
 use Rattle.systolic.specs.Arrays.{nearer, incoming, tick, arrayAfter}
 use Rattle.systolic.specs.Schedule.{interchange, Input, leadsTo, setInPhase0, setInPhase1, setInPhase2}
-use Rattle.systolic.specs.Traffic.{setsLine, receives}
+use Rattle.systolic.specs.Traffic.{setsWire, receives}
 use Rattle.systolic.specs.Sequential.{turnRows, turnColumns, pairBlock, place, pairStep, pairsStep, sequential, failsIn}
 use Rattle.test_systolic.specs.Toy.{toy, entry, toyArray, stampedArray}
 
@@ -108,23 +108,23 @@ unfoldable pub interchanged : ℕ → ℕ → Block ℕ
 unfolding interchange
 interchanged i j = interchange i j (record { α = 1; β = 2; γ = 3; δ = 4 })
 
--- and what is then set of it, by a test, over the lines 5 6 / 7 8
-unfoldable pub linesSet : (Side → Side → ℕ → ℕ → Bool) → ℕ → ℕ → ℕ
+-- and what is then set of it, by a test, over the wires 5 6 / 7 8
+unfoldable pub wiresSet : (Side → Side → ℕ → ℕ → Bool) → ℕ → ℕ → ℕ
 unfolding tab cell blockDigits interchanged
-linesSet f i j =
+wiresSet f i j =
     blockDigits 10 (tab (λ r s. cond (f r s i j) (cell r s (interchanged i j)) (cell r s (record { α = 5; β = 6; γ = 7; δ = 8 }))))
 
--- the outputs, and the lines after each phase
+-- the outputs, and the wires after each phase
 unfoldable pub outputs : ℕ → List (List ℕ)
-unfolding square blockDigits interchanged linesSet setInPhase0 setInPhase1 setInPhase2
+unfolding square blockDigits interchanged wiresSet setInPhase0 setInPhase1 setInPhase2
 outputs m =
     square (suc m)
     (λ i j.
-    blockDigits 10 (interchanged i j) ∷ linesSet (setInPhase0 m) i j ∷ linesSet (setInPhase1 m) i j ∷ linesSet (setInPhase2 m) i j ∷ [])
+    blockDigits 10 (interchanged i j) ∷ wiresSet (setInPhase0 m) i j ∷ wiresSet (setInPhase1 m) i j ∷ wiresSet (setInPhase2 m) i j ∷ [])
 
 -- ---- the array
 unfoldable pub array : ℕ → ℕ → ℕ → ℕ → ℕ → Tile ℕ ℕ ℕ
-unfolding toyArray pick flip carried joined phaseOf action actionAt stepAt turnTile newCells newParameter phaseIn newLines newTile tickTile nearer incoming tick arrayAfter
+unfolding toyArray pick flip carried joined phaseOf action actionAt stepAt turnTile newCells newParameter phaseIn newWires newTile tickTile nearer incoming tick arrayAfter
 array m K t = arrayAfter toyArray m K t
 
 -- Each of these reads the array after every number of ticks in a list.
@@ -132,23 +132,23 @@ unfoldable pub cellsAfter : ℕ → ℕ → List ℕ → List (List ℕ)
 unfolding each upTo square blockDigits array
 cellsAfter m K ts = each ts (λ t. square (suc m) (λ i j. blockDigits 1000 (array m K t i j .cells)))
 
-unfoldable pub linesAfter : ℕ → ℕ → List ℕ → List (List ℕ)
+unfoldable pub wiresAfter : ℕ → ℕ → List ℕ → List (List ℕ)
 unfolding each upTo square blockDigits array
-linesAfter m K ts = each ts (λ t. square (suc m) (λ i j. blockDigits 1000 (array m K t i j .lines)))
+wiresAfter m K ts = each ts (λ t. square (suc m) (λ i j. blockDigits 1000 (array m K t i j .wires)))
 
 unfoldable pub parametersAfter : ℕ → ℕ → List ℕ → List (List ℕ)
 unfolding each upTo square array
-parametersAfter m K ts = each ts (λ t. square (suc m) (λ i j. array m K t i j .rowLine * 1000 + array m K t i j .columnLine))
+parametersAfter m K ts = each ts (λ t. square (suc m) (λ i j. array m K t i j .rowWire * 1000 + array m K t i j .columnWire))
 
 unfoldable pub marksAfter : ℕ → ℕ → List ℕ → List ℕ
 unfolding each upTo digits array
 marksAfter m K ts = each ts (λ t. digits 10 (suc m * suc m) (λ k. digit (array m K t (k / suc m) (k % suc m) .mark)))
 
--- all of a tile: cells, lines, parameter lines and mark beside each other
+-- all of a tile: cells, wires, parameter wires and mark beside each other
 unfoldable pub tileDigits : Tile ℕ ℕ ℕ → ℕ
 unfolding blockDigits
 tileDigits x =
-    (((blockDigits 1000 (x .cells) * 1_000_000_000_000 + blockDigits 1000 (x .lines)) * 1000 + x .rowLine) * 1000 + x .columnLine) * 10 + digit (x .mark)
+    (((blockDigits 1000 (x .cells) * 1_000_000_000_000 + blockDigits 1000 (x .wires)) * 1000 + x .rowWire) * 1000 + x .columnWire) * 10 + digit (x .mark)
 
 unfoldable pub tilesAfter : ℕ → ℕ → List ℕ → List (List ℕ)
 unfolding each upTo square tileDigits array
@@ -161,8 +161,8 @@ stampedAfter m K ts = each ts (λ t. square (suc m) (λ i j. blockDigits 1000 (a
 
 -- ---- traffic
 unfoldable pub sets : ℕ → ℕ → ℕ → ℕ → ℕ → ℕ → ℕ
-unfolding sideOf setsLine phaseIn actionAt action phaseOf
-sets m K t k i j = digit (setsLine m K t (sideOf (k / 2)) (sideOf (k % 2)) i j)
+unfolding sideOf setsWire phaseIn actionAt action phaseOf
+sets m K t k i j = digit (setsWire m K t (sideOf (k / 2)) (sideOf (k % 2)) i j)
 
 unfoldable pub gets : ℕ → ℕ → ℕ → ℕ → ℕ
 unfolding receives actionAt action
@@ -177,10 +177,10 @@ unfoldable pub sumSquare : ℕ → (ℕ → ℕ → ℕ) → ℕ
 unfolding sum
 sumSquare n f = sum n (λ i. sum n (λ j. f i j))
 
--- over a run, the lines set
-unfoldable pub linesSetIn : ℕ → ℕ → ℕ
+-- over a run, the wires set
+unfoldable pub wiresSetIn : ℕ → ℕ → ℕ
 unfolding sum sumSquare sets
-linesSetIn m K = sum (3 * K + m + 1) (λ t. sumSquare (suc m) (λ i j. sum 4 (λ k. sets m K t k i j)))
+wiresSetIn m K = sum (3 * K + m + 1) (λ t. sumSquare (suc m) (λ i j. sum 4 (λ k. sets m K t k i j)))
 
 -- and the parameters received, one along the row and one along the column
 unfoldable pub receivedIn : ℕ → ℕ → ℕ
@@ -188,9 +188,9 @@ unfolding sum sumSquare gets
 receivedIn m K = sum (3 * K + m + 1) (λ t. sumSquare (suc m) (λ i j. 2 * gets K t i j))
 
 -- for N = 1 to n, in runs of 0 to 3 steps
-unfoldable pub linesSetOver : ℕ → List (List ℕ)
-unfolding listFrom linesSetIn
-linesSetOver n = listFrom 0 n (λ m. listFrom 0 4 (linesSetIn m))
+unfoldable pub wiresSetOver : ℕ → List (List ℕ)
+unfolding listFrom wiresSetIn
+wiresSetOver n = listFrom 0 n (λ m. listFrom 0 4 (wiresSetIn m))
 
 unfoldable pub receivedOver : ℕ → List (List ℕ)
 unfolding listFrom receivedIn

@@ -72,7 +72,7 @@ unfoldable pub stampedArray : Operations ℕ ℕ ℕ
 unfolding toyArray stamp
 stampedArray =
     record {
-      lineStart = 901;
+      wireStart = 901;
       rowStart = 902;
       columnStart = 903;
       initial = blockAt (inOrder 1) entry;

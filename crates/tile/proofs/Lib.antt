@@ -1,4 +1,4 @@
 pub mod TileWork
-pub mod LinesSet
+pub mod SetWires
 pub mod TileTick
-pub mod CellsBrought
+pub mod IncomingCells

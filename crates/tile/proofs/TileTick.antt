@@ -6,7 +6,7 @@ use lib.Ieee.{Float}
 use Rattle.systolic.specs.Tiles as theory
 use Rattle.systolic.specs.Tiles.{phaseIn, turnedTile, settledTile}
 use Rattle.tile_wires.specs.declared.Part.{Part}
-use Rattle.tile_wires.specs.Lines.{partLines}
+use Rattle.tile_wires.specs.Wires.{partWires}
 use Rattle.rotation.specs.declared.Angle.{Angle}
 use Rattle.rotation.specs.Rotation.{angleOf}
 use Rattle.runs.specs.Cells.{Setting}
@@ -14,7 +14,7 @@ use Rattle.tile.specs.declared.Tile.{Tile}
 use Rattle.tile.specs.Tiles.{blockOf, theTile, operations}
 use Rattle.tile.specs.Turned.{turnedOf, partNotFinite}
 use Rattle.tile.proofs.TileWork.{worked-cells, worked-row, worked-column, some-fail}
-use Rattle.tile.proofs.LinesSet.{part-lines}
+use Rattle.tile.proofs.SetWires.{part-wires}
 
 module _ (s : Setting) (x : Tile) (i j : ℕ) (a : theory.Action) where
   -- A tile on the diagonal uses neither angle.
@@ -23,13 +23,14 @@ module _ (s : Setting) (x : Tile) (i j : ℕ) (a : theory.Action) where
   unfolding theTile turnedOf
   tile-turned k q h v row column e f =
       rw (
-        worked-cells s k i j h v row column e f (x .cells) q (x .row) (x .column) a,
-        worked-row s k i j h v row column e f (x .cells) q (x .row) (x .column) a,
-        worked-column s k i j h v row column e f (x .cells) q (x .row) (x .column) a,
+        worked-cells s k i j h v row column e f (x .cells) q (x .«row_wire») (x .«column_wire») a,
+        worked-row s k i j h v row column e f (x .cells) q (x .«row_wire») (x .«column_wire») a,
+        worked-column s k i j h v row column e f (x .cells) q (x .«row_wire») (x .«column_wire») a,
       )
 
-  pub tile-settled : (m : ℕ) {ph : ℕ} {out : Part} {mark : Bool} → ph ≡ phaseIn a → out ≡ partLines ph m i j (x .cells) (x .lines)
+  pub tile-settled : (m : ℕ) {ph : ℕ} {out : Part} {mark : Bool} → ph ≡ phaseIn a → out ≡ partWires ph m i j (x .cells) (x .wires)
       → mark ≡ (x .mark || partNotFinite (x .cells))
-      → theTile (record { cells = x .cells; lines = out; row = x .row; column = x .column; mark = mark }) ≡ settledTile (operations s) m i j a (theTile x)
+      → theTile (record { cells = x .cells; wires = out; «row_wire» = x .«row_wire»; «column_wire» = x .«column_wire»; mark = mark })
+      ≡ settledTile (operations s) m i j a (theTile x)
   unfolding theTile
-  tile-settled m p f g = rw (f, p, g, part-lines a m i j (x .cells) (x .lines), some-fail s (x .cells))
+  tile-settled m p f g = rw (f, p, g, part-wires a m i j (x .cells) (x .wires), some-fail s (x .cells))

@@ -8,7 +8,7 @@ use lib.Ieee.{Float}
 use Rattle.float64.specs.Values.{finite}
 use Rattle.systolic.specs.Blocks.{cell, tab}
 use Rattle.systolic.specs.Sequential.{turnBlockRows, turnBlockColumns, anyFails, operationsOf}
-use Rattle.systolic.specs.Tiles.{Action, idle, first, rotate, second, third, final, turnTile, newCells, newParameter}
+use Rattle.systolic.specs.Tiles.{Action, idle, first, rotate, phase1, phase2, final, turnTile, newCells, newParameter}
 use Rattle.tile_wires.specs.declared.Part.{Part}
 use Rattle.rotation.specs.declared.Angle.{Angle}
 use Rattle.rotation.specs.Rotation.{angleOf, ofTangent}
@@ -71,8 +71,8 @@ module _ (s : Setting) (k i j : ℕ) where
       worked-cells idle = refl
       worked-cells first = rotated-cells p
       worked-cells rotate = rotated-cells q
-      worked-cells second = refl
-      worked-cells third = refl
+      worked-cells phase1 = refl
+      worked-cells phase2 = refl
       worked-cells final = refl
 
       pub worked-row : (a : Action)
@@ -81,8 +81,8 @@ module _ (s : Setting) (k i j : ℕ) where
       worked-row idle = refl
       worked-row first = rotated-row p
       worked-row rotate = rotated-row q
-      worked-row second = refl
-      worked-row third = refl
+      worked-row phase1 = refl
+      worked-row phase2 = refl
       worked-row final = refl
 
       pub worked-column : (a : Action)
@@ -91,8 +91,8 @@ module _ (s : Setting) (k i j : ℕ) where
       worked-column idle = refl
       worked-column first = rotated-column p
       worked-column rotate = rotated-column q
-      worked-column second = refl
-      worked-column third = refl
+      worked-column phase1 = refl
+      worked-column phase2 = refl
       worked-column final = refl
 
 -- ---- the mark

@@ -25,13 +25,13 @@ unfoldable pub blockOf : Part → Block Cell
 blockOf p = cellsOf (quadBlock (p .matrix)) (quadBlock (p .vectors))
 
 unfoldable pub theTile : Tile → theory.Tile Cell Float Float
-theTile x = record { cells = blockOf (x .cells); lines = blockOf (x .lines); rowLine = x .row; columnLine = x .column; mark = x .mark }
+theTile x = record { cells = blockOf (x .cells); wires = blockOf (x .wires); rowWire = x .«row_wire»; columnWire = x .«column_wire»; mark = x .mark }
 
 -- What the tiles do, by the rules of any run. A tick does not look at the start.
 unfoldable pub operations : Setting → Operations Cell Float Float
 operations s = operationsOf (rules s) (inOrder (firstLine (s .order))) (λ r c. cell plusZero plusZero) (cell plusZero plusZero) plusZero plusZero
 
--- What the lines bring to tile (i, j), where a, b, c and d are the lines of the tiles that its corners are joined with.
+-- What the wires bring to tile (i, j), where a, b, c and d are the wires of the tiles that its corners are joined with.
 unfoldable pub broughtTo : ℕ → ℕ → ℕ → Block Cell → Block Cell → Block Cell → Block Cell → Block Cell
 broughtTo m i j a b c d =
     record {

@@ -54,19 +54,19 @@ unfoldable pub rotatedOf : Part → ℕ → ℕ → Angle → Angle → Work
 rotatedOf p i j row column =
     cond (eqb i j) (onDiagonalOf p) (record { cells = offDiagonalOf p (ltb i j) row column; row = row .tangent; column = column .tangent })
 
--- The cells that a tile works on: its own, p, or where it reads its lines what they bring, q.
+-- The cells that a tile works on: its own, p, or where it reads its wires what they bring, q.
 abbrev pub takenOf : Action → Part → Part → Part
 takenOf a p q = cond (readsCells a) q p
 
 abbrev pub workedOf : Action → Part → ℕ → ℕ → Angle → Angle → Float → Float → Work
 workedOf a p i j row column r c = cond (rotates a) (rotatedOf p i j row column) (record { cells = p; row = r; column = c })
 
--- The tile with its cells and its parameter lines as they are after the tick.
+-- The tile with its cells and its parameter wires as they are after the tick.
 abbrev pub tileWorked : Tile → Work → Tile
-tileWorked x w = record { cells = w .cells; lines = x .lines; row = w .row; column = w .column; mark = x .mark }
+tileWorked x w = record { cells = w .cells; wires = x .wires; «row_wire» = w .row; «column_wire» = w .column; mark = x .mark }
 
 unfoldable pub turnedOf : Action → Tile → Part → ℕ → ℕ → Angle → Angle → Tile
-turnedOf a x q i j row column = tileWorked x (workedOf a (takenOf a (x .cells) q) i j row column (x .row) (x .column))
+turnedOf a x q i j row column = tileWorked x (workedOf a (takenOf a (x .cells) q) i j row column (x .«row_wire») (x .«column_wire»))
 
 unfoldable pub quadNotFinite : Quad → Bool
 quadNotFinite q = not (finite (q .alpha)) || (not (finite (q .beta)) || (not (finite (q .gamma)) || not (finite (q .delta))))

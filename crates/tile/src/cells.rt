@@ -10,14 +10,14 @@ use tile_schedule::Action;
 use tile_wires::Part;
 use tile_wires::Quad;
 
-// The cells of a tile after its work, and what its parameter lines carry.
+// The cells of a tile after its work, and what its parameter wires carry.
 pub struct Work {
     pub cells: Part,
     pub row: f64,
     pub column: f64,
 }
 
-// The cells that a tile works on: its own, or where it reads its lines what they bring.
+// The cells that a tile works on: its own, or where it reads its wires what they bring.
 pub fn taken(action: Action, cells: Part, brought: Part) -> Part
     ensures { λ r. ⌜ r ≡ takenOf (theAction action) cells brought ⌝ }
 {

@@ -1,7 +1,7 @@
 // One tile of the array in one tick (document 01, "The array").
 ghost use mathlib.Core.Path.{_≡_};
 ghost use Rattle.systolic.specs.Tiles.{distance, actionAt, settledTile};
-ghost use Rattle.tile_wires.specs.Lines.{incomingPart};
+ghost use Rattle.tile_wires.specs.Wires.{incomingPart};
 ghost use Rattle.runs.specs.Cells.{Setting};
 ghost use Rattle.tile.specs.Tiles.{theTile, operations};
 ghost use Rattle.tile.specs.Turned.{turnedOf};
@@ -10,19 +10,19 @@ use tile_wires::Part;
 
 mod cells;
 
-// The cells of a tile, its outgoing lines, each named after the corner that it leaves by, its outgoing parameter lines along its row and
+// The cells of a tile, its outgoing wires, each named after the corner that it leaves by, its outgoing parameter wires along its row and
 // along its column, and its mark.
 pub struct Tile {
     pub cells: Part,
-    pub lines: Part,
-    pub row: f64,
-    pub column: f64,
+    pub wires: Part,
+    pub row_wire: f64,
+    pub column_wire: f64,
     pub mark: bool,
 }
 
 impl Tile {
-    // The tile in row i and column j, from 0, with its cells and its parameter lines as they are after a tick of a run of so many steps. Its
-    // cell lines bring the cells `brought`, its parameter lines the tangents of `row` and `column`.
+    // The tile in row i and column j, from 0, with its cells and its parameter wires as they are after a tick of a run of so many steps. Its
+    // cell wires bring the cells `brought`, its parameter wires the tangents of `row` and `column`.
     pub fn turned(
         self,
         brought: Part,
@@ -37,39 +37,48 @@ impl Tile {
     {
         let action = tile_schedule::action_at(steps, i, j, tick);
         let own = self.cells;
-        let lines = self.lines;
+        let wires = self.wires;
         let cells = cells::taken(action, own, brought);
-        let work = cells::worked(action, cells, i, j, row, column, self.row, self.column);
+        let work = cells::worked(
+            action,
+            cells,
+            i,
+            j,
+            row,
+            column,
+            self.row_wire,
+            self.column_wire,
+        );
         let new = work.cells;
         Tile {
             cells: new,
-            lines: lines,
-            row: work.row,
-            column: work.column,
+            wires: wires,
+            row_wire: work.row,
+            column_wire: work.column,
             mark: self.mark,
         }
     }
 
-    // A turned tile with its cell lines and its mark as they are after the tick, whatever the run's setting; `last` is the last row and column.
+    // A turned tile with its cell wires and its mark as they are after the tick, whatever the run's setting; `last` is the last row and column.
     pub fn after(self, last: usize, steps: usize, tick: usize, i: usize, j: usize) -> Tile
         ensures { λ r. ⌜ ((s : Setting) → theTile r ≡ settledTile (operations s) last i j (actionAt steps (distance i j) tick) (theTile self)) ⌝ }
     {
         let phase = tile_schedule::phase_in(tile_schedule::action_at(steps, i, j, tick));
         let cells = self.cells;
-        let lines = self.lines;
-        let out = tile_wires::after(phase, last, i, j, cells, lines);
+        let wires = self.wires;
+        let out = tile_wires::after(phase, last, i, j, cells, wires);
         let mark = cells::is_marked(self.mark, cells);
         Tile {
             cells: cells,
-            lines: out,
-            row: self.row,
-            column: self.column,
+            wires: out,
+            row_wire: self.row_wire,
+            column_wire: self.column_wire,
             mark: mark,
         }
     }
 }
 
-// The cells that the lines bring to the tile in row i and column j, from 0, from the tiles that its corners are joined with; `last` is the
+// The cells that the wires bring to the tile in row i and column j, from 0, from the tiles that its corners are joined with; `last` is the
 // last row and column.
 pub fn brought(
     alpha: Tile,
@@ -80,11 +89,11 @@ pub fn brought(
     i: usize,
     j: usize,
 ) -> Part
-    ensures { λ r. ⌜ r ≡ incomingPart (alpha .lines) (beta .lines) (gamma .lines) (delta .lines) last i j ⌝ }
+    ensures { λ r. ⌜ r ≡ incomingPart (alpha .wires) (beta .wires) (gamma .wires) (delta .wires) last i j ⌝ }
 {
-    let by_alpha = alpha.lines;
-    let by_beta = beta.lines;
-    let by_gamma = gamma.lines;
-    let by_delta = delta.lines;
+    let by_alpha = alpha.wires;
+    let by_beta = beta.wires;
+    let by_gamma = gamma.wires;
+    let by_delta = delta.wires;
     tile_wires::incoming(by_alpha, by_beta, by_gamma, by_delta, last, i, j)
 }

@@ -3,17 +3,17 @@ use Prim.Native.Nat.{ℕ, _-_, _*_, _/_, _%_, _<_, _≤_}
 use mathlib.Core.Path.{_≡_}
 use native.Mathlib.Omega.{arith}
 use borrow.Author.Tests.{lt-ltb, le-ltb, eq-eqb, ne-eqb}
-use Rattle.systolic.specs.Tiles.{Action, idle, first, rotate, second, third, final, action, actionAt}
+use Rattle.systolic.specs.Tiles.{Action, idle, first, rotate, phase1, phase2, final, action, actionAt}
 use Rattle.tile_schedule.specs.Schedule.{inStep}
 
 module _ (t : ℕ) where
-  pub second-at : t % 3 ≡ 1 → second ≡ inStep t
+  pub phase1-at : t % 3 ≡ 1 → phase1 ≡ inStep t
   unfolding inStep
-  second-at e = rw (ne-eqb (t % 3) 0 (λ z. omega arith), eq-eqb (t % 3) 1 e)
+  phase1-at e = rw (ne-eqb (t % 3) 0 (λ z. omega arith), eq-eqb (t % 3) 1 e)
 
-  pub third-at : t % 3 ≡ 2 → third ≡ inStep t
+  pub phase2-at : t % 3 ≡ 2 → phase2 ≡ inStep t
   unfolding inStep
-  third-at e = rw (ne-eqb (t % 3) 0 (λ z. omega arith), ne-eqb (t % 3) 1 (λ z. omega arith))
+  phase2-at e = rw (ne-eqb (t % 3) 0 (λ z. omega arith), ne-eqb (t % 3) 1 (λ z. omega arith))
 
   pub first-at : ¬ (t % 3 ≡ 1) → ¬ (t % 3 ≡ 2) → t / 3 ≡ 0 → first ≡ inStep t
   unfolding inStep

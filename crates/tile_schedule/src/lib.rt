@@ -12,8 +12,8 @@ pub enum Action {
     Idle,
     First,
     Rotate,
-    Second,
-    Third,
+    Phase1,
+    Phase2,
     Final,
 }
 
@@ -54,13 +54,13 @@ pub fn rotates(action: Action) -> bool
         Action::Idle => false,
         Action::First => true,
         Action::Rotate => true,
-        Action::Second => false,
-        Action::Third => false,
+        Action::Phase1 => false,
+        Action::Phase2 => false,
         Action::Final => false,
     }
 }
 
-// Whether the cell lines are read.
+// Whether the cell wires are read.
 pub fn reads(action: Action) -> bool
     ensures { λ r. ⌜ r ≡ readsCells (theAction action) ⌝ }
 {
@@ -68,13 +68,13 @@ pub fn reads(action: Action) -> bool
         Action::Idle => false,
         Action::First => false,
         Action::Rotate => true,
-        Action::Second => false,
-        Action::Third => false,
+        Action::Phase1 => false,
+        Action::Phase2 => false,
         Action::Final => true,
     }
 }
 
-// The phase in which lines are set, 3 for none.
+// The phase in which wires are set, 3 for none.
 pub fn phase_in(action: Action) -> usize
     ensures { λ r. ⌜ r ≡ phaseIn (theAction action) ⌝ }
 {
@@ -82,8 +82,8 @@ pub fn phase_in(action: Action) -> usize
         Action::Idle => 3,
         Action::First => 0,
         Action::Rotate => 0,
-        Action::Second => 1,
-        Action::Third => 2,
+        Action::Phase1 => 1,
+        Action::Phase2 => 2,
         Action::Final => 3,
     }
 }
@@ -122,10 +122,10 @@ fn in_step(since: usize) -> Action
     ensures { λ r. ⌜ theAction r ≡ inStep since ⌝ }
 {
     if since % 3 == 1 {
-        return Action::Second;
+        return Action::Phase1;
     }
     if since % 3 == 2 {
-        return Action::Third;
+        return Action::Phase2;
     }
     if since / 3 == 0 {
         return Action::First;

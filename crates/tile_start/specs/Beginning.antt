@@ -7,7 +7,7 @@ use lib.Ieee.{Float}
 use Rattle.float64.specs.Values.{plusZero}
 use Rattle.tile_wires.specs.declared.Quad.{Quad}
 use Rattle.tile_wires.specs.declared.Part.{Part}
-use Rattle.tile_wires.specs.Lines.{quad}
+use Rattle.tile_wires.specs.Wires.{quad}
 use Rattle.sizes.specs.Sizes.{processorsOf}
 use Rattle.matrix.specs.Matrix.{entryOf}
 use Rattle.runs.specs.State.{identity}
@@ -16,9 +16,9 @@ use Rattle.tile.specs.declared.Tile.{Tile}
 unfoldable pub zeroPart : Part
 zeroPart = record { matrix = quad plusZero plusZero plusZero plusZero; vectors = quad plusZero plusZero plusZero plusZero }
 
--- A tile with the given cells, its lines at +0, not marked.
+-- A tile with the given cells, its wires at +0, not marked.
 unfoldable pub startingTile : Part → Tile
-startingTile p = record { cells = p; lines = zeroPart; row = plusZero; column = plusZero; mark = false }
+startingTile p = record { cells = p; wires = zeroPart; «row_wire» = plusZero; «column_wire» = plusZero; mark = false }
 
 -- The part of A at the row registers i and the column registers j, both from 0.
 unfoldable pub quadAt : (ℕ → ℕ → Float) → ℕ → ℕ → Quad

@@ -34,16 +34,16 @@ pub fn zero_tile() -> Tile
     tile_with(zero_part())
 }
 
-// A tile with these cells, its lines at +0, not marked.
+// A tile with these cells, its wires at +0, not marked.
 fn tile_with(cells: Part) -> Tile
     ensures { λ r. ⌜ r ≡ startingTile cells ⌝ }
 {
-    let lines = zero_part();
+    let wires = zero_part();
     Tile {
         cells: cells,
-        lines: lines,
-        row: 0.0,
-        column: 0.0,
+        wires: wires,
+        row_wire: 0.0,
+        column_wire: 0.0,
         mark: false,
     }
 }

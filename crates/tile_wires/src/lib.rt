@@ -1,6 +1,6 @@
-// The lines of a tile: what leaves and what comes in by each corner (document 01, "The array").
+// The wires of a tile: what leaves and what comes in by each corner (document 01, "The array").
 ghost use mathlib.Core.Path.{_≡_};
-ghost use Rattle.tile_wires.specs.Lines.{interchanged, acrossOf, linesOf, partLines, cornerOf, incomingQuad, incomingPart};
+ghost use Rattle.tile_wires.specs.Wires.{interchanged, acrossOf, wiresOf, partWires, cornerOf, incomingQuad, incomingPart};
 
 mod phases;
 
@@ -18,9 +18,9 @@ pub struct Part {
     pub vectors: Quad,
 }
 
-// The lines of the tile in row i and column j, from 0, after a phase; `last` is the last row and column.
+// The wires of the tile in row i and column j, from 0, after a phase; `last` is the last row and column.
 pub fn after(phase: usize, last: usize, i: usize, j: usize, cells: Part, old: Part) -> Part
-    ensures { λ r. ⌜ r ≡ partLines phase last i j cells old ⌝ }
+    ensures { λ r. ⌜ r ≡ partWires phase last i j cells old ⌝ }
 {
     let a = cells.matrix;
     let e = cells.vectors;
@@ -35,7 +35,7 @@ pub fn after(phase: usize, last: usize, i: usize, j: usize, cells: Part, old: Pa
 }
 
 fn quad_after(phase: usize, last: usize, i: usize, j: usize, cells: Quad, old: Quad) -> Quad
-    ensures { λ r. ⌜ r ≡ linesOf phase last i j cells old ⌝ }
+    ensures { λ r. ⌜ r ≡ wiresOf phase last i j cells old ⌝ }
 {
     let out = interchange(i, j, cells);
     phases::set(
@@ -77,7 +77,7 @@ fn across(j: usize, q: Quad) -> Quad
     }
 }
 
-// What comes in by each corner, from the lines of the tiles that it is joined with.
+// What comes in by each corner, from the wires of the tiles that it is joined with.
 pub fn incoming(
     alpha: Part,
     beta: Part,

@@ -1,8 +1,8 @@
-// In which phase a line is set.
+// In which phase a wire is set.
 ghost use mathlib.Core.Path.{_≡_};
 ghost use mathlib.Core.Bool.{_||_};
 ghost use lib.Dec.{eqb};
-ghost use Rattle.tile_wires.specs.Lines.{edgeOf, orderOf, setOf, setIn0, setIn1, setIn2};
+ghost use Rattle.tile_wires.specs.Wires.{edgeOf, orderOf, setOf, setIn0, setIn1, setIn2};
 use crate::Quad;
 
 // The tile's position at the edges: 1 in the first row or column, 2 in the last, 3 in both, 0 in none.
@@ -43,7 +43,7 @@ pub fn order(i: usize, j: usize) -> usize
     0
 }
 
-// The lines after a phase (document 003, Program 3): those that are set carry `out`, the others keep their values.
+// The wires after a phase (document 003, Program 3): those that are set carry `out`, the others keep their values.
 pub fn set(phase: usize, edge: usize, order: usize, out: Quad, old: Quad) -> Quad
     ensures { λ r. ⌜ r ≡ setOf phase edge order out old ⌝ }
 {

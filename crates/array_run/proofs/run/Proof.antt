@@ -1,6 +1,6 @@
 use mathlib.Core.Path.{sym, ap, _∙_}
 use Rattle.refusal.specs.Answers.{answered}
-use Rattle.array_run.proofs.Whole.{whole-refused, whole-accepted}
+use Rattle.array_run.proofs.WholeRuns.{whole-refused, whole-accepted}
 use borrow.Author.Needs.{needs}
 use Rattle.array_run.proofs.run.Statement.{statement}
 use Rattle.array_run.proofs.run.Tie as tie
@@ -27,9 +27,9 @@ same-length-2 c = search needs
 
 returns : tie.Need-returns
 returns c =
-    let s = c .before .before .before .before in
-    let k = s .before .before .before in
-    whole-accepted _ _ _ _ _ (ap answered (sym (k .enum-told .given .1)) ∙ k .before .before .verdict .ensures) (s .run-accepted .ensures)
+    let ran = c .before .before .before .before in
+    let accepted = ran .before .before .before in
+    whole-accepted _ _ _ _ _ (ap answered (sym (accepted .enum-told .given .1)) ∙ accepted .before .before .verdict .ensures) (ran .run-accepted .ensures)
 
 returns-2 : tie.Need-returns-2
 returns-2 c =

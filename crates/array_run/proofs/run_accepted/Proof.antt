@@ -7,7 +7,7 @@ use Rattle.runs.proofs.Verdicts.{Begins, begins}
 use Rattle.array.specs.declared.Array.{Array}
 use Rattle.array.specs.Runs.{startArray, ticked}
 use Rattle.array_run.specs.Results.{handedOver}
-use Rattle.array_run.proofs.Whole.{start-order, run-ends}
+use Rattle.array_run.proofs.WholeRuns.{start-order, run-ends}
 use Rattle.array_run.proofs.run_accepted.Statement.{statement}
 use Rattle.array_run.proofs.run_accepted.Tie as tie
 
@@ -47,7 +47,7 @@ same-length-2 : tie.Need-same-length-2
 same-length-2 c = search needs
 
 returns : tie.Need-returns
-returns c = let h = c .before .before .before .before in h .hand-over .ensures ∙ ap handedOver (ended (h .before .before .before))
+returns c = let handed = c .before .before .before .before in handed .hand-over .ensures ∙ ap handedOver (ended (handed .before .before .before))
 
 pub run-accepted-spec : {M : Type 1} → statement M
 run-accepted-spec =

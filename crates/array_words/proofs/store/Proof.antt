@@ -63,7 +63,9 @@ same-length : tie.Need-same-length Inv-loop μ-loop
 same-length c = let w = c .before .loop .inv .1 .long in omega arith
 
 returns-2 : tie.Need-returns-2 Inv-loop μ-loop
-returns-2 c = all-stored _ _ (c .before .before .before .before .args .words .now) _ (c .before .before .if1 .left) (c .before .loop .inv .1) (omega arith)
+returns-2 c =
+    let start = c .before .before .before .before in
+    all-stored _ _ (start .args .words .now) _ (c .before .before .if1 .left) (c .before .loop .inv .1) (omega arith)
 
 pub store-spec : {M : Type 1} → statement M
 store-spec =

@@ -16,7 +16,10 @@ same-length : tie.Need-same-length
 same-length c = search needs
 
 returns : tie.Need-returns
-returns c = part-written _ _ _ (c .before .before .before .before .before .before .store-quad .ensures) (c .before .before .store-quad2 .ensures)
+returns c =
+    let vectors = c .before .before in
+    let matrix = vectors .before .before .before .before in
+    part-written _ _ _ (matrix .store-quad .ensures) (vectors .store-quad2 .ensures)
 
 pub store-part-spec : {M : Type 1} → statement M
 store-part-spec =

@@ -55,9 +55,10 @@ same-length c = simp length-set (omega arith)
 
 returns : tie.Need-returns
 returns c =
-    let r = c .before .before in
-    let s = r .before .before .before in
-    tile-written _ _ _ (s .before .before .before .before .store-part .ensures) (s .store-part2 .ensures) (r .to-bits .ensures) (c .before .to-bits2 .ensures)
+    let row = c .before .before in
+    let wires = row .before .before .before in
+    let cells = wires .before .before .before .before in
+    tile-written _ _ _ (cells .store-part .ensures) (wires .store-part2 .ensures) (row .to-bits .ensures) (c .before .to-bits2 .ensures)
 
 pub store-tile-spec : {M : Type 1} → statement M
 store-tile-spec =

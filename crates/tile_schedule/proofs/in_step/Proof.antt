@@ -1,12 +1,12 @@
-use Rattle.tile_schedule.proofs.Schedules.{second-at, third-at, first-at, rotate-at}
+use Rattle.tile_schedule.proofs.Schedules.{phase1-at, phase2-at, first-at, rotate-at}
 use Rattle.tile_schedule.proofs.in_step.Statement.{statement}
 use Rattle.tile_schedule.proofs.in_step.Tie as tie
 
 returns : tie.Need-returns
-returns c = second-at _ (c .if1 .taken)
+returns c = phase1-at _ (c .if1 .taken)
 
 returns-2 : tie.Need-returns-2
-returns-2 c = third-at _ (c .if2 .taken)
+returns-2 c = phase2-at _ (c .if2 .taken)
 
 returns-3 : tie.Need-returns-3
 returns-3 c = first-at _ (c .before .before .if1 .left) (c .before .if2 .left) (c .if3 .taken)

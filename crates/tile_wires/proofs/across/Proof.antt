@@ -1,4 +1,4 @@
-use Rattle.tile_wires.specs.Lines.{acrossOf}
+use Rattle.tile_wires.specs.Wires.{acrossOf}
 use borrow.Author.Tests.{eq-eqb, ne-eqb}
 use Rattle.tile_wires.proofs.across.Statement.{statement}
 use Rattle.tile_wires.proofs.across.Tie as tie

@@ -1,4 +1,4 @@
-use Rattle.tile_wires.specs.Lines.{incomingQuad}
+use Rattle.tile_wires.specs.Wires.{incomingQuad}
 use borrow.Author.Needs.{needs}
 use Rattle.tile_wires.proofs.incoming_quad.Statement.{statement}
 use Rattle.tile_wires.proofs.incoming_quad.Tie as tie

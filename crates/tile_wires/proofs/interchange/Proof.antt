@@ -1,4 +1,4 @@
-use Rattle.tile_wires.specs.Lines.{interchanged}
+use Rattle.tile_wires.specs.Wires.{interchanged}
 use borrow.Author.Tests.{eq-eqb, ne-eqb}
 use borrow.Author.Needs.{needs}
 use Rattle.tile_wires.proofs.interchange.Statement.{statement}

@@ -1,4 +1,4 @@
-use Rattle.tile_wires.specs.Lines.{linesOf}
+use Rattle.tile_wires.specs.Wires.{wiresOf}
 use borrow.Author.Needs.{needs}
 use Rattle.tile_wires.proofs.quad_after.Statement.{statement}
 use Rattle.tile_wires.proofs.quad_after.Tie as tie
@@ -16,7 +16,7 @@ set-requires : tie.Need-set-requires
 set-requires c κs = search needs
 
 returns : tie.Need-returns
-unfolding linesOf
+unfolding wiresOf
 returns c = rw (← (c .before .before .before .interchange .ensures), ← (c .before .before .edge .ensures), ← (c .before .order .ensures)) (c .set .ensures)
 
 pub quad-after-spec : {M : Type 1} → statement M

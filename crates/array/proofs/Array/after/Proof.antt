@@ -1,5 +1,5 @@
 -- The loop over ticks keeps the order, the sweeps and the number of tiles; the tiles are those after the ticks made so far. Its measure is how
--- many ticks are left. Of the two loops in it the first has turned the tiles before k, the second has set their lines; the measure of each is
+-- many ticks are left. Of the two loops in it the first has turned the tiles before k, the second has set their wires; the measure of each is
 -- how many places are left. All known cosines stay those of their tangents.
 use borrow.Author.Needs.{needs}
 use Prim.Native.Nat.{_+_, _-_, _*_, _≤_, _<_}
@@ -53,6 +53,9 @@ at-processors c = c .before .before .before
 abbrev at-loop2 : tie.After-loop2 Inv-loop2 μ-loop2 Inv-loop3 μ-loop3 Inv-loop μ-loop → tie.At-loop Inv-loop2 μ-loop2 Inv-loop3 μ-loop3 Inv-loop μ-loop
 at-loop2 c = c .before .before .before
 
+abbrev at-loop : tie.Else1 Inv-loop2 μ-loop2 Inv-loop3 μ-loop3 Inv-loop μ-loop → tie.At-loop Inv-loop2 μ-loop2 Inv-loop3 μ-loop3 Inv-loop μ-loop
+at-loop c = c .before .before .before .before
+
 abbrev at-loop3 : tie.In-loop3 Inv-loop2 μ-loop2 Inv-loop3 μ-loop3 Inv-loop μ-loop → tie.At-loop Inv-loop2 μ-loop2 Inv-loop3 μ-loop3 Inv-loop μ-loop
 at-loop3 c = c .before .before .before .before .before
 
@@ -79,8 +82,8 @@ early c =
     omega (arith, c .pre .room)
 
 spot : (c : tie.Else1 Inv-loop2 μ-loop2 Inv-loop3 μ-loop3 Inv-loop μ-loop)
-    → Spot (at-processors (c .before .before .before .before) .processors-of .result) (c .before .before .loop2 .k)
-spot c = let h = few (at-processors (c .before .before .before .before)) in record { below = omega arith; column = omega arith; few = omega arith }
+    → Spot (at-processors (at-loop c) .processors-of .result) (c .before .before .loop2 .k)
+spot c = let h = few (at-processors (at-loop c)) in record { below = omega arith; column = omega arith; few = omega arith }
 
 spot3 : (c : tie.Else3 Inv-loop2 μ-loop2 Inv-loop3 μ-loop3 Inv-loop μ-loop)
     → Spot (at-processors (at-loop3 (c .before)) .processors-of .result) (c .before .before .loop3 .k)
@@ -123,7 +126,7 @@ loop2-holds : tie.Need-loop2-holds Inv-loop2 μ-loop2 Inv-loop3 μ-loop3 Inv-loo
 loop2-holds c = (omega arith, refl, refl, replaced-none, c .before .loop .inv .6)
 
 add-k : tie.Need-add-k Inv-loop2 μ-loop2 Inv-loop3 μ-loop3 Inv-loop μ-loop
-add-k c = omega (arith, few (at-processors (c .before .before .before .before)) .1)
+add-k c = let loop = c .before .before .before .before in omega (arith, few (at-processors loop) .1)
 
 loop2-less : tie.Need-loop2-less Inv-loop2 μ-loop2 Inv-loop3 μ-loop3 Inv-loop μ-loop
 loop2-less c = omega arith
@@ -132,7 +135,8 @@ loop2-again : tie.Need-loop2-again Inv-loop2 μ-loop2 Inv-loop3 μ-loop3 Inv-loo
 loop2-again c =
     let here = c .before .before .loop2 in
     let u = here .inv in
-    let e = column-unused (at-processors (c .before .before .before .before) .processors-of .result) (here .k) (omega arith) (omega arith) in
+    let loop = c .before .before .before .before in
+    let e = column-unused (at-processors loop .processors-of .result) (here .k) (omega arith) (omega arith) in
     (omega arith, u .1, u .2, replaced-skip _ _ (u .3) (turned-unused _ _ _ _ _ _ e), u .4)
 
 changes-requires : tie.Need-changes-requires Inv-loop2 μ-loop2 Inv-loop3 μ-loop3 Inv-loop μ-loop
@@ -236,7 +240,7 @@ loop2-again-3 c =
     let turned =
     turned-in _ _ _ _ _ _ _ (u .3) p (f .sources .result) (f .sources .ensures .0) changed (r .before .before .before .known .ensures .0)
     (r .known2 .ensures .0) (b .brought .ensures) (c .turned .ensures) in
-    let long = e .before .before .before .before .loop .inv .4 in
+    let long = at-loop e .loop .inv .4 in
     (omega arith, u .1, u .2, replaced-next _ _ _ (u .3) (omega (arith, spot-inside p, long)) turned, r .known2 .ensures .1)
 
 mul-k-end-2 : tie.Need-mul-k-end-2 Inv-loop2 μ-loop2 Inv-loop3 μ-loop3 Inv-loop μ-loop

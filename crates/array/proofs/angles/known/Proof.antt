@@ -22,7 +22,7 @@ element-copy-out-t18 : tie.Need-element-copy-out-t18
 element-copy-out-t18 c = search needs
 
 recalled-requires : tie.Need-recalled-requires
-recalled-requires c κs = known-at _ _ _ (c .before .before .before .before .pre)
+recalled-requires c κs = let start = c .before .before .before .before in known-at _ _ _ (start .pre)
 
 mul-tangents : tie.Need-mul-tangents
 mul-tangents c = search needs
@@ -37,7 +37,7 @@ element-write-cosines : tie.Need-element-write-cosines
 element-write-cosines c = search needs
 
 returns-2 : tie.Need-returns-2
-returns-2 c = (λ n. c .recalled .ensures, known-next _ _ _ (c .before .before .before .before .before .pre) (c .recalled .ensures))
+returns-2 c = let start = c .before .before .before .before .before in (λ n. c .recalled .ensures, known-next _ _ _ (start .pre) (c .recalled .ensures))
 
 pub known-spec : {M : Type 1} → statement M
 known-spec =

@@ -26,19 +26,19 @@ mul-t10 : tie.Need-mul-t10
 mul-t10 c = search needs
 
 add-t11 : tie.Need-add-t11
-add-t11 c = let s = c .before .before .before .before in omega (arith, down-le _ _ (s .pre .1))
+add-t11 c = let start = c .before .before .before .before in omega (arith, down-le _ _ (start .pre .1))
 
 mul-t12 : tie.Need-mul-t12
-mul-t12 c = let s = c .before .before .before .before in omega (arith, down-le _ _ (s .pre .0))
+mul-t12 c = let start = c .before .before .before .before in omega (arith, down-le _ _ (start .pre .0))
 
 add-t13 : tie.Need-add-t13
-add-t13 c = let s = c .before .before .before .before in omega (arith, down-le _ _ (s .pre .0))
+add-t13 c = let start = c .before .before .before .before in omega (arith, down-le _ _ (start .pre .0))
 
 mul-t14 : tie.Need-mul-t14
-mul-t14 c = let s = c .before .before .before .before in omega (arith, down-le _ _ (s .pre .0))
+mul-t14 c = let start = c .before .before .before .before in omega (arith, down-le _ _ (start .pre .0))
 
 add-t15 : tie.Need-add-t15
-add-t15 c = let s = c .before .before .before .before in omega (arith, down-le _ _ (s .pre .0), down-le _ _ (s .pre .1))
+add-t15 c = let start = c .before .before .before .before in omega (arith, down-le _ _ (start .pre .0), down-le _ _ (start .pre .1))
 
 mul-t16 : tie.Need-mul-t16
 mul-t16 c = search needs
@@ -47,24 +47,24 @@ nearer-requires : tie.Need-nearer-requires
 nearer-requires c κs = search needs
 
 add-t18 : tie.Need-add-t18
-add-t18 c = let s = c .before .before .before .before .before in omega (arith, nearer-le _ _ _ (s .pre .0) (s .pre .1))
+add-t18 c = let start = c .before .before .before .before .before in omega (arith, nearer-le _ _ _ (start .pre .0) (start .pre .1))
 
 nearer-requires-2 : tie.Need-nearer-requires-2
 nearer-requires-2 c κs = search needs
 
 mul-t20 : tie.Need-mul-t20
-mul-t20 c = let s = c .before .before .before .before .before .before in omega (arith, nearer-le _ _ _ (s .pre .1) (s .pre .0))
+mul-t20 c = let start = c .before .before .before .before .before .before in omega (arith, nearer-le _ _ _ (start .pre .1) (start .pre .0))
 
 add-t21 : tie.Need-add-t21
-add-t21 c = let s = c .before .before .before .before .before .before in omega (arith, nearer-le _ _ _ (s .pre .1) (s .pre .0))
+add-t21 c = let start = c .before .before .before .before .before .before in omega (arith, nearer-le _ _ _ (start .pre .1) (start .pre .0))
 
 returns : tie.Need-returns
 returns c =
     let t = c .before in
     let d = t .before in
     let u = d .before .before in
-    let s = u .before .before in
-    near-is _ _ _ (s .pre .0) (s .pre .1) (s .pre .2) (u .before .up .ensures) (u .up2 .ensures) (d .before .down .ensures)
+    let start = u .before .before in
+    near-is _ _ _ (start .pre .0) (start .pre .1) (start .pre .2) (u .before .up .ensures) (u .up2 .ensures) (d .before .down .ensures)
     (d .down2 .ensures) (t .nearer .ensures) (c .nearer2 .ensures)
 
 pub sources-spec : {M : Type 1} → statement M

@@ -22,12 +22,12 @@ same-length-2 c = search needs
 
 returns : tie.Need-returns
 returns c =
-    let s₂ = c .before .before in
-    let s₁ = s₂ .before .before .before .before in
-    let k = s₁ .before .before in
-    let p = k .before .before .before .before .pre in
-    spoiled-over _ (sym (k .before .is-marked .ensures) ∙ k .if1 .taken)
-    (spoiled-outcome _ (cleared _ (p .1) (s₁ .clear .ensures)) (cleared _ (p .2) (s₂ .clear2 .ensures)))
+    let second = c .before .before in
+    let first = second .before .before .before .before in
+    let test = first .before .before in
+    let start = test .before .before .before .before in
+    spoiled-over _ (sym (test .before .is-marked .ensures) ∙ test .if1 .taken)
+    (spoiled-outcome _ (cleared _ (start .pre .1) (first .clear .ensures)) (cleared _ (start .pre .2) (second .clear2 .ensures)))
 
 write-cells-requires : tie.Need-write-cells-requires
 write-cells-requires c κs = search needs
@@ -40,9 +40,9 @@ same-length-4 c = search needs
 
 returns-2 : tie.Need-returns-2
 returns-2 c =
-    let s = c .before .before .before .before in
-    let k = s .before .before .before in
-    cells-over _ (sym (k .before .is-marked .ensures) ∙ k .if1 .left) (s .write-cells .ensures .0) (s .write-cells .ensures .1)
+    let written = c .before .before .before .before in
+    let test = written .before .before .before in
+    cells-over _ (sym (test .before .is-marked .ensures) ∙ test .if1 .left) (written .write-cells .ensures .0) (written .write-cells .ensures .1)
 
 pub hand-over-spec : {M : Type 1} → statement M
 hand-over-spec =

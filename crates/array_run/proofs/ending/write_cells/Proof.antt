@@ -27,9 +27,12 @@ record Place (n k : ℕ) : Type 0 where
   column-in : k % n < n
   few : n ≤ largestOrder
 
-place : (c : tie.In-loop Inv-loop μ-loop) → Place (c .before .before .before .before .args .t1 .n) (c .before .loop .k)
+abbrev at-start : tie.In-loop Inv-loop μ-loop → tie.Start Inv-loop μ-loop
+at-start c = c .before .before .before .before
+
+place : (c : tie.In-loop Inv-loop μ-loop) → Place (at-start c .args .t1 .n) (c .before .loop .k)
 place c =
-    let n = c .before .before .before .before .args .t1 .n in
+    let n = at-start c .args .t1 .n in
     record { row-in = row-lt n (c .before .loop .k) (omega arith); column-in = column-lt n (c .before .loop .k) (omega arith); few = omega arith }
 
 loop-holds : tie.Need-loop-holds Inv-loop μ-loop
@@ -80,9 +83,9 @@ loop-less c = omega arith
 loop-again : tie.Need-loop-again Inv-loop μ-loop
 unfolding tileAt noTile noPart noQuad
 loop-again c =
-    let k = c .before .before .before .before .before .before in
-    let u = k .before .loop .inv in
-    let t = k .before .before .before .before .args .t1 .tiles in (
+    let turn = c .before .before .before .before .before .before in
+    let u = turn .before .loop .inv in
+    let t = at-start turn .args .t1 .tiles in (
       omega arith,
       filled-next _ _ _ (u .1) (omega arith) (c .before .corner .ensures ∙ joined-at (λ i j. tileAt t i j .cells .matrix) _ _),
       filled-next _ _ _ (u .2) (omega arith) (c .corner2 .ensures ∙ joined-at (λ i j. tileAt t i j .cells .vectors) _ _),

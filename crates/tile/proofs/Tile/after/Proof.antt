@@ -19,9 +19,9 @@ is-marked-requires c κs = search needs
 
 returns : tie.Need-returns
 returns c = λ s.
-    let p = c .before .before .before .before in
-    let phase = p .phase-in .ensures ∙ ap phaseIn (p .before .action-at .ensures) in
-    tile-settled s (p .before .before .args .self) _ _ _ _ phase (c .before .after .ensures) (c .is-marked .ensures)
+    let chosen = c .before .before .before .before in
+    let phase = chosen .phase-in .ensures ∙ ap phaseIn (chosen .before .action-at .ensures) in
+    tile-settled s (chosen .before .before .args .self) _ _ _ _ phase (c .before .after .ensures) (c .is-marked .ensures)
 
 pub after-spec : {M : Type 1} → statement M
 after-spec =

@@ -15,8 +15,9 @@ worked-requires c κs = search needs
 returns : tie.Need-returns
 unfolding turnedOf
 returns c =
-    let w = c .before in
-    rw (← (w .before .before .before .before .action-at .ensures), ← (w .before .taken .ensures), ← (w .worked .ensures))
+    let work = c .before in
+    let chosen = work .before .before .before .before in
+    rw (← (chosen .action-at .ensures), ← (work .before .taken .ensures), ← (work .worked .ensures))
 
 pub turned-spec : {M : Type 1} → statement M
 turned-spec = tie.close (tie.spec action-at-requires taken-requires worked-requires returns)

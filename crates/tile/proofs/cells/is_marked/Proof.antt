@@ -12,15 +12,17 @@ not-finite-requires c κs = search needs
 
 returns-2 : tie.Need-returns-2
 unfolding partNotFinite
-returns-2 c = rw (c .before .before .before .before .if1 .left, sym (c .before .not-finite .ensures) ∙ c .if2 .taken)
+returns-2 c = let unmarked = c .before .before .before .before in rw (unmarked .if1 .left, sym (c .before .not-finite .ensures) ∙ c .if2 .taken)
 
 not-finite-requires-2 : tie.Need-not-finite-requires-2
 not-finite-requires-2 c κs = search needs
 
 returns-3 : tie.Need-returns-3
 unfolding partNotFinite
-returns-3 c = let u = c .before in
-    rw (u .before .before .before .before .if1 .left, sym (u .before .not-finite .ensures) ∙ u .if2 .left) (c .not-finite2 .ensures)
+returns-3 c =
+    let matrix = c .before in
+    let unmarked = matrix .before .before .before .before in
+    rw (unmarked .if1 .left, sym (matrix .before .not-finite .ensures) ∙ matrix .if2 .left) (c .not-finite2 .ensures)
 
 pub is-marked-spec : {M : Type 1} → statement M
 is-marked-spec =

@@ -15,7 +15,7 @@ returns c = rw (c .enum-told .given .1)
 
 returns-2 : tie.Need-returns-2
 unfolding rowsTurned
-returns-2 c = rw (c .before .before .before .before .before .before .before .before .before .parameters .given .1)
+returns-2 c = let turn = c .before .before .before .before .before .before .before .before .before in rw (turn .parameters .given .1)
 
 pub turn-rows-spec : {M : Type 1} → statement M
 turn-rows-spec = tie.close (tie.spec enum-told enum-known-parameters returns returns-2)

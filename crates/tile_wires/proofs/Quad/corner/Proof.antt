@@ -1,4 +1,4 @@
-use Rattle.tile_wires.specs.Lines.{cornerOf}
+use Rattle.tile_wires.specs.Wires.{cornerOf}
 use Rattle.tile_wires.proofs.Quad.corner.Statement.{statement}
 use Rattle.tile_wires.proofs.Quad.corner.Tie as tie
 

@@ -1,5 +1,5 @@
 use mathlib.Core.Path.{sym, _∙_}
-use Rattle.tile_wires.specs.Lines.{edgeOf}
+use Rattle.tile_wires.specs.Wires.{edgeOf}
 use borrow.Author.Needs.{needs}
 use Rattle.tile_wires.proofs.phases.edge.Statement.{statement}
 use Rattle.tile_wires.proofs.phases.edge.Tie as tie

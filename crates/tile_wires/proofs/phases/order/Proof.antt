@@ -1,4 +1,4 @@
-use Rattle.tile_wires.specs.Lines.{orderOf}
+use Rattle.tile_wires.specs.Wires.{orderOf}
 use borrow.Author.Tests.{lt-ltb, le-ltb}
 use Rattle.tile_wires.proofs.phases.order.Statement.{statement}
 use Rattle.tile_wires.proofs.phases.order.Tie as tie

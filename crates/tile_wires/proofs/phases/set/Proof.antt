@@ -1,4 +1,4 @@
-use Rattle.tile_wires.specs.Lines.{setOf}
+use Rattle.tile_wires.specs.Wires.{setOf}
 use borrow.Author.Tests.{ne-eqb}
 use borrow.Author.Needs.{needs}
 use Rattle.tile_wires.proofs.phases.set.Statement.{statement}

@@ -1,4 +1,4 @@
-use Rattle.tile_wires.specs.Lines.{setIn0}
+use Rattle.tile_wires.specs.Wires.{setIn0}
 use borrow.Author.Tests.{ne-eqb}
 use Rattle.tile_wires.proofs.phases.set_in_0.Statement.{statement}
 use Rattle.tile_wires.proofs.phases.set_in_0.Tie as tie

@@ -1,4 +1,4 @@
-use Rattle.tile_wires.specs.Lines.{setIn1}
+use Rattle.tile_wires.specs.Wires.{setIn1}
 use borrow.Author.Tests.{ne-eqb}
 use Rattle.tile_wires.proofs.phases.set_in_1.Statement.{statement}
 use Rattle.tile_wires.proofs.phases.set_in_1.Tie as tie

@@ -1,4 +1,4 @@
-use Rattle.tile_wires.specs.Lines.{setIn2}
+use Rattle.tile_wires.specs.Wires.{setIn2}
 use borrow.Author.Tests.{ne-eqb}
 use borrow.Author.Needs.{needs}
 use Rattle.tile_wires.proofs.phases.set_in_2.Statement.{statement}

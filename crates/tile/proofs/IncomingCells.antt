@@ -1,4 +1,4 @@
--- What the lines bring to a tile, by the tests of the code. Assumes nothing.
+-- What the wires bring to a tile, by the tests of the code. Assumes nothing.
 use Prim.Native.Nat.{ℕ, zero, suc}
 use mathlib.Core.Path.{_≡_, refl}
 use mathlib.Core.Bool.{Bool, true, false, cond}
@@ -9,7 +9,7 @@ use Rattle.systolic.specs.Slots.{Side, left, right, slot}
 use Rattle.systolic.specs.Blocks.{cell}
 use Rattle.systolic.specs.Tiles.{joined}
 use Rattle.tile_wires.specs.declared.Part.{Part}
-use Rattle.tile_wires.specs.Lines.{cornerOf, incomingQuad, incomingPart}
+use Rattle.tile_wires.specs.Wires.{cornerOf, incomingQuad, incomingPart}
 use Rattle.runs.specs.Cells.{Cell}
 use Rattle.tile.specs.Tiles.{blockOf, broughtTo}
 

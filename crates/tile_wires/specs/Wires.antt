@@ -1,4 +1,4 @@
--- The lines of a tile after a phase, on the structs of the code. Definitions only.
+-- The wires of a tile after a phase, on the structs of the code. Definitions only.
 use Prim.Native.Nat.{ℕ, _-_, _%_}
 use mathlib.Core.Bool.{Bool, cond, _||_}
 use lib.Dec.{eqb, ltb}
@@ -45,11 +45,11 @@ unfoldable pub setOf : ℕ → ℕ → ℕ → Quad → Quad → Quad
 setOf phase edge order out old =
     cond (eqb phase 0) (setIn0 order out old) (cond (eqb phase 1) (setIn1 edge out old) (cond (eqb phase 2) (setIn2 edge order out old) old))
 
-unfoldable pub linesOf : ℕ → ℕ → ℕ → ℕ → Quad → Quad → Quad
-linesOf phase m i j q old = setOf phase (edgeOf m i j) (orderOf i j) (interchanged i j q) old
+unfoldable pub wiresOf : ℕ → ℕ → ℕ → ℕ → Quad → Quad → Quad
+wiresOf phase m i j q old = setOf phase (edgeOf m i j) (orderOf i j) (interchanged i j q) old
 
-unfoldable pub partLines : ℕ → ℕ → ℕ → ℕ → Part → Part → Part
-partLines phase m i j p old = record { matrix = linesOf phase m i j (p .matrix) (old .matrix); vectors = linesOf phase m i j (p .vectors) (old .vectors) }
+unfoldable pub partWires : ℕ → ℕ → ℕ → ℕ → Part → Part → Part
+partWires phase m i j p old = record { matrix = wiresOf phase m i j (p .matrix) (old .matrix); vectors = wiresOf phase m i j (p .vectors) (old .vectors) }
 
 -- The corner in the lower row or the upper, in the right column or the left.
 unfoldable pub cornerOf : Bool → Bool → Quad → Float

@@ -1,4 +1,4 @@
--- The lines that the code sets are the theory's. Assumes nothing.
+-- The wires that the code sets are the theory's. Assumes nothing.
 use Prim.Native.Nat.{ℕ, zero, suc, _<_}
 use mathlib.Core.Path.{_≡_, refl}
 use mathlib.Core.Bool.{Bool, true, false, cond, _||_}
@@ -8,10 +8,10 @@ use lib.Dec.{eqb, ltb}
 use lib.Ieee.{Float}
 use Rattle.systolic.specs.Slots.{Side, left, right, flip}
 use Rattle.systolic.specs.Blocks.{Block, cell, tab}
-use Rattle.systolic.specs.Tiles.{Action, idle, first, rotate, second, third, final, carried, phaseOf, phaseIn, newLines}
+use Rattle.systolic.specs.Tiles.{Action, idle, first, rotate, phase1, phase2, final, carried, phaseOf, phaseIn, newWires}
 use Rattle.tile_wires.specs.declared.Quad.{Quad}
 use Rattle.tile_wires.specs.declared.Part.{Part}
-use Rattle.tile_wires.specs.Lines.{quad, acrossOf, interchanged, edgeOf, orderOf, setIn0, setIn1, setIn2, setOf, linesOf, partLines}
+use Rattle.tile_wires.specs.Wires.{quad, acrossOf, interchanged, edgeOf, orderOf, setIn0, setIn1, setIn2, setOf, wiresOf, partWires}
 use Rattle.runs.specs.Cells.{Cell}
 use Rattle.tile.specs.Tiles.{blockOf}
 
@@ -96,8 +96,8 @@ module _ (f l above below : Bool) (out old : Quad) where
   by-tests idle h = in-3
   by-tests first h = in-0 h
   by-tests rotate h = in-0 h
-  by-tests second h = in-1
-  by-tests third h = in-2 h
+  by-tests phase1 h = in-1
+  by-tests phase2 h = in-2 h
   by-tests final h = in-3
 
 -- ---- the tests of a tile
@@ -119,15 +119,15 @@ module _ (m i j : ℕ) where
   not-both : ¬ ((ltb i j ≡ true) × (ltb j i ≡ true))
   not-both e = let a : i < j = ltb-true _ _ (e .0) in let b : j < i = ltb-true _ _ (e .1) in omega arith
 
-  -- the four lines of one matrix, each by its phase
-  lines-chosen : (a : Action) (q old : Quad) → linesOf (phaseIn a) m i j q old
+  -- the four wires of one matrix, each by its phase
+  wires-chosen : (a : Action) (q old : Quad) → wiresOf (phaseIn a) m i j q old
       ≡ quad (cond (eqb (phaseIn a) (phaseOf m left left i j)) (interchanged i j q .alpha) (old .alpha))
       (cond (eqb (phaseIn a) (phaseOf m left right i j)) (interchanged i j q .beta) (old .beta))
       (cond (eqb (phaseIn a) (phaseOf m right left i j)) (interchanged i j q .gamma) (old .gamma))
       (cond (eqb (phaseIn a) (phaseOf m right right i j)) (interchanged i j q .delta) (old .delta))
-  lines-chosen a q old =
+  wires-chosen a q old =
       rw (phase-first i j, phase-last)
-      (unfold linesOf edgeOf orderOf phaseOf in
+      (unfold wiresOf edgeOf orderOf phaseOf in
       (by-tests (eqb i 0 || eqb j 0) (eqb i m || eqb j m) (ltb i j) (ltb j i) (interchanged i j q) old a not-both))
 
 -- ---- what leaves by each corner
@@ -158,7 +158,7 @@ carries p (suc i) (suc j) left right = rw (ne-eqb (suc i) 0 (λ e. omega arith),
 carries p (suc i) (suc j) right left = rw (ne-eqb (suc i) 0 (λ e. omega arith), ne-eqb (suc j) 0 (λ e. omega arith))
 carries p (suc i) (suc j) right right = rw (ne-eqb (suc i) 0 (λ e. omega arith), ne-eqb (suc j) 0 (λ e. omega arith))
 
--- ---- all lines of a tile
+-- ---- all wires of a tile
 module _ (a : Action) (m i j : ℕ) (p old : Part) where
   abbrev sets : Side → Side → Bool
   sets r s = eqb (phaseIn a) (phaseOf m r s i j)
@@ -171,27 +171,27 @@ module _ (a : Action) (m i j : ℕ) (p old : Part) where
 
   each : (r s : Side) → _≡_ {A = Cell}
       (record {
-        entry = corner r s (linesOf (phaseIn a) m i j (p .matrix) (old .matrix));
-        vector = corner r s (linesOf (phaseIn a) m i j (p .vectors) (old .vectors));
+        entry = corner r s (wiresOf (phaseIn a) m i j (p .matrix) (old .matrix));
+        vector = corner r s (wiresOf (phaseIn a) m i j (p .vectors) (old .vectors));
       })
       (cond (sets r s) (cell (carried i r) (carried j s) (blockOf p)) (cell r s (blockOf old)))
   unfolding corner
   each left left =
-      rw (lines-chosen m i j a (p .matrix) (old .matrix), lines-chosen m i j a (p .vectors) (old .vectors))
+      rw (wires-chosen m i j a (p .matrix) (old .matrix), wires-chosen m i j a (p .vectors) (old .vectors))
       (unfold cell blockOf in (both (sets left left) (old .matrix .alpha) (old .vectors .alpha) (unfold corner in (carries p i j left left))))
   each left right =
-      rw (lines-chosen m i j a (p .matrix) (old .matrix), lines-chosen m i j a (p .vectors) (old .vectors))
+      rw (wires-chosen m i j a (p .matrix) (old .matrix), wires-chosen m i j a (p .vectors) (old .vectors))
       (unfold cell blockOf in (both (sets left right) (old .matrix .beta) (old .vectors .beta) (unfold corner in (carries p i j left right))))
   each right left =
-      rw (lines-chosen m i j a (p .matrix) (old .matrix), lines-chosen m i j a (p .vectors) (old .vectors))
+      rw (wires-chosen m i j a (p .matrix) (old .matrix), wires-chosen m i j a (p .vectors) (old .vectors))
       (unfold cell blockOf in (both (sets right left) (old .matrix .gamma) (old .vectors .gamma) (unfold corner in (carries p i j right left))))
   each right right =
-      rw (lines-chosen m i j a (p .matrix) (old .matrix), lines-chosen m i j a (p .vectors) (old .vectors))
+      rw (wires-chosen m i j a (p .matrix) (old .matrix), wires-chosen m i j a (p .vectors) (old .vectors))
       (unfold cell blockOf in (both (sets right right) (old .matrix .delta) (old .vectors .delta) (unfold corner in (carries p i j right right))))
 
-  pub part-lines : blockOf (partLines (phaseIn a) m i j p old) ≡ newLines m i j a (blockOf p) (blockOf old)
-  unfolding partLines blockOf newLines tab corner
-  part-lines = four (each left left) (each left right) (each right left) (each right right)
+  pub part-wires : blockOf (partWires (phaseIn a) m i j p old) ≡ newWires m i j a (blockOf p) (blockOf old)
+  unfolding partWires blockOf newWires tab corner
+  part-wires = four (each left left) (each left right) (each right left) (each right right)
     where
       four : {x y z w x′ y′ z′ w′ : Cell} → x ≡ x′ → y ≡ y′ → z ≡ z′ → w ≡ w′
           → _≡_ {A = Block Cell} (record { α = x; β = y; γ = z; δ = w }) (record { α = x′; β = y′; γ = z′; δ = w′ })

@@ -10,7 +10,7 @@ use Rattle.systolic.specs.Blocks.{Block, cell, tab}
 use Rattle.systolic.specs.Tiles.{carried, joined, phaseOf}
 use Rattle.systolic.specs.Schedule.{interchange, Input, input, leadsTo, setInPhase0, setInPhase1, setInPhase2}
 
--- ---- which value a line gets: Algorithm Interchange
+-- ---- which value a wire gets: Algorithm Interchange
 pub values-printed : {X : Type 0} (i j : ℕ) (x : Block X) → tab (λ r s. cell (carried i r) (carried j s) x) ≡ interchange i j x
 unfolding tab cell carried flip interchange
 values-printed zero zero x = refl
@@ -18,7 +18,7 @@ values-printed zero (suc j) x = rw (ne-eqb (suc j) 0 (λ e. omega arith))
 values-printed (suc i) zero x = rw (ne-eqb (suc i) 0 (λ e. omega arith))
 values-printed (suc i) (suc j) x = rw (ne-eqb (suc i) 0 (λ e. omega arith), ne-eqb (suc j) 0 (λ e. omega arith))
 
--- ---- where a line leads
+-- ---- where a wire leads
 -- what is joined with what a side is joined with is that side
 pub joined-twice : (m : ℕ) (r : Side) (i : ℕ) → i ≤ m → joined m (joined m r i .side) (joined m r i .processor) ≡ slot i r
 unfolding joined slot
@@ -60,8 +60,8 @@ leads-printed m left right i j = rw (joined-left m i, joined-right m j) (four (e
 leads-printed m right left i j = rw (joined-right m i, joined-left m j) (four (eqb i m) (eqb j 0) _ _ _ _)
 leads-printed m right right i j = rw (joined-right m i, joined-right m j) (four (eqb i m) (eqb j m) _ _ _ _)
 
--- ---- when a line is set: Program 3
--- a line is set in phase 2, or where b holds in an earlier one
+-- ---- when a wire is set: Program 3
+-- a wire is set in phase 2, or where b holds in an earlier one
 in-0 : (b : Bool) → (eqb 0 (cond b 0 2) ≡ b) × (eqb 1 (cond b 0 2) ≡ false) × (eqb 2 (cond b 0 2) ≡ not b)
 in-0 true = (refl, refl, refl)
 in-0 false = (refl, refl, refl)

@@ -1,4 +1,4 @@
--- All tiles may turn, one after the other, before any sets its cell lines: while a tile changes its cells, those that it takes its
+-- All tiles may turn, one after the other, before any sets its cell wires: while a tile changes its cells, those that it takes its
 -- parameters from keep theirs. Assumes nothing.
 use Prim.Native.Nat.{ℕ, suc, _+_, _*_}
 use mathlib.Core.Path.{_≡_, refl, sym}
@@ -6,10 +6,10 @@ use mathlib.Core.Bool.{Bool, true, false, true≢false}
 use native.Mathlib.Omega.{arith}
 use Rattle.systolic.specs.Blocks.{Block}
 use Rattle.systolic.specs.Synchronous.{Operations}
-use Rattle.systolic.specs.Tiles.{distance, Tile, Action, idle, first, rotate, second, third, final, actionAt, newCells, newParameter, turnedTile}
+use Rattle.systolic.specs.Tiles.{distance, Tile, Action, idle, first, rotate, phase1, phase2, final, actionAt, newCells, newParameter, turnedTile}
 use Rattle.systolic.specs.Arrays.{nearer}
 use Rattle.systolic.specs.Traffic.{rotates, changesCells}
-use Rattle.systolic.proofs.Clock.{View, waiting, starting, rotating, setting-second, setting-third, finishing, finished, stepless, view}
+use Rattle.systolic.proofs.Clock.{View, waiting, starting, rotating, setting-phase1, setting-phase2, finishing, finished, stepless, view}
 use Rattle.systolic.proofs.Wires.{nearer-ok}
 
 -- ---- a tile whose cells don't change
@@ -19,19 +19,19 @@ module _ {X H W : Type 0} (S : Operations X H W) (k i j : ℕ) (o : Tile X H W) 
   tile-kept idle e = refl
   tile-kept first e = absurd (true≢false e)
   tile-kept rotate e = absurd (true≢false e)
-  tile-kept second e = refl
-  tile-kept third e = refl
+  tile-kept phase1 e = refl
+  tile-kept phase2 e = refl
   tile-kept final e = absurd (true≢false e)
 
--- ---- a parameter line of a tile that does not rotate
+-- ---- a parameter wire of a tile that does not rotate
 pub parameter-kept : {X P : Type 0} (f : Block X → P) (i j : ℕ) (a : Action) (b ins : Block X) (p old : P) → rotates a ≡ false
     → newParameter f i j a b ins p old ≡ old
 unfolding newParameter
 parameter-kept f i j idle b ins p old e = refl
 parameter-kept f i j first b ins p old e = absurd (true≢false e)
 parameter-kept f i j rotate b ins p old e = absurd (true≢false e)
-parameter-kept f i j second b ins p old e = refl
-parameter-kept f i j third b ins p old e = refl
+parameter-kept f i j phase1 b ins p old e = refl
+parameter-kept f i j phase2 b ins p old e = refl
 parameter-kept f i j final b ins p old e = refl
 
 -- ---- the cells of a tile at distance δ change in the ticks δ + 3 n alone
@@ -39,8 +39,8 @@ changes-at : (K δ t : ℕ) (a : Action) → View K δ t a → changesCells a �
 changes-at K δ t idle (waiting w) e = absurd (true≢false (sym e))
 changes-at K δ t first (starting w z) e = (0, omega arith)
 changes-at K δ t rotate (rotating n w z) e = (suc n, w)
-changes-at K δ t second (setting-second n w z) e = absurd (true≢false (sym e))
-changes-at K δ t third (setting-third n w z) e = absurd (true≢false (sym e))
+changes-at K δ t phase1 (setting-phase1 n w z) e = absurd (true≢false (sym e))
+changes-at K δ t phase2 (setting-phase2 n w z) e = absurd (true≢false (sym e))
 changes-at K δ t final (finishing n w z) e = (suc n, w)
 changes-at K δ t idle (finished w) e = absurd (true≢false (sym e))
 changes-at K δ t idle (stepless w z) e = absurd (true≢false (sym e))
