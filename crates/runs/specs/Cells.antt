@@ -1,4 +1,4 @@
--- What a pair of lines does, as rules of the theory: a cell is an entry of the matrix and one of the eigenvectors. The lines of rows and
+-- What a pair of lines does, as rules of the theory: a cell is an entry of the matrix and one of the eigenvectors. The wires along rows and
 -- columns carry the tangent. Definitions only.
 use Prim.Native.Nat.{ℕ}
 use mathlib.Core.Bool.{not, _||_}

@@ -8,7 +8,7 @@ use Rattle.lists.specs.Bounded.{any}
 use Rattle.systolic.specs.Blocks.{Block, cell, tab}
 use Rattle.systolic.specs.Synchronous.{Operations}
 
--- What a pair of lines does. The first number is the step and the phase1 the processor. A turn gives the new value at the left or the right
+-- What a pair of lines does. The first number is the step and the second the processor. A turn gives the new value at the left or the right
 -- line from the two old values.
 pub record Rules (X H W : Type 0) : Type 0 where
   pub diagonal : ℕ → ℕ → Block X → Block X

@@ -6,7 +6,7 @@ use Rattle.systolic.specs.Slots.{cameFrom}
 use Rattle.systolic.specs.Blocks.{Block, tab, pick}
 
 -- What the processors do, for cells X, parameters H that go along rows and parameters W that go along columns. The first number of an
--- operation is the step. A diagonal processor i has the phase1 number i; an off-diagonal one at row i and column j has i and j.
+-- operation is the step. A diagonal processor i has the second number i; an off-diagonal one at row i and column j has i and j.
 pub record Operations (X H W : Type 0) : Type 0 where
   pub wireStart : X
   pub rowStart : H

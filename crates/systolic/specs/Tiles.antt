@@ -106,7 +106,7 @@ turnedTile S k i j a old ins h v =
       mark = old .mark;
     }
 
--- The phase1 part: the cell wires and the mark. A tile is marked, for good, once its cells are bad at the end of a tick.
+-- The second part: the cell wires and the mark. A tile is marked, for good, once its cells are bad at the end of a tick.
 abbrev pub settledTile : {X H W : Type 0} → Operations X H W → ℕ → ℕ → ℕ → Action → Tile X H W → Tile X H W
 settledTile S m i j a x =
     record {
