@@ -13,3 +13,4 @@ pub mod Sheets
 pub mod Histories
 pub mod Demands
 pub mod Paired
+pub mod PlainRuns

@@ -3,5 +3,6 @@ pub mod Sizes
 pub mod Refusals
 pub mod Report
 pub mod Sheets
+pub mod PlainRuns
 pub mod Histories
 pub mod Examples

@@ -61,6 +61,11 @@ module _ (n p q d : ℕ) where
         square = t .long;
       }))
 
+pub two-lines : (n p q d : ℕ) → (1 ≤ p) × (p ≤ n) × (1 ≤ q) × (q ≤ n) × (¬ (p ≡ q)) → d ≡ n * n → twoLines n p q d ≡ true
+two-lines n p q d h long =
+    two-are n p q d
+    (record { first-above = h .0; first-within = h .1; second-above = h .2; second-within = h .3; apart = h .4; long = long })
+
 pub two-as : (n p q : ℕ) {d d′ : ℕ} → twoLines n p q d ≡ true → d′ ≡ d → twoLines n p q d′ ≡ true
 two-as n p q h e = rw e h
 

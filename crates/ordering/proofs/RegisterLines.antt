@@ -62,3 +62,9 @@ module _ (n : ℕ) (order : isOrder n ≡ true) (s k : ℕ) (below : k < process
     where
       processors : slot i r ≡ slot k t → ⊥
       processors e = let z : i ≡ k = unfold slot in (ap (λ (u : Slot). u .processor) e) in omega arith
+
+  -- the pair of a processor is two different lines
+  pub pair-within : let p = getD (registersAt n s .left) k 0 in let q = getD (registersAt n s .right) k 0 in
+      (1 ≤ p) × (p ≤ n) × (1 ≤ q) × (q ≤ n) × (¬ (p ≡ q))
+  pair-within =
+      rw (left-stands, right-stands) (line-within left .0, line-within left .1, line-within right .0, line-within right .1, lines-differ)

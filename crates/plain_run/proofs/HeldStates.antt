@@ -7,14 +7,13 @@ use native.Mathlib.Omega.{arith}
 use native.Mathlib.Numerals.{add-one}
 use lib.ListN.{getD}
 use lib.Ieee.{Float}
-use Rattle.systolic.specs.Slots.{left, right}
 use Rattle.ordering.specs.declared.Registers.{Registers}
 use Rattle.sizes.specs.Sizes.{isOrder, processorsOf}
 use Rattle.ordering.specs.Pairs.{registersAt}
-use Rattle.ordering.proofs.RegisterLines.{left-stands, right-stands, line-within, lines-differ}
+use Rattle.ordering.proofs.RegisterLines.{pair-within}
 use Rattle.rotation.specs.declared.Parameters.{Parameters}
 use Rattle.matrix_turns.specs.Turns.{parametersOf, twoLines}
-use Rattle.matrix_turns.proofs.Two.{are-two, two-are, first-line, second-line}
+use Rattle.matrix_turns.proofs.Two.{are-two, two-lines, first-line, second-line}
 use Rattle.runs.specs.State.{State}
 use Rattle.plain_pair.specs.Pair.{stateTurned, pairRotated, stateOf, Held}
 use Rattle.plain_pair.proofs.AlikeStates.{Alike, turned-alike, pair-alike, held-alike, read-alike}
@@ -62,16 +61,7 @@ module _ (n : ℕ) (l e : List Float) (Y : State) (held : Held n l e Y) where
 -- the registers of a step hold two different lines in each processor
 pub registers-paired : (n : ℕ) → isOrder n ≡ true → (s : ℕ) → Paired n (registersAt n s .left) (registersAt n s .right) (processorsOf n)
 registers-paired n order s k below =
-    rw (left-stands n order s k below, right-stands n order s k below)
-    (two-are n _ _ (n * n)
-    (record {
-      first-above = line-within n order s k below left .0;
-      first-within = line-within n order s k below left .1;
-      second-above = line-within n order s k below right .0;
-      second-within = line-within n order s k below right .1;
-      apart = lines-differ n order s k below;
-      long = refl;
-    }))
+    two-lines n _ _ (n * n) (pair-within n order s k below) refl
 
 pub after-alike : (n : ℕ) → isOrder n ≡ true → (k : ℕ) (X Y : State) → Alike n X Y → Alike n (after n k X) (after n k Y)
 unfolding after

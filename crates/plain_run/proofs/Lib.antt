@@ -6,3 +6,4 @@ pub mod MirrorEntries
 pub mod SpoiledRuns
 pub mod Outcomes
 pub mod Sequence
+pub mod RunResults

@@ -1,3 +1,4 @@
 pub mod Refused
 pub mod Absent
 pub mod Rows
+pub mod FoundRecords

@@ -1,0 +1,68 @@
+-- The record of each processor, in a call that is not refused. Assumes nothing.
+use Prim.Native.Nat.{ℕ, _*_, _≤_, _<_}
+use mathlib.Core.Path.{_≡_, refl, sym, ap, _∙_}
+use mathlib.Core.Bool.{Bool, true, false, not, true≢false}
+use mathlib.Core.List.{List, [], _∷_}
+use native.Mathlib.Omega.{arith}
+use borrow.Author.Tests.{eqb-true, ltb-false}
+use lib.Dec.{ltb}
+use lib.ListN.{length, getD}
+use lib.Ieee.{Float}
+use Rattle.refusal.specs.Answers.{Answered, given, refused, orElse, row, table, unlessRefused}
+use Rattle.refusal.specs.declared.Refusal.the-variants.{Order, Length, TooShort}
+use Rattle.refusal.proofs.FirstRefusal.{refused-given, both-given, row-given}
+use Rattle.lists.specs.Over.{over}
+use Rattle.lists.proofs.Over.{getD-over}
+use Rattle.sizes.specs.Sizes.{isOrder, processorsOf}
+use Rattle.ordering.specs.Pairs.{registersAt}
+use Rattle.ordering.proofs.RegisterLines.{pair-within}
+use Rattle.matrix.specs.Matrix.{at, entryOf}
+use Rattle.matrix.specs.Entries.{isSquare, entriesOf, finiteRow, mirrorRow}
+use Rattle.matrix_turns.specs.Turns.{parametersOf}
+use Rattle.matrix_turns.proofs.Two.{two-lines, pair-parameters}
+use Rattle.step_records.specs.declared.Record.{Record}
+use Rattle.step_records.proofs.Refused.{by-parts}
+use Rattle.step_records.specs.Records.{recordOf, recordAt, beforeRecords, rowOutcome, recordsOf}
+
+-- what is known where nothing is refused
+pub record AcceptedCall (n : ℕ) (l : List Float) (room : ℕ) : Type 0 where
+  pub order : isOrder n ≡ true
+  pub long : length l ≡ n * n
+  pub enough : processorsOf n ≤ room
+
+pub accepted-call : (n : ℕ) (l : List Float) (room : ℕ) → beforeRecords n l room ≡ given tt → AcceptedCall n l room
+unfolding entriesOf
+accepted-call n l room e =
+    let short = row (ltb room (processorsOf n)) TooShort in
+    let order = both-given (row (not (isOrder n)) Order) (orElse (entriesOf n l) short) (sym (by-parts n l room) ∙ e) in
+    let entries = both-given (entriesOf n l) short (order .1) in
+    let square = both-given (row (not (isSquare n (length l))) Length) (table (finiteRow n l ∷ mirrorRow n l ∷ [])) (entries .0) in
+    record {
+      order = positive (isOrder n) (row-given _ Order (order .0));
+      long = eqb-true _ _ (positive (isSquare n (length l)) (row-given _ Length (square .0)));
+      enough = ltb-false _ _ (row-given _ TooShort (entries .1));
+    }
+  where
+    positive : (b : Bool) → not b ≡ false → b ≡ true
+    positive true e = refl
+    positive false e = absurd (true≢false e)
+
+-- the answer is that of the tests before it
+pub answer-given : (n : ℕ) (l : List Float) (step : ℕ) (ys : List Record) → recordsOf n l step ys .answer ≡ given tt → beforeRecords n l (length ys) ≡ given tt
+unfolding recordsOf
+answer-given n l step ys e = go (beforeRecords n l (length ys)) _ e
+  where
+    go : (a : Answered Unit) (new : List Record) → unlessRefused a (rowOutcome (given tt) new) (λ x. rowOutcome x ys) .answer ≡ given tt → a ≡ given tt
+    go (given tt) new e = refl
+    go (refused k values) new e = refused-given e
+
+pub record-found : (n : ℕ) (l : List Float) (step : ℕ) (ys : List Record) (other : Record) → recordsOf n l step ys .answer ≡ given tt
+    → (k : ℕ) → k < processorsOf n → getD (recordsOf n l step ys .row) k other
+    ≡ recordOf (parametersOf (getD (registersAt n step .left) k 0) (getD (registersAt n step .right) k 0) (at n l))
+unfolding recordsOf recordAt
+record-found n l step ys other e k below =
+    let accepted = answer-given n l step ys e in
+    let w = accepted-call n l (length ys) accepted in
+    rw accepted
+    (getD-over (processorsOf n) _ ys k other below (omega (arith, w .enough))
+    ∙ ap recordOf (pair-parameters n _ _ l (two-lines n _ _ (length l) (pair-within n (w .order) step k below) (w .long))))
