@@ -32,7 +32,7 @@ use Rattle.matrix.proofs.Within.{entry-at, place-is}
 use Rattle.matrix.proofs.AcceptedEntries.{accepted-long}
 use Rattle.runs.specs.State.{State, identity, startOf, zeros}
 use Rattle.plain_run.specs.State.{after, notFinite, spoiled}
-use Rattle.runs.specs.Outcome.{beforeRun, outcome, resultsKept, telling}
+use Rattle.runs.specs.Outcome.{beforeRun, outcome, resultsKept, answering}
 use Rattle.plain_run.specs.Run.{ranOf, runOf}
 use Rattle.runs.specs.Cells.{Cell, cell as cellWith, cellOf, Setting, setting, rules}
 use Rattle.plain_run.proofs.SpoiledRuns.{state-finite}
@@ -246,7 +246,7 @@ module _ (n sweeps : ℕ) (l : List Float) (order : isOrder n ≡ true) (few : s
           (λ i a b. absurd (omega arith))
 
   -- ---- the whole run
-  pub handed-is : notFinite n X ≡ false → handedOver (ticked (ticksOf n sweeps) (startArray n sweeps l)) ≡ telling (ticksOf n sweeps) (ranOf n sweeps l)
+  pub handed-is : notFinite n X ≡ false → handedOver (ticked (ticksOf n sweeps) (startArray n sweeps l)) ≡ answering (ticksOf n sweeps) (ranOf n sweeps l)
   handed-is f = ap handedOver (ticked-is (ticksOf n sweeps) (omega arith)) ∙ unfold handedOver recordBy ranOf in
       (rw (last-marked f, matrix-flat, vectors-flat) (go (spoiled n K X)))
     where
@@ -259,7 +259,7 @@ module _ (n sweeps : ℕ) (l : List Float) (order : isOrder n ≡ true) (few : s
       go : (b : Bool)
           → cond b (outcome {A = ℕ} (refusedBy Spoiled) (zeros n) (zeros n))
           (outcome (given (ticksOf n sweeps)) (flat n (after n K X .matrix)) (flat n (after n K X .vectors)))
-          ≡ telling {A = Unit} (ticksOf n sweeps)
+          ≡ answering {A = Unit} (ticksOf n sweeps)
           (cond b (outcome (refusedBy Spoiled) (zeros n) (zeros n)) (outcome (given tt) (flat n (after n K X .matrix)) (flat n (after n K X .vectors))))
       go true = refl
       go false = refl
@@ -271,16 +271,16 @@ start-clean n sweeps l lr lv fitting b = state-finite n (startOf n l) (start-fin
 
 -- For every input: the whole run answers and leaves what the plain run does, and where it is not refused it has made 3 K + N ticks.
 pub whole-agrees : (n sweeps : ℕ) (l r v : List Float) → ((k : ℕ) → T (fits binary64 (getD l k nan)))
-    → wholeOf n sweeps l r v ≡ telling (ticksOf n sweeps) (runOf n sweeps l r v)
+    → wholeOf n sweeps l r v ≡ answering (ticksOf n sweeps) (runOf n sweeps l r v)
 unfolding wholeOf runOf
 whole-agrees n sweeps l r v fitting = go (beforeRun n sweeps l (length r) (length v)) refl
   where
     accepted : Begins n sweeps l (length r) (length v)
-        → handedOver (ticked (ticksOf n sweeps) (startArray n sweeps l)) ≡ telling (ticksOf n sweeps) (ranOf n sweeps l)
+        → handedOver (ticked (ticksOf n sweeps) (startArray n sweeps l)) ≡ answering (ticksOf n sweeps) (ranOf n sweeps l)
     accepted b = handed-is n sweeps l (b .order) (b .few) (accepted-long n l fitting (b .entries)) (start-clean n sweeps l _ _ fitting b)
 
     go : (a : Answered Unit) → beforeRun n sweeps l (length r) (length v) ≡ a
         → unlessRefused a (handedOver (ticked (ticksOf n sweeps) (startArray n sweeps l))) (resultsKept r v)
-        ≡ telling (ticksOf n sweeps) (unlessRefused a (ranOf n sweeps l) (resultsKept r v))
+        ≡ answering (ticksOf n sweeps) (unlessRefused a (ranOf n sweeps l) (resultsKept r v))
     go (given x) e = accepted (begins n sweeps l _ _ e)
     go (refused k values) e = refl

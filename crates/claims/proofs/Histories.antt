@@ -1,15 +1,37 @@
 -- Demand 3, each part by the law that proves it. Assumes nothing.
-use Prim.Native.Nat.{ℕ}
-use mathlib.Core.Path.{_≡_, sym, ap, _∙_}
-use Rattle.refusal.specs.Answers.{Answered, given, refused, giving, valueOr}
+use Prim.Native.Nat.{ℕ, zero, suc, _+_, _*_, _≤_}
+use mathlib.Core.Path.{_≡_, refl, sym, ap, _∙_}
+use mathlib.Core.Bool.{true, false, not}
+use mathlib.Core.List.{List}
+use borrow.Author.Tests.{eq-eqb}
+use lib.Dec.{eqb}
+use lib.ListN.{length, getD}
+use lib.Ieee.{Float, nan}
+use Rattle.refusal.specs.Answers.{Answered, given, refused, answered, giving, valueOr}
+use Rattle.refusal.proofs.FirstRefusal.{refused-given}
+use Rattle.lists.proofs.Bounded.{count-none}
 use Rattle.ordering.proofs.Meetings as ordering
+use Rattle.sizes.specs.Sizes.{isOrder, stepsOf, ticksOf}
+use Rattle.matrix.specs.Matrix.{flat}
+use Rattle.matrix.proofs.AcceptedEntries.{accepted-long, accepted-if}
+use Rattle.matrix.proofs.Same.{flat-same}
+use Rattle.runs.specs.State.{startOf}
 use Rattle.runs.specs.Outcome.{Outcome}
+use Rattle.runs.proofs.Verdicts.{Begins, begun}
+use Rattle.plain_run.specs.State.{after, spoiled}
 use Rattle.plain_run.specs.Run.{runOf}
-use Rattle.sizes.specs.Sizes.{ticksOf}
+use Rattle.plain_run.proofs.RunResults.{last-matrices, accepted-run, run-accepted}
+use Rattle.array.specs.declared.Started.{Started}
+use Rattle.array.specs.declared.Ticked.{Ticked}
+use Rattle.array.specs.Runs.{startAnswer}
+use Rattle.array_run.specs.Results.{matrixIn, vectorsIn}
+use Rattle.array_run.specs.Whole.{wholeOf}
+use Rattle.array_agreement.specs.Hand.{lastArray, ByHand, ClaimedByHand, AcceptedByHand, RefusedByHand, firstMade}
 use Rattle.array_agreement.proofs.Agreement as agreement
 use Rattle.array_agreement.proofs.Hand as hand
 use Rattle.array_agreement.proofs.Neighbours as neighbours
-use Rattle.claims.specs.Histories.{WholeRunIsThePlainRun, TicksReported, OneHistory}
+use Rattle.claims.specs.Histories.{Binary64, bitOf, differing, differingIn, CovarianceMatrix, NoBitDiffers, NoBitDiffersByHand}
+use Rattle.claims.specs.Histories.{WholeRunIsThePlainRun, TicksReported, AcceptedStart, RefusedStart, EveryRunByHand, OneHistory}
 
 whole-run : WholeRunIsThePlainRun
 whole-run = agreement.whole-agrees
@@ -23,12 +45,86 @@ ticks : TicksReported
 ticks n sweeps l r v fit k e =
     given-value (ticksOf n sweeps) k (runOf n sweeps l r v .answer) (sym (ap (λ (o : Outcome ℕ). o .answer) (whole-run n sweeps l r v fit)) ∙ e)
 
+-- ---- equal lists differ in no bit
+itself : (x : Float) → differing x x ≡ 0
+itself x = count-none (λ k. not (eqb (bitOf k x) (bitOf k x))) 64 (λ i h. ap not (eq-eqb (bitOf i x) (bitOf i x) refl))
+
+none-differ : (k : ℕ) (l : List Float) → differingIn k l l ≡ 0
+unfolding differingIn
+none-differ zero l = refl
+none-differ (suc k) l = rw (none-differ k l, itself (getD l k nan))
+
+same-bits : (k : ℕ) {l m : List Float} → l ≡ m → differingIn k l m ≡ 0
+same-bits k {l} {m} e = rw e (none-differ k m)
+
+begins : (n sweeps : ℕ) (l : List Float) (lr lv : ℕ) → isOrder n ≡ true → sweeps ≤ 16 → CovarianceMatrix n l → lr ≡ n * n → lv ≡ n * n
+    → Begins n sweeps l lr lv
+begins n sweeps l lr lv order few matrix hr hv =
+    record { order = order; few = few; result-long = hr; vectors-long = hv; entries = accepted-if n l (matrix .long) (matrix .all-finite) (matrix .mirrored) }
+
+no-bit-differs : NoBitDiffers
+no-bit-differs n sweeps l r v r′ v′ order few matrix hr hv hr′ hv′ stays =
+    let plain = run-accepted n sweeps l r v (begins n sweeps l _ _ order few matrix hr hv) stays in
+    let again = run-accepted n sweeps l r′ v′ (begins n sweeps l _ _ order few matrix hr′ hv′) stays in
+    let whole = whole-run n sweeps l r′ v′ (matrix .of-binary64) in
+    let a = last-matrices n sweeps l r v plain in
+    let b = last-matrices n sweeps l r′ v′ again in (
+      same-bits (n * n) (ap (λ (o : Outcome ℕ). o .result) whole ∙ b .0 ∙ sym (a .0)),
+      same-bits (n * n) (ap (λ (o : Outcome ℕ). o .vectors) whole ∙ b .1 ∙ sym (a .1)),
+      ap (λ (o : Outcome ℕ). o .answer) whole ∙ ap (giving (ticksOf n sweeps)) again,
+      plain,
+    )
+
+-- ---- by hand
+accepted : {n sweeps : ℕ} {l : List Float} {s : Started} {rs : List Ticked} → AcceptedByHand n sweeps l s rs → AcceptedStart n sweeps l s rs
+unfolding firstMade
+accepted a =
+    record {
+      made-then-stopped = a .made-then-stopped;
+      all-made = λ h.
+          let e = a .ends h in
+          record {
+            matrix-agrees = λ z. e .finite-agrees z .matrix-agrees;
+            vectors-agree = λ z. e .finite-agrees z .vectors-agree;
+            none-marked = λ z. e .finite-agrees z .none-marked;
+            some-marked = e .spoiled-marked;
+          };
+    }
+
+by-hand : EveryRunByHand
+by-hand n sweeps l fit s rs h = go (startAnswer n sweeps l) (h .starts .answers) (hand.by-hand n sweeps l fit s rs h)
+  where
+    go : (a : Answered Unit) → answered (s .answer) ≡ a → ClaimedByHand a n sweeps l s rs
+        → (answered (s .answer) ≡ given tt → AcceptedStart n sweeps l s rs)
+        × ((k : ℕ) (values : List ℕ) → answered (s .answer) ≡ refused k values → RefusedStart s rs)
+    go (given x) e c = (λ z. accepted c, λ k values z. refused-given (sym z ∙ e))
+    go (refused k values) e c =
+        (λ z. refused-given (sym e ∙ z), λ k′ values′ z. record { each-refused-by-1 = c .all-refused; zeros-back = c .zeros-back })
+
+-- what a plain run accepts, a start accepts
+starts-run : (n sweeps : ℕ) (l : List Float) (lr lv : ℕ) → Begins n sweeps l lr lv → length l ≡ n * n → startAnswer n sweeps l ≡ given tt
+starts-run n sweeps l lr lv b long =
+    begun n sweeps l _ _ (record { order = b .order; few = b .few; result-long = long; vectors-long = long; entries = b .entries })
+
+no-bit-differs-by-hand : NoBitDiffersByHand
+no-bit-differs-by-hand n sweeps l r v s rs fit h all plain =
+    let w = accepted-run n sweeps l r v plain in
+    let long = accepted-long n l fit (w .0 .entries) in
+    let begun = starts-run n sweeps l _ _ (w .0) long in
+    let done = by-hand n sweeps l fit s rs h .0 (h .starts .answers ∙ begun) .all-made all in
+    let a = last-matrices n sweeps l r v plain in (
+      same-bits (n * n) (flat-same n _ _ (done .matrix-agrees (w .1)) ∙ sym (a .0)),
+      same-bits (n * n) (flat-same n _ _ (done .vectors-agree (w .1)) ∙ sym (a .1)),
+    )
+
 pub one-history : OneHistory
 one-history =
     record {
       whole-run-is-the-plain-run = whole-run;
       ticks-reported = ticks;
-      every-run-by-hand = hand.by-hand;
+      no-bit-differs = no-bit-differs;
+      every-run-by-hand = by-hand;
+      no-bit-differs-by-hand = no-bit-differs-by-hand;
       neighbourhood = λ x y e f g r s p q i j. neighbours.array-neighbourhood x y e f g i j p q;
       meet-once = ordering.meet-once;
     }

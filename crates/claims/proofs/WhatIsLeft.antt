@@ -19,7 +19,7 @@ use Rattle.matrix.specs.Matrix.{at}
 use Rattle.matrix.specs.Entries.{notFiniteAt, notMirroredAt, finiteRow, mirrorRow, isSquare}
 use Rattle.plain_run.specs.State.{spoiled}
 use Rattle.runs.specs.State.{startOf, zeros}
-use Rattle.runs.specs.Outcome.{beforeRun, Outcome, outcome, resultsKept, telling}
+use Rattle.runs.specs.Outcome.{beforeRun, Outcome, outcome, resultsKept, answering}
 use Rattle.plain_run.specs.Run.{ranOf, runOf}
 use Rattle.step_records.specs.declared.Record.{Record}
 use Rattle.step_records.specs.Records as records
@@ -93,8 +93,8 @@ module _ (n : ℕ) (r v : List Float) where
   unless-leaves o accepts h = h
   unless-leaves o (refuses l) h = record { kept = λ k values e d. (refl, refl); zeroed = λ values e. absurd (omega (arith, l, same-number e)) }
 
-  telling-leaves : {A : Type 0} (x : A) (o : Outcome Unit) → LeavesResults n o r v → LeavesResults n (telling x o) r v
-  telling-leaves x o h =
+  answering-leaves : {A : Type 0} (x : A) (o : Outcome Unit) → LeavesResults n o r v → LeavesResults n (answering x o) r v
+  answering-leaves x o h =
       record {
         kept = λ k values e. h .kept k values (told-back x (o .answer) k values e);
         zeroed =
@@ -109,7 +109,7 @@ run-leaves n sweeps l r v =
 pub runs-leave : RunsLeave
 runs-leave n sweeps l r v fit =
     let run = run-leaves n sweeps l r v in
-    (run, rw (whole-agrees n sweeps l r v fit) (telling-leaves n r v (ticksOf n sweeps) (runOf n sweeps l r v) run))
+    (run, rw (whole-agrees n sweeps l r v fit) (answering-leaves n r v (ticksOf n sweeps) (runOf n sweeps l r v) run))
 
 -- ---- array by hand
 pub start-none : (n sweeps : ℕ) (l : List Float) (s : Started) → Starts n sweeps l s → (k : ℕ) (values : List ℕ) → answered (s .answer) ≡ refused k values

@@ -14,6 +14,7 @@ use Rattle.sizes.specs.Sizes.{stepsOf}
 use Rattle.matrix.specs.Matrix.{flat}
 use Rattle.runs.specs.State.{State, startOf}
 use Rattle.runs.specs.Outcome.{beforeRun, Outcome, outcome, resultsKept}
+use Rattle.runs.proofs.Verdicts.{Begins, begins, begun}
 use Rattle.plain_run.specs.State.{after, notFinite, spoiled}
 use Rattle.plain_run.specs.Run.{ranOf, runOf}
 
@@ -37,6 +38,29 @@ last-matrices n sweeps l r v e =
     let w = not-refused r v (beforeRun n sweeps l (length r) (length v)) _ e in
     let z = not-spoiled (spoiled n (stepsOf n sweeps) (startOf n l)) _ _ _ _ (w .0) in
     (ap (λ (o : Outcome Unit). o .result) (w .1) ∙ z .0, ap (λ (o : Outcome Unit). o .vectors) (w .1) ∙ z .1)
+
+-- what is known of a run that is not refused
+pub accepted-run : (n sweeps : ℕ) (l r v : List Float) → runOf n sweeps l r v .answer ≡ given tt
+    → Begins n sweeps l (length r) (length v) × (spoiled n (stepsOf n sweeps) (startOf n l) ≡ false)
+unfolding runOf ranOf
+accepted-run n sweeps l r v e = (
+  begins n sweeps l _ _ (before (beforeRun n sweeps l (length r) (length v)) _ e),
+  stays (spoiled n (stepsOf n sweeps) (startOf n l)) _ _ _ _ (not-refused r v (beforeRun n sweeps l (length r) (length v)) _ e .0),
+)
+  where
+    before : (a : Answered Unit) (o : Outcome Unit) → unlessRefused a o (resultsKept r v) .answer ≡ given tt → a ≡ given tt
+    before (given tt) o e = refl
+    before (refused k values) o e = refused-given e
+
+    stays : (b : Bool) (y z A E : List Float) → cond b (outcome {A = Unit} (refusedBy Spoiled) y z) (outcome (given tt) A E) .answer ≡ given tt → b ≡ false
+    stays true y z A E e = refused-given e
+    stays false y z A E e = refl
+
+-- a run with right sizes, lengths and entries that stays finite is not refused
+pub run-accepted : (n sweeps : ℕ) (l r v : List Float) → Begins n sweeps l (length r) (length v)
+    → spoiled n (stepsOf n sweeps) (startOf n l) ≡ false → runOf n sweeps l r v .answer ≡ given tt
+unfolding runOf ranOf
+run-accepted n sweeps l r v b e = rw (begun n sweeps l (length r) (length v) b, e)
 
 -- ---- an entry of either matrix that isn't finite after k + 1 steps, in row r + 1 and column c + 1
 abbrev pub badAfter : ℕ → State → ℕ → ℕ → ℕ → Bool

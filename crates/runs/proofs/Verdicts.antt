@@ -1,16 +1,16 @@
 -- The refusals before a run, in their order, and what is known where there is none. Assumes nothing.
 use Prim.Native.Nat.{ℕ, _*_, _≤_}
-use mathlib.Core.Path.{_≡_, refl, _∙_}
+use mathlib.Core.Path.{_≡_, refl, sym, _∙_}
 use mathlib.Core.Bool.{Bool, true, false, not, _&&_}
 use mathlib.Core.List.{List, [], _∷_}
-use borrow.Author.Tests.{eqb-true}
+use borrow.Author.Tests.{eqb-true, eq-eqb}
 use lib.ListN.{length}
 use lib.Ieee.{Float}
 use Rattle.refusal.specs.Answers.{Answered, given, refused, refusedBy, orElse, row, table}
 use Rattle.refusal.specs.declared.Refusal.the-variants.{Length}
 use Rattle.refusal.proofs.FirstRefusal.{refused-given, both-given}
 use Rattle.sizes.specs.Sizes.{mostSweeps, isOrder, sizesAnswer}
-use Rattle.sizes.proofs.Orders.{sizes-given, sizes-first}
+use Rattle.sizes.proofs.Orders.{sizes-given, sizes-first, sizes-fine}
 use Rattle.matrix.specs.Entries.{isSquare, finiteRow, mirrorRow, entriesOf}
 use Rattle.runs.specs.Outcome.{slicesAnswer, beforeRun}
 
@@ -62,3 +62,9 @@ begins n sweeps l lr lv e = go (isSquare n lr) (isSquare n lv) refl refl (unfold
     go false b x y z = refused-given z
     go true false x y z = refused-given z
     go true true x y z = record { order = s .0; few = s .1; result-long = eqb-true _ _ x; vectors-long = eqb-true _ _ y; entries = unfold entriesOf in z }
+
+-- and the other way round
+pub begun : (n sweeps : ℕ) (l : List Float) (lr lv : ℕ) → Begins n sweeps l lr lv → beforeRun n sweeps l lr lv ≡ given tt
+begun n sweeps l lr lv b =
+    sym (by-slices n sweeps l lr lv (sizes-fine n sweeps (b .order) (b .few))
+    (by-entries n l lr lv (eq-eqb lr (n * n) (b .result-long)) (eq-eqb lv (n * n) (b .vectors-long)) (sym (b .entries))))

@@ -37,5 +37,5 @@ abbrev pub resultsKept : {A : Type 0} → List Float → List Float → Answered
 resultsKept r v a = outcome a r v
 
 -- The same outcome with the value x in its answer.
-abbrev pub telling : {A B : Type 0} → B → Outcome A → Outcome B
-telling x o = outcome (giving x (o .answer)) (o .result) (o .vectors)
+abbrev pub answering : {A B : Type 0} → B → Outcome A → Outcome B
+answering x o = outcome (giving x (o .answer)) (o .result) (o .vectors)
