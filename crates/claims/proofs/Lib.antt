@@ -8,7 +8,6 @@ pub mod Rotated
 pub mod Moves
 pub mod Refusals
 pub mod Report
-pub mod RoundTrip
 pub mod Sheets
 pub mod Histories
 pub mod Demands

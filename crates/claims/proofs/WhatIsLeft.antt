@@ -33,7 +33,7 @@ use Rattle.array_agreement.proofs.Agreement.{whole-agrees}
 use Rattle.sheet.specs.Format.{sheetLength, sheetOf}
 use Rattle.sheet_reader.specs.Reader as reader
 use Rattle.sheet_writer.specs.Writer as writer
-use Rattle.claims.proofs.RoundTrip.{sheet-long}
+use Rattle.sheet_agreement.proofs.RoundTrip.{sheet-long}
 use Rattle.claims.specs.Refusals.{LeavesResults, RunsLeave, RecordsLeave, ReaderLeaves, WriterLeaves}
 
 -- ---- a run is not refused by 8 before it begins

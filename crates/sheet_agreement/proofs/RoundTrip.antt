@@ -6,11 +6,12 @@ use mathlib.Core.List.{List, _++_}
 use native.Mathlib.Omega.{arith}
 use borrow.Author.Tests.{le-ltb, eqb-true, eqb-false, ltb-true, ltb-false}
 use lib.Dec.{T, eqb, ltb}
-use lib.ListN.{length, getD, drop}
+use lib.ListN.{length, getD, take, drop}
+use lib.Seq.{take-at}
 use lib.Ieee.{Float, nan, inf, fin, binary64, fits, ofBits, toBits, isNan}
 use lib.Ieee.Bits.{ofBits-toBits, toBits-lt, toBits-ofBits}
 use Rattle.float64.specs.Values.{finite}
-use Rattle.refusal.specs.Answers.{given, refusedBy, first}
+use Rattle.refusal.specs.Answers.{Answered, given, refused, refusedBy, unlessRefused, valueOr, first}
 use Rattle.refusal.specs.declared.Refusal.the-variants.{NotFinite}
 use Rattle.lists.specs.Tabulate.{tabulate}
 use Rattle.lists.proofs.Tabulated.{length-tabulate, getD-tabulate, tabulated}
@@ -23,7 +24,7 @@ use Rattle.matrix.proofs.Flat.{flat-length}
 use Rattle.sheet.specs.Format.{sheetLength, entriesFrom, entryPlace, entriesTo, entryNumber, byteOf, wordFrom}
 use Rattle.sheet.specs.Format.{sheetByte, sheetOf, orderIn, sweepsIn, codesIn, patternIn, entryIn}
 use Rattle.sheet.specs.Codes.{badCodes}
-use Rattle.sheet.proofs.Words.{word-whole, word-small, byte-back}
+use Rattle.sheet.proofs.Words.{word-whole, word-small, byte-back as byte-of-word}
 use Rattle.sheet.proofs.Triangle.{length-is, number-below, numbered, place-within, place-of-number}
 use Rattle.sheet.proofs.Used.{codes-alike}
 use Rattle.sheet_reader.specs.Reader.{notFiniteIn, storedRow, readAnswer, readOutcome, contentOf, readOf}
@@ -32,7 +33,6 @@ use Rattle.sheet_reader.proofs.Tables.{read-5, Readable, readable}
 use Rattle.sheet_writer.specs.Writer.{writeAnswer, writeOutcome, writtenOver, writeOf}
 use Rattle.sheet_writer.proofs.Tables.{write-all, Writable, writable}
 use Rattle.sheet_writer.proofs.SheetBytes.{byte-0, byte-1, byte-code, byte-entry, write-accepted-as}
-use Rattle.claims.specs.Sheets.{SameContent}
 
 -- ---- what stands in a sheet that was written
 module _ (n sweeps : ℕ) (codes : List ℕ) (A : ℕ → ℕ → Float) where
@@ -53,23 +53,25 @@ module _ (n sweeps : ℕ) (codes : List ℕ) (A : ℕ → ℕ → Float) where
   pub sweeps-back : sweepsIn sheet ≡ sweeps
   sweeps-back = sheet-at 1 (omega arith) ∙ sym (byte-1 n sweeps codes A)
 
-  code-back : (k : ℕ) → k < n → getD sheet (2 + k) 0 ≡ getD codes k 0
+  pub code-back : (k : ℕ) → k < n → getD sheet (2 + k) 0 ≡ getD codes k 0
   code-back k h = sheet-at (2 + k) (omega (arith, length-is n)) ∙ sym (byte-code n sweeps codes A k h)
 
   pub codes-back : length codes ≡ n → codesIn sheet ≡ codes
   unfolding codesIn
   codes-back e = ap (λ (m : ℕ). tabulate m (λ k. getD sheet (2 + k) 0)) order-back ∙ sym (tabulated n _ codes 0 e (λ k h. sym (code-back k h)))
 
+  -- byte r of an entry
+  pub byte-back : (i j : ℕ) → 1 ≤ j → j ≤ i → i ≤ n → (r : ℕ) → r < 8
+      → getD sheet (entriesFrom n + 8 * entryNumber i j + r) 0 ≡ byteOf (toBits binary64 (A i j)) r
+  byte-back i j h k o r b =
+      sheet-at (entriesFrom n + 8 * entryNumber i j + r) (omega (arith, length-is n, number-below n i j h k o))
+      ∙ sym (byte-entry n sweeps codes A (entryNumber i j) r b) ∙ ap (λ (p : ℕ × ℕ). byteOf (toBits binary64 (A (p .0) (p .1))) r) (place-of-number i j h k)
+
   pattern-back : (i j : ℕ) → 1 ≤ j → j ≤ i → i ≤ n → T (fits binary64 (A i j)) → patternIn sheet i j ≡ toBits binary64 (A i j)
   unfolding patternIn
   pattern-back i j h k o f =
       ap (λ (m : ℕ). wordFrom sheet (entriesFrom m + 8 * entryNumber i j) 8) order-back
-      ∙ word-whole sheet (entriesFrom n + 8 * entryNumber i j) (toBits binary64 (A i j)) (toBits-lt binary64 (A i j) f) (λ r b. byte r b)
-    where
-      byte : (r : ℕ) → r < 8 → getD sheet (entriesFrom n + 8 * entryNumber i j + r) 0 ≡ byteOf (toBits binary64 (A i j)) r
-      byte r b =
-          sheet-at (entriesFrom n + 8 * entryNumber i j + r) (omega (arith, length-is n, number-below n i j h k o))
-          ∙ sym (byte-entry n sweeps codes A (entryNumber i j) r b) ∙ ap (λ (p : ℕ × ℕ). byteOf (toBits binary64 (A (p .0) (p .1))) r) (place-of-number i j h k)
+      ∙ word-whole sheet (entriesFrom n + 8 * entryNumber i j) (toBits binary64 (A i j)) (toBits-lt binary64 (A i j) f) (byte-back i j h k o)
 
   module _ (fitting : (i j : ℕ) → T (fits binary64 (A i j))) where
     value-back : (i j : ℕ) → 1 ≤ j → j ≤ i → i ≤ n → ofBits binary64 (patternIn sheet i j) ≡ A i j
@@ -165,7 +167,7 @@ module _ (b : List ℕ) (small : (i : ℕ) → getD b i 0 < 256) (lc lm : ℕ) (
       test e = unfold notFiniteIn in (of-test (finite (ofBits binary64 (patternIn b i j))) (refusedBy (NotFinite i j)) (λ z. refused-given z) e)
 
   -- its patterns are those of the values read
-  pattern-kept : (i j : ℕ) → 1 ≤ j → j ≤ i → i ≤ n → toBits binary64 (ofBits binary64 (patternIn b i j)) ≡ patternIn b i j
+  pub pattern-kept : (i j : ℕ) → 1 ≤ j → j ≤ i → i ≤ n → toBits binary64 (ofBits binary64 (patternIn b i j)) ≡ patternIn b i j
   pattern-kept i j h k o =
       toBits-ofBits binary64 (patternIn b i j) (unfold patternIn in (word-small b _ small))
       (no-nan (ofBits binary64 (patternIn b i j)) (stored-finite i j h k o))
@@ -178,7 +180,7 @@ module _ (b : List ℕ) (small : (i : ℕ) → getD b i 0 < 256) (lc lm : ℕ) (
       let o = place-within n e h in
       ap (λ (x : Float). byteOf (toBits binary64 x) q) (same _ _ (p .above) (p .within) o)
       ∙ ap (λ (w : ℕ). byteOf w q) (pattern-kept _ _ (p .above) (p .within) o)
-      ∙ unfold patternIn in (byte-back b (entriesFrom n + 8 * entryNumber (entryPlace e .0) (entryPlace e .1)) small q k)
+      ∙ unfold patternIn in (byte-of-word b (entriesFrom n + 8 * entryNumber (entryPlace e .0) (entryPlace e .1)) small q k)
       ∙ ap (λ (x : ℕ). getD b (entriesFrom n + 8 * x + q) 0) (p .number)
 
   -- written from what was read, it is the same bytes
@@ -269,18 +271,62 @@ write-back b small lc lm e lent o =
         (ap (λ (x : List ℕ). x ++ drop (sheetLength (orderIn b)) lent) (sheet-again b small lc lm r _ (stored-value b small lc lm r))
         ∙ ap (λ (x : ℕ). b ++ drop x lent) (sym (r .sheet-long)))
 
+-- ---- the same of what the two calls leave
+-- the answer of a writing is that of its tests
+pub writes : (n sweeps : ℕ) (codes : List ℕ) (l : List Float) (b : List ℕ) → writeOf n sweeps codes l b .answer ≡ given tt
+    → (writeAnswer n sweeps codes l (length b) ≡ given tt) × (writeOf n sweeps codes l b .bytes ≡ writtenOver n sweeps codes l b)
+unfolding writeOf
+writes n sweeps codes l b = go (writeAnswer n sweeps codes l (length b)) (writtenOver n sweeps codes l b)
+  where
+    go : (a : Answered Unit) (new : List ℕ) → unlessRefused a (writeOutcome (given tt) new) (λ x. writeOutcome x b) .answer ≡ given tt
+        → (a ≡ given tt) × (unlessRefused a (writeOutcome (given tt) new) (λ x. writeOutcome x b) .bytes ≡ new)
+    go (given tt) new e = (refl, refl)
+    go (refused k values) new e = refused-given e
+
+pub written-back : (n sweeps : ℕ) (codes : List ℕ) (l : List Float) (b : List ℕ) → ((k : ℕ) → T (fits binary64 (getD l k nan)))
+    → writeOf n sweeps codes l b .answer ≡ given tt → (c : List ℕ) (m : List Float) → length c ≡ n → length m ≡ n * n
+    → readOf (take (sheetLength n) (writeOf n sweeps codes l b .bytes)) c m ≡ readOutcome (given (n, sweeps)) codes l
+unfolding writtenOver
+written-back n sweeps codes l b fitting e c m lc lm =
+    let w = writes n sweeps codes l b e in
+    rw (w .1, take-at (sheetOf n sweeps codes (at n l)) (drop (sheetLength n) b) (sheetLength n) (sheet-long n sweeps codes (at n l)))
+    (read-back n sweeps codes l (length b) fitting (w .0) c m lc lm)
+
+-- and that of a reading
+pub reads : (b c : List ℕ) (m : List Float) (n sweeps : ℕ) → readOf b c m .answer ≡ given (n, sweeps)
+    → (readAnswer b (length c) (length m) ≡ given tt) × (readOf b c m ≡ contentOf b) × (orderIn b ≡ n) × (sweepsIn b ≡ sweeps)
+unfolding readOf
+reads b c m n sweeps = go (readAnswer b (length c) (length m)) refl
+  where
+    sizes : contentOf b .answer ≡ given (n, sweeps) → (orderIn b ≡ n) × (sweepsIn b ≡ sweeps)
+    sizes e = unfold contentOf in
+        (ap (λ (a : Answered (ℕ × ℕ)). valueOr a (0, 0) .0) e, ap (λ (a : Answered (ℕ × ℕ)). valueOr a (0, 0) .1) e)
+
+    go : (a : Answered Unit) → readAnswer b (length c) (length m) ≡ a
+        → unlessRefused a (contentOf b) (λ x. readOutcome x c m) .answer ≡ given (n, sweeps)
+        → (a ≡ given tt) × (unlessRefused a (contentOf b) (λ x. readOutcome x c m) ≡ contentOf b) × (orderIn b ≡ n) × (sweepsIn b ≡ sweeps)
+    go (given tt) z e = let w = sizes e in (refl, refl, w .0, w .1)
+    go (refused k values) z e = refused-given e
+
+pub written-again : (b : List ℕ) → ((i : ℕ) → getD b i 0 < 256) → (c : List ℕ) (m : List Float) (n sweeps : ℕ)
+    → readOf b c m .answer ≡ given (n, sweeps) → (lent : List ℕ) → length b ≤ length lent
+    → writeOf n sweeps (readOf b c m .codes) (readOf b c m .matrix) lent ≡ writeOutcome (given tt) (b ++ drop (length b) lent)
+unfolding contentOf
+written-again b small c m n sweeps e lent o =
+    let w = reads b c m n sweeps e in
+    rw (w .1, ← (w .2), ← (w .3)) (write-back b small (length c) (length m) (w .0) lent o)
+
 -- Two accepted contents with the same sheet are one.
 module _ (n n′ sweeps sweeps′ : ℕ) (codes codes′ : List ℕ) (l l′ : List Float) (lb lb′ : ℕ) (fitting : (k : ℕ) → T (fits binary64 (getD l k nan)))
     (fitting′ : (k : ℕ) → T (fits binary64 (getD l′ k nan)))
     (accepted : writeAnswer n sweeps codes l lb ≡ given tt) (accepted′ : writeAnswer n′ sweeps′ codes′ l′ lb′ ≡ given tt) where
-  pub same-sheet : sheetOf n sweeps codes (at n l) ≡ sheetOf n′ sweeps′ codes′ (at n′ l′) → SameContent n n′ sweeps sweeps′ codes codes′ l l′
+  pub same-sheet : sheetOf n sweeps codes (at n l) ≡ sheetOf n′ sweeps′ codes′ (at n′ l′) → (n ≡ n′) × (sweeps ≡ sweeps′) × (codes ≡ codes′) × (l ≡ l′)
   same-sheet e =
       let w = writable n sweeps codes l lb accepted in
-      let w′ = writable n′ sweeps′ codes′ l′ lb′ accepted′ in
-      record {
-        orders = sym (order-back n sweeps codes (at n l)) ∙ ap (λ (b : List ℕ). orderIn b) e ∙ order-back n′ sweeps′ codes′ (at n′ l′);
-        sweep-counts = sym (sweeps-back n sweeps codes (at n l)) ∙ ap (λ (b : List ℕ). sweepsIn b) e ∙ sweeps-back n′ sweeps′ codes′ (at n′ l′);
-        code-lists = sym (codes-back n sweeps codes (at n l) (w .codes-long)) ∙ ap codesIn e ∙ codes-back n′ sweeps′ codes′ (at n′ l′) (w′ .codes-long);
-        matrices = sym (entries-back n sweeps codes l lb fitting accepted) ∙ ap (λ (b : List ℕ). flat (orderIn b) (entryIn b)) e
-            ∙ entries-back n′ sweeps′ codes′ l′ lb′ fitting′ accepted′;
-      }
+      let w′ = writable n′ sweeps′ codes′ l′ lb′ accepted′ in (
+        sym (order-back n sweeps codes (at n l)) ∙ ap (λ (b : List ℕ). orderIn b) e ∙ order-back n′ sweeps′ codes′ (at n′ l′),
+        sym (sweeps-back n sweeps codes (at n l)) ∙ ap (λ (b : List ℕ). sweepsIn b) e ∙ sweeps-back n′ sweeps′ codes′ (at n′ l′),
+        sym (codes-back n sweeps codes (at n l) (w .codes-long)) ∙ ap codesIn e ∙ codes-back n′ sweeps′ codes′ (at n′ l′) (w′ .codes-long),
+        sym (entries-back n sweeps codes l lb fitting accepted) ∙ ap (λ (b : List ℕ). flat (orderIn b) (entryIn b)) e
+            ∙ entries-back n′ sweeps′ codes′ l′ lb′ fitting′ accepted′,
+      )

@@ -1,0 +1,86 @@
+-- What stands where: in the bytes that a writing leaves, and in the codes and the matrix that a reading leaves. Assumes nothing.
+use Prim.Native.Nat.{ℕ, _+_, _-_, _*_, _/_, _%_, _^_, _<_, _≤_}
+use mathlib.Core.Path.{_≡_, refl, sym, ap, _∙_}
+use mathlib.Core.List.{List, _++_}
+use native.Mathlib.Omega.{arith}
+use borrow.Author.Tests.{lt-ltb, le-ltb}
+use lib.ListN.{length, getD, drop, List·getD-append}
+use lib.Ieee.{Float, binary64, toBits}
+use Rattle.refusal.specs.Answers.{given}
+use Rattle.matrix.specs.Matrix.{at, flat}
+use Rattle.matrix.proofs.Same.{read-again}
+use Rattle.sheet.specs.Format.{sheetLength, entriesFrom, entryNumber, byteOf, sheetOf, orderIn, codesIn, patternIn, entryIn}
+use Rattle.sheet.proofs.Triangle.{length-is, number-below, half-of}
+use Rattle.sheet_reader.specs.Reader.{contentOf, readOf}
+use Rattle.sheet.proofs.Words.{byte-back as byte-of-word}
+use Rattle.sheet_reader.proofs.Stored.{code-at}
+use Rattle.sheet_reader.proofs.Tables.{readable}
+use Rattle.sheet_writer.specs.Writer.{writtenOver, writeOf}
+use Rattle.sheet_agreement.proofs.RoundTrip.{sheet-long, order-back, sweeps-back, code-back, byte-back, pattern-kept, writes, reads}
+
+-- the number of an entry in closed form
+pub number-is : (i j : ℕ) → 1 ≤ i → entryNumber i j ≡ i * (i - 1) / 2 + (j - 1)
+unfolding entryNumber
+number-is i j h = ap (λ k. k + (j - 1)) (sym (half-of i h))
+
+-- ---- written
+module _ (n sweeps : ℕ) (codes : List ℕ) (l : List Float) (b : List ℕ) (e : writeOf n sweeps codes l b .answer ≡ given tt) where
+  abbrev bytes : List ℕ
+  bytes = writeOf n sweeps codes l b .bytes
+
+  kept : (k : ℕ) → k < sheetLength n → getD bytes k 0 ≡ getD (sheetOf n sweeps codes (at n l)) k 0
+  unfolding writtenOver
+  kept k h =
+      ap (λ (x : List ℕ). getD x k 0) (writes n sweeps codes l b e .1)
+      ∙ List·getD-append (sheetOf n sweeps codes (at n l)) (drop (sheetLength n) b) 0 k (rw (sheet-long n sweeps codes (at n l)) h)
+
+  pub written-order : getD bytes 0 0 ≡ n
+  written-order = kept 0 (omega arith) ∙ order-back n sweeps codes (at n l)
+
+  pub written-sweeps : getD bytes 1 0 ≡ sweeps
+  written-sweeps = kept 1 (omega arith) ∙ sweeps-back n sweeps codes (at n l)
+
+  pub written-code : (k : ℕ) → k < n → getD bytes (2 + k) 0 ≡ getD codes k 0
+  written-code k h = kept (2 + k) (omega (arith, length-is n)) ∙ code-back n sweeps codes (at n l) k h
+
+  pub written-byte : (i j : ℕ) → 1 ≤ j → j ≤ i → i ≤ n → (r : ℕ) → r < 8
+      → getD bytes (2 + n + 8 * entryNumber i j + r) 0 ≡ toBits binary64 (at n l i j) / 256 ^ (7 - r) % 256
+  unfolding byteOf
+  written-byte i j h k o r p =
+      kept (2 + n + 8 * entryNumber i j + r) (omega (arith, length-is n, number-below n i j h k o)) ∙ byte-back n sweeps codes (at n l) i j h k o r p
+
+-- ---- read
+module _ (b c : List ℕ) (m : List Float) (n sweeps : ℕ) (e : readOf b c m .answer ≡ given (n, sweeps)) where
+  pub read-order : n ≡ getD b 0 0
+  read-order = sym (reads b c m n sweeps e .2)
+
+  pub read-sweeps : sweeps ≡ getD b 1 0
+  read-sweeps = sym (reads b c m n sweeps e .3)
+
+  pub read-code : (k : ℕ) → k < n → getD (readOf b c m .codes) k 0 ≡ getD b (2 + k) 0
+  unfolding contentOf
+  read-code k h = let w = reads b c m n sweeps e in rw (w .1) (code-at b k (omega (arith, w .2)))
+
+  entry : (i j : ℕ) → (1 ≤ i) × (i ≤ n) → (1 ≤ j) × (j ≤ n) → at n (readOf b c m .matrix) i j ≡ entryIn b i j
+  unfolding contentOf
+  entry i j hi hj = let w = reads b c m n sweeps e in rw (w .1, w .2) (read-again n (entryIn b) i j hi hj)
+
+  -- the entries that the sheet stores, byte by byte
+  pub read-byte : ((i : ℕ) → getD b i 0 < 256) → (i j : ℕ) → 1 ≤ j → j ≤ i → i ≤ n → (r : ℕ) → r < 8
+      → getD b (2 + n + 8 * entryNumber i j + r) 0 ≡ toBits binary64 (at n (readOf b c m .matrix) i j) / 256 ^ (7 - r) % 256
+  unfolding entryIn byteOf patternIn
+  read-byte small i j h k o r p =
+      let w = reads b c m n sweeps e in
+      let readable-as = readable b (length c) (length m) (w .0) in
+      sym (ap (λ (x : Float). byteOf (toBits binary64 x) r) (entry i j (omega arith, o) (h, omega arith) ∙ rw (le-ltb i j k))
+      ∙ ap (λ (x : ℕ). byteOf x r) (pattern-kept b small (length c) (length m) readable-as i j h k (omega (arith, w .2)))
+      ∙ byte-of-word b (entriesFrom (orderIn b) + 8 * entryNumber i j) small r p
+      ∙ ap (λ (x : ℕ). getD b (entriesFrom x + 8 * entryNumber i j + r) 0) (w .2))
+
+  -- and their mirrors
+  pub read-mirror : (i j : ℕ) → 1 ≤ i → i < j → j ≤ n → at n (readOf b c m .matrix) i j ≡ at n (readOf b c m .matrix) j i
+  unfolding entryIn
+  read-mirror i j h k o =
+      let up = entry i j (h, omega arith) (omega arith, o) in
+      let down = entry j i (omega arith, o) (h, omega arith) in
+      up ∙ (rw (lt-ltb i j k, le-ltb j i (omega arith))) ∙ sym down
