@@ -3,5 +3,6 @@ pub mod TicksInARow
 pub mod TileNeighbours
 pub mod TickedTiles
 pub mod TickedArray
+pub mod MadeTicks
 pub mod ArrayEnd
 pub mod AngleTable

@@ -1,36 +1,34 @@
 -- The array's run is the plain run, in every bit. Assumes nothing.
 use Prim.Native.Nat.{ℕ, zero, suc, _+_, _-_, _*_, _/_, _%_, _<_, _≤_}
-use mathlib.Core.Path.{_≡_, refl, sym, ap, _∙_}
+use mathlib.Core.Path.{_≡_, refl, ap, _∙_}
 use mathlib.Core.Bool.{Bool, true, false, cond}
 use mathlib.Core.List.{List}
 use native.Mathlib.Nat.{zero-add}
 use native.Mathlib.Omega.{arith}
-use borrow.Author.Tests.{lt-ltb, eqb-true, eqb-false}
+use borrow.Author.Tests.{eqb-true, eqb-false}
 use lib.Dec.{T, eqb}
 use lib.ListN.{length, getD}
 use lib.Ieee.{Float, nan, binary64, fits}
 use Rattle.refusal.specs.Answers.{Answered, given, refused, refusedBy, unlessRefused}
 use Rattle.refusal.specs.declared.Refusal.the-variants.{Spoiled}
 use Rattle.float64.specs.Values.{plusZero}
-use Rattle.lists.proofs.Tabulated.{getD-tabulate}
 use Rattle.systolic.specs.Slots.{Slot, slot, inOrderAt, inOrder}
 use Rattle.lists.specs.Bounded.{any}
-use Rattle.systolic.specs.Blocks.{cell, tab, pick}
+use Rattle.systolic.specs.Blocks.{cell, pick}
 use Rattle.systolic.specs.Synchronous.{Operations}
-use Rattle.systolic.specs.Sequential.{blockAt, operationsOf}
+use Rattle.systolic.specs.Sequential.{operationsOf}
 use Rattle.systolic.specs.Tiles as theory
 use Rattle.systolic.specs.Arrays.{tick, arrayAfter}
 use Rattle.lists.proofs.Bounded.{any-within}
 use Rattle.systolic.proofs.Neighbourhood.{tick-same}
 use Rattle.systolic.proofs.Starts.{tick-any-start}
 use Rattle.systolic.proofs.Agreement.{agreement}
-use Rattle.sizes.specs.Sizes.{mostProcessors, mostSweeps, isOrder, processorsOf, firstLine, stepsOf, ticksOf}
+use Rattle.sizes.specs.Sizes.{mostSweeps, isOrder, processorsOf, firstLine, stepsOf, ticksOf}
 use Rattle.sizes.proofs.Orders.{order-is, order-half, order-twice, sweep-is}
-use Rattle.matrix.specs.Matrix.{at, flat, entryOf}
+use Rattle.matrix.specs.Matrix.{at, flat}
 use Rattle.matrix.proofs.Same.{Line, flat-same}
-use Rattle.matrix.proofs.Within.{entry-at, place-is}
 use Rattle.matrix.proofs.AcceptedEntries.{accepted-long}
-use Rattle.runs.specs.State.{State, identity, startOf, zeros}
+use Rattle.runs.specs.State.{State, startOf, zeros}
 use Rattle.plain_run.specs.State.{after, notFinite, spoiled}
 use Rattle.runs.specs.Outcome.{beforeRun, outcome, resultsKept, answering}
 use Rattle.plain_run.specs.Run.{ranOf, runOf}
@@ -41,17 +39,16 @@ use Rattle.runs.proofs.Verdicts.{Begins, begins}
 use Rattle.plain_run.proofs.Outcomes.{start-finite}
 use Rattle.tile.specs.declared.Tile.{Tile}
 use Rattle.tile.proofs.IncomingCells.{sideBy, corner-cell}
-use Rattle.tile.specs.Tiles.{blockOf, theTile, operations}
-use Rattle.tile_start.specs.Beginning.{zeroPart, startingTile, quadAt, partAt, startTile}
+use Rattle.tile.specs.Tiles.{theTile, operations}
 use Rattle.array.specs.declared.Array.{Array}
-use Rattle.array.specs.Arrays.{noTile, tileAt, partOf, theArray, tilesAfter}
+use Rattle.array.specs.Arrays.{tileAt, theArray, tilesAfter}
 use Rattle.array.specs.Runs.{startArray, ticked, GoesOn}
 use Rattle.array.proofs.TickedTiles.{the-tile-of}
 use Rattle.array.proofs.ArrayEnd.{ended-stays}
 use Rattle.array.proofs.TicksInARow.{tilesFrom, ticked-made}
+use Rattle.array.proofs.MadeTicks.{tile-after, start-tile}
 use Rattle.array_run.specs.Results.{joinedAt, matrixIn, vectorsIn, someMarked, handedOver}
 use Rattle.array_run.specs.Whole.{wholeOf}
-use Rattle.array_agreement.proofs.Neighbours.{tile-after}
 
 -- the slot of a line
 abbrev slotOf : ℕ → Slot
@@ -109,44 +106,9 @@ module _ (n sweeps : ℕ) (l : List Float) (order : isOrder n ≡ true) (few : s
   within i h = let o = order-half n order .0 in omega arith
 
   -- ---- the start
-  entry-in : (r c : ℕ) → Line n r → Line n c → entryOf n l r c ≡ at n l r c
-  entry-in r c hr hc =
-      entry-at n r c l (place-is n r c (length l)
-      (record { row-above = hr .0; row-within = hr .1; column-above = hc .0; column-within = hc .1; square = long }))
-
-  lines : (i : ℕ) → i ≤ m → Line n (2 * i + 1) × Line n (2 * i + 1 + 1)
-  lines i h = let w = within i h in let e = order-twice n order in ((omega arith, omega arith), (omega arith, omega arith))
-
-  quad-entries : (i j : ℕ) → i ≤ m → j ≤ m → quadAt (entryOf n l) i j ≡ quadAt (at n l) i j
-  unfolding quadAt
-  quad-entries i j hi hj =
-      let a = lines i hi in
-      let b = lines j hj in
-      rw (entry-in _ _ (a .0) (b .0), entry-in _ _ (a .0) (b .1), entry-in _ _ (a .1) (b .0), entry-in _ _ (a .1) (b .1))
-
-  start-tile : (i j : ℕ) → i ≤ m → j ≤ m → tileAt (tilesBy 0) i j ≡ startingTile (partAt n l i j)
-  unfolding tilesBy tilesFrom startArray tileAt startTile
-  start-tile i j hi hj =
-      let few = order-half n order .1 in
-      let p = within i hi in
-      let q = within j hj in
-      let r : (i * mostProcessors + j) / mostProcessors ≡ i = omega arith in
-      let c : (i * mostProcessors + j) % mostProcessors ≡ j = omega arith in
-      getD-tabulate (mostProcessors * mostProcessors) _ (i * mostProcessors + j) noTile (omega arith) ∙ rw (r, c, lt-ltb i N p, lt-ltb j N q)
-
-  start-block : (i j : ℕ) → record { matrix = quadAt (at n l) i j; vectors = quadAt identity i j } ≡ partOf (blockAt (inOrder 1) (cellOf X) i j)
-  unfolding quadAt partOf blockAt tab inOrder inOrderAt slot cellOf startOf
-  start-block i j = refl
-
   starts-as : (i j : ℕ) → i ≤ m → j ≤ m → theArray (tilesBy 0) i j ≡ arrayAfter S m K 0 i j
-  unfolding theArray
-  starts-as i j hi hj = ap theTile (start-tile i j hi hj ∙ ap startingTile part-is) ∙ again
-    where
-      part-is : partAt n l i j ≡ partOf (blockAt (inOrder (firstLine n)) (cellOf X) i j)
-      part-is = unfold partAt in (rw (quad-entries i j hi hj) (start-block i j)) ∙ ap (λ b. partOf (blockAt (inOrder b) (cellOf X) i j)) (sym first)
-
-      again : theTile (startingTile (partOf (blockAt (inOrder (firstLine n)) (cellOf X) i j))) ≡ arrayAfter S m K 0 i j
-      again = unfold theTile startingTile partOf blockOf zeroPart arrayAfter operationsOf tab in refl
+  unfolding tilesBy tilesFrom arrayAfter operationsOf
+  starts-as i j hi hj = rw first (start-tile n sweeps l order long i j (within i hi) (within j hj))
 
   -- ---- the ticks
   from-start : (t : ℕ) (A : ℕ → ℕ → theory.Tile Cell Float Float) (i j : ℕ) → tick (operations s) m K t A i j ≡ tick S m K t A i j

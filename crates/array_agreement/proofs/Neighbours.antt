@@ -1,12 +1,8 @@
 -- Document 01, "Neighbourhood": two arrays with equal n, S and T that agree in one tile and in the wires that lead to it agree in that tile, and so in its
 -- outgoing wires, after the tick. Assumes nothing.
-use Prim.Native.Nat.{ℕ, _+_, _-_, _*_, _/_, _%_, _<_, _≤_}
+use Prim.Native.Nat.{ℕ, _-_, _<_, _≤_}
 use mathlib.Core.Path.{_≡_, refl, sym, ap, _∙_}
-use mathlib.Core.List.{List}
-use native.Mathlib.Omega.{arith}
-use borrow.Author.Tests.{lt-ltb}
 use Rattle.refusal.specs.Answers.{Answered, given, refused}
-use Rattle.lists.proofs.Tabulated.{getD-tabulate}
 use Rattle.systolic.specs.Arrays.{tick}
 use Rattle.systolic.proofs.Neighbourhood.{Alike, neighbourhood}
 use Rattle.sizes.specs.Sizes.{mostProcessors, processorsOf, stepsOf}
@@ -14,21 +10,12 @@ use Rattle.sizes.proofs.Orders.{order-half}
 use Rattle.tile_schedule.proofs.Answers.{made-means}
 use Rattle.runs.specs.Cells.{Setting, setting}
 use Rattle.tile_schedule.specs.Answers.{Tick, made, stopped, progressOf}
-use Rattle.tile.specs.declared.Tile.{Tile}
 use Rattle.tile.specs.Tiles.{theTile, operations}
 use Rattle.array.specs.declared.Array.{Array}
 use Rattle.array.specs.declared.Ticked.{Ticked}
-use Rattle.array.specs.Arrays.{noTile, tileAt, tileOf, theArray, tilesAfter, arrayOf, Ticks}
+use Rattle.array.specs.Arrays.{tileAt, tileOf, theArray, arrayOf, Ticks}
+use Rattle.array.proofs.MadeTicks.{tile-after}
 use Rattle.array_agreement.specs.Neighbours.{Agree}
-
--- the tile in row i and column j after a tick
-pub tile-after : (s : Setting) (N K t : ℕ) (l : List Tile) (i j : ℕ) → N ≤ mostProcessors → i < N → j < N
-    → tileAt (tilesAfter s N K t l) i j ≡ tileOf (tick (operations s) (N - 1) K t (theArray l) i j)
-unfolding tileAt tilesAfter
-tile-after s N K t l i j few hi hj =
-    let r : (i * mostProcessors + j) / mostProcessors ≡ i = omega arith in
-    let c : (i * mostProcessors + j) % mostProcessors ≡ j = omega arith in
-    getD-tabulate (mostProcessors * mostProcessors) _ (i * mostProcessors + j) noTile (omega arith) ∙ rw (r, c, lt-ltb i N hi, lt-ltb j N hj)
 
 module _ (x y : Array) (n-same : x .n ≡ y .n) (sweeps-same : x .sweeps ≡ y .sweeps) (tick-same : x .tick ≡ y .tick) (i j : ℕ) where
   alike : (N : ℕ) → Agree N (x .tiles) (y .tiles) i j → Alike (N - 1) (theArray (x .tiles)) (theArray (y .tiles)) i j

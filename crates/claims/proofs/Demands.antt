@@ -4,6 +4,8 @@ use Rattle.claims.specs.Demands.{Demands}
 use Rattle.claims.proofs.Refusals.{refused-as-tabled}
 use Rattle.claims.proofs.Report.{as-the-report}
 use Rattle.claims.proofs.Sheets.{sheets-kept}
+use Rattle.claims.proofs.PlainRuns.{plain-runs-as-stated}
+use Rattle.claims.proofs.Tiles.{tiles-as-printed}
 use Rattle.claims.proofs.Histories.{one-history}
 use Rattle.claims.proofs.Computed.{examples-hold}
 
@@ -13,6 +15,8 @@ demands-met =
       sizes = sizes-as-stated;
       demand-1 = refused-as-tabled;
       demand-2-numbers = as-the-report;
+      demand-2-runs = plain-runs-as-stated;
+      demand-2-tiles = tiles-as-printed;
       demand-2-sheets = sheets-kept;
       demand-3 = one-history;
       examples-hold = examples-hold;

@@ -10,6 +10,7 @@ pub mod Refusals
 pub mod Report
 pub mod Sheets
 pub mod Histories
+pub mod Tiles
 pub mod Demands
 pub mod Paired
 pub mod PlainRuns

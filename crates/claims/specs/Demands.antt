@@ -5,6 +5,8 @@ use Rattle.claims.specs.Sizes.{SizesAsStated}
 use Rattle.claims.specs.Refusals.{RefusedAsTabled}
 use Rattle.claims.specs.Report.{AsTheReport}
 use Rattle.claims.specs.Sheets.{SheetsKept}
+use Rattle.claims.specs.PlainRuns.{PlainRunsAsStated}
+use Rattle.claims.specs.Tiles.{TilesAsPrinted}
 use Rattle.claims.specs.Histories.{OneHistory}
 use Rattle.claims.specs.Examples.{All, examples}
 
@@ -12,6 +14,8 @@ pub record Demands : Type 0 where
   pub sizes : SizesAsStated
   pub demand-1 : RefusedAsTabled
   pub demand-2-numbers : AsTheReport
+  pub demand-2-runs : PlainRunsAsStated
+  pub demand-2-tiles : TilesAsPrinted
   pub demand-2-sheets : SheetsKept
   pub demand-3 : OneHistory
   pub examples-hold : All examples

@@ -4,5 +4,6 @@ pub mod Refusals
 pub mod Report
 pub mod Sheets
 pub mod PlainRuns
+pub mod Tiles
 pub mod Histories
 pub mod Examples

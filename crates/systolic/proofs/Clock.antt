@@ -3,9 +3,10 @@ use Prim.Native.Nat.{ℕ, zero, suc, _+_, _-_, _*_, _/_, _%_, _≤_, _<_}
 use mathlib.Core.Path.{_≡_, refl}
 use mathlib.Core.Bool.{Bool, true, false, cond}
 use native.Mathlib.Omega.{arith}
-use borrow.Author.Tests.{ltb-true, ltb-false, eqb-true, eqb-false}
+use borrow.Author.Tests.{ltb-true, ltb-false, eqb-true, eqb-false, eq-eqb, ne-eqb}
 use lib.Dec.{ltb, eqb}
-use Rattle.systolic.specs.Tiles.{Action, idle, first, rotate, phase1, phase2, final, action, actionAt, phaseIn}
+use Rattle.systolic.specs.Tiles.{Action, idle, first, rotate, phase1, phase2, final, action, actionAt, stepAt, phaseIn}
+use Rattle.systolic.specs.Traffic.{rotates, changesCells}
 
 pub data View (K δ t : ℕ) : Action → Type 0 where
   waiting : t < δ → View K δ t idle
@@ -82,3 +83,69 @@ at-writes K δ t φ k phase2 (setting-phase2 n w z) l h e = omega arith
 at-writes K δ t φ k final (finishing n w z) l h e = absurd (omega arith)
 at-writes K δ t φ k idle (finished w) l h e = absurd (omega arith)
 at-writes K δ t φ k idle (stepless w z) l h e = absurd (omega arith)
+
+-- ---- what a tile at distance δ does, by the tick
+pub step-at : (δ t k : ℕ) → t ≡ δ + 3 * k → stepAt δ t ≡ k
+unfolding stepAt
+step-at δ t k e = omega arith
+
+module _ (K δ t : ℕ) where
+  pub rotation-at : (k : ℕ) → k < K → t ≡ δ + 3 * k → actionAt K δ t ≡ cond (eqb k 0) first rotate
+  rotation-at k h e = go (actionAt K δ t) (view K δ t)
+    where
+      go : (a : Action) → View K δ t a → a ≡ cond (eqb k 0) first rotate
+      go idle (waiting w) = absurd (omega arith)
+      go first (starting w z) = rw (eq-eqb k 0 (omega arith))
+      go rotate (rotating n w z) = rw (ne-eqb k 0 (λ y. omega arith))
+      go phase1 (setting-phase1 n w z) = absurd (omega arith)
+      go phase2 (setting-phase2 n w z) = absurd (omega arith)
+      go final (finishing n w z) = absurd (omega arith)
+      go idle (finished w) = absurd (omega arith)
+      go idle (stepless w z) = absurd (omega arith)
+
+  pub reads-last : 0 < K → t ≡ δ + 3 * K → actionAt K δ t ≡ final
+  reads-last h e = go (actionAt K δ t) (view K δ t)
+    where
+      go : (a : Action) → View K δ t a → a ≡ final
+      go idle (waiting w) = absurd (omega arith)
+      go first (starting w z) = absurd (omega arith)
+      go rotate (rotating n w z) = absurd (omega arith)
+      go phase1 (setting-phase1 n w z) = absurd (omega arith)
+      go phase2 (setting-phase2 n w z) = absurd (omega arith)
+      go final v = refl
+      go idle (finished w) = absurd (omega arith)
+      go idle (stepless w z) = absurd (omega arith)
+
+  pub no-rotation : ((k : ℕ) → k < K → ¬ (t ≡ δ + 3 * k)) → rotates (actionAt K δ t) ≡ false
+  no-rotation f = go (actionAt K δ t) (view K δ t)
+    where
+      go : (a : Action) → View K δ t a → rotates a ≡ false
+      go idle v = refl
+      go first (starting w z) = absurd (f 0 z (omega arith))
+      go rotate (rotating n w z) = absurd (f (suc n) z w)
+      go phase1 v = refl
+      go phase2 v = refl
+      go final v = refl
+
+  pub no-change : ((k : ℕ) → 0 < K → k ≤ K → ¬ (t ≡ δ + 3 * k)) → changesCells (actionAt K δ t) ≡ false
+  no-change f = go (actionAt K δ t) (view K δ t)
+    where
+      go : (a : Action) → View K δ t a → changesCells a ≡ false
+      go idle v = refl
+      go first (starting w z) = absurd (f 0 z (omega arith) (omega arith))
+      go rotate (rotating n w z) = absurd (f (suc n) (omega arith) (omega arith) w)
+      go phase1 v = refl
+      go phase2 v = refl
+      go final (finishing n w z) = absurd (f (suc n) (omega arith) (omega arith) w)
+
+  pub sets-none : (δ ≤ t → δ + 3 * K ≤ t) → phaseIn (actionAt K δ t) ≡ 3
+  unfolding phaseIn
+  sets-none f = go (actionAt K δ t) (view K δ t)
+    where
+      go : (a : Action) → View K δ t a → phaseIn a ≡ 3
+      go idle v = refl
+      go first (starting w z) = let l = f (omega arith) in absurd (omega arith)
+      go rotate (rotating n w z) = let l = f (omega arith) in absurd (omega arith)
+      go phase1 (setting-phase1 n w z) = let l = f (omega arith) in absurd (omega arith)
+      go phase2 (setting-phase2 n w z) = let l = f (omega arith) in absurd (omega arith)
+      go final v = refl

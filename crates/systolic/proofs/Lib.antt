@@ -6,6 +6,7 @@ pub mod Wires
 pub mod Skew
 pub mod Ticks
 pub mod PrintedTables
+pub mod TileTicks
 pub mod Neighbourhood
 pub mod Starts
 pub mod TurnOrder

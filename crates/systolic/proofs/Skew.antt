@@ -13,7 +13,7 @@ use Rattle.systolic.specs.Tiles.{final, actionAt, stepAt, turnTile, newC
 use Rattle.systolic.specs.Arrays.{nearer, incoming, tick, arrayAfter}
 use Rattle.systolic.proofs.Cells.{cell-tab, tab-ext}
 use Rattle.systolic.proofs.Clock.{View, waiting, starting, rotating, setting-phase1, setting-phase2}
-use Rattle.systolic.proofs.Clock.{finishing, finished, stepless, view, writes-at, at-writes}
+use Rattle.systolic.proofs.Clock.{finishing, finished, stepless, view, writes-at, at-writes, step-at}
 use Rattle.systolic.proofs.Wires.{link, joined-le, InTime, in-time, phase-lt, nearer-ok}
 
 same : (Q : ℕ → Type 0) (k n : ℕ) → k ≡ n → Q n → Q k
@@ -92,14 +92,6 @@ module _ {X H W : Type 0} (S : Operations X H W) (m K : ℕ) where
       abbrev now : ℕ
       now = stepAt (distance i j) t
 
-      step-first : t ≡ distance i j → stepAt (distance i j) t ≡ 0
-      unfolding stepAt
-      step-first e = omega arith
-
-      step-later : (k : ℕ) → t ≡ distance i j + 3 * suc k → stepAt (distance i j) t ≡ suc k
-      unfolding stepAt
-      step-later k e = omega arith
-
       -- what a tile rotates
       began : 0 < K → t ≡ distance i j → old .cells ≡ blocksAt S m 0 i j
       unfolding blocksAt
@@ -107,12 +99,15 @@ module _ {X H W : Type 0} (S : Operations X H W) (m K : ℕ) where
 
       first-rotation : 0 < K → t ≡ distance i j → fresh first ≡ rotatedAt S m 0 i j
       unfolding newCells
-      first-rotation z e = rw (step-first e) (turned 0 i j _ _ _ (began z e) (row-in 0 i j pi pj z (omega arith)) (column-in 0 i j pi pj z (omega arith)))
+      first-rotation z e =
+          rw (step-at (distance i j) t 0 (omega arith))
+          (turned 0 i j _ _ _ (began z e) (row-in 0 i j pi pj z (omega arith)) (column-in 0 i j pi pj z (omega arith)))
 
       later-rotation : (k : ℕ) → t ≡ distance i j + 3 * suc k → suc k < K → fresh rotate ≡ rotatedAt S m (suc k) i j
       unfolding newCells
       later-rotation k e z =
-          rw (step-later k e) (turned (suc k) i j _ _ _ (reads k i j pi pj (omega arith) e) (row-in (suc k) i j pi pj z e) (column-in (suc k) i j pi pj z e))
+          rw (step-at (distance i j) t (suc k) e)
+          (turned (suc k) i j _ _ _ (reads k i j pi pj (omega arith) e) (row-in (suc k) i j pi pj z e) (column-in (suc k) i j pi pj z e))
 
       new-before : (a : Action) → View K (distance i j) t a → suc t ≤ distance i j → fresh a ≡ S .initial i j
       unfolding newCells
@@ -157,10 +152,10 @@ module _ {X H W : Type 0} (S : Operations X H W) (m K : ℕ) where
       new-parameter f c p held o g h idle (waiting w) k l x y = absurd (omega arith)
       new-parameter f c p held o g h first (starting w z) k l x y =
           same (λ n. cond (eqb i j) (f now i (old .cells)) p ≡ f n c (blocksAt S m n c c)) k 0 (omega arith)
-          (rw (step-first w) (sent f c 0 i j _ _ o (began z w) (g 0 z (omega arith))))
+          (rw (step-at (distance i j) t 0 (omega arith)) (sent f c 0 i j _ _ o (began z w) (g 0 z (omega arith))))
       new-parameter f c p held o g h rotate (rotating n w z) k l x y =
           same (λ n. cond (eqb i j) (f now i (incoming m (arrayAfter S m K t) i j)) p ≡ f n c (blocksAt S m n c c)) k (suc n) (omega arith)
-          (rw (step-later n w) (sent f c (suc n) i j _ _ o (reads n i j pi pj (omega arith) w) (g (suc n) z w)))
+          (rw (step-at (distance i j) t (suc n) w) (sent f c (suc n) i j _ _ o (reads n i j pi pj (omega arith) w) (g (suc n) z w)))
       new-parameter f c p held o g h phase1 (setting-phase1 n w z) k l x y = h k l (omega arith) (omega arith)
       new-parameter f c p held o g h phase2 (setting-phase2 n w z) k l x y = h k l (omega arith) (omega arith)
       new-parameter f c p held o g h final (finishing n w z) k l x y = absurd (omega arith)

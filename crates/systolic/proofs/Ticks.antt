@@ -11,7 +11,7 @@ use Rattle.systolic.specs.Synchronous.{Operations, blocksAt, rotatedAt}
 use Rattle.systolic.specs.Tiles.{distance, Action, idle, first, rotate, phase1, phase2, final, actionAt, newTile, tickTile}
 use Rattle.systolic.specs.Arrays.{tick, arrayAfter}
 use Rattle.lists.proofs.Bounded.{up-to, or-false, false-or}
-use Rattle.systolic.proofs.Clock.{View, waiting, starting, rotating, setting-phase1, setting-phase2, finishing, finished, stepless, view}
+use Rattle.systolic.proofs.Clock.{View, starting, rotating, setting-phase1, setting-phase2, finishing, view, reads-last}
 use Rattle.systolic.proofs.Skew.{all-known}
 
 module _ {X H W : Type 0} (S : Operations X H W) (m K : ℕ) where
@@ -106,14 +106,4 @@ idle-after m K t i j p q l = go (actionAt K (distance i j) t) (view K (distance 
 
 -- The tiles farthest from the diagonal read for the last time in it.
 pub final-at : (m K : ℕ) → 0 < K → actionAt K (distance 0 m) (3 * K + m) ≡ final
-final-at m K l = go (actionAt K (distance 0 m) (3 * K + m)) (view K (distance 0 m) (3 * K + m))
-  where
-    go : (a : Action) → View K (distance 0 m) (3 * K + m) a → a ≡ final
-    go idle (waiting w) = absurd (omega arith)
-    go first (starting w z) = absurd (omega arith)
-    go rotate (rotating k w z) = absurd (omega arith)
-    go phase1 (setting-phase1 k w z) = absurd (omega arith)
-    go phase2 (setting-phase2 k w z) = absurd (omega arith)
-    go final v = refl
-    go idle (finished w) = absurd (omega arith)
-    go idle (stepless w z) = absurd (omega arith)
+final-at m K l = reads-last K (distance 0 m) (3 * K + m) l (omega arith)

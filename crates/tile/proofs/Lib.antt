@@ -2,3 +2,4 @@ pub mod TileWork
 pub mod SetWires
 pub mod TileTick
 pub mod IncomingCells
+pub mod TileOperations

@@ -1,0 +1,135 @@
+-- What a start and a tick leave in each tile, each part by the law that proves it. Assumes nothing.
+use Prim.Native.Nat.{ℕ, _+_, _-_, _*_, _≤_, _<_}
+use mathlib.Core.Path.{_≡_, refl, ap, _∙_}
+use mathlib.Core.Bool.{Bool, cond, _||_}
+use mathlib.Core.List.{List}
+use native.Mathlib.Omega.{arith}
+use borrow.Author.Tests.{eq-eqb, ne-eqb}
+use lib.Dec.{eqb}
+use lib.Ieee.{Float}
+use Rattle.refusal.specs.Answers.{given, answered}
+use Rattle.systolic.specs.Slots.{Side, slot, inOrder, inOrderAt}
+use Rattle.systolic.specs.Blocks.{Block, tab}
+use Rattle.systolic.specs.Sequential.{blockAt}
+use Rattle.systolic.specs.Tiles.{distance, phaseOf, turnTile}
+use Rattle.systolic.specs.Arrays.{nearer, incoming, tick}
+use Rattle.systolic.specs.Schedule.{setInPhase0, setInPhase1, setInPhase2}
+use Rattle.systolic.proofs.PrintedTables.{phase-0-printed, phase-1-printed, phase-2-printed}
+use Rattle.systolic.proofs.TileTicks as ticks
+use Rattle.sizes.specs.Sizes.{processorsOf, stepsOf}
+use Rattle.runs.specs.State.{startOf}
+use Rattle.runs.specs.Cells.{Cell, cellOf, Setting, setting}
+use Rattle.runs.proofs.BlockTurns.{rows-turned, columns-turned}
+use Rattle.tile_schedule.specs.Answers.{made, progressAnswered}
+use Rattle.tile.specs.Tiles.{operations}
+use Rattle.tile.proofs.TileOperations.{tile-turns, tile-sends, tile-fails}
+use Rattle.array.specs.declared.Array.{Array}
+use Rattle.array.specs.declared.Started.{Started}
+use Rattle.array.specs.declared.Ticked.{Ticked}
+use Rattle.array.specs.Arrays.{Ticks}
+use Rattle.array.specs.Runs.{startArray, Starts}
+use Rattle.array.proofs.MadeTicks.{made-array, made-tile, started-array, started-tile, begun}
+use Rattle.claims.specs.Tiles.{OneTile, tileIn, rotated, CellsTicked, ParametersTicked, Sets, WiresTicked, TileTicked}
+use Rattle.claims.specs.Tiles.{TickMade, TileStarted, StartMade, TilesAsPrinted}
+
+-- ---- one tile in tick T, among tiles A
+module _ (s : Setting) (last K T : ℕ) (A : ℕ → ℕ → OneTile) (i j : ℕ) where
+  abbrev new : OneTile
+  new = tick (operations s) last K T A i j
+
+  abbrev brought : Block Cell
+  brought = incoming last A i j
+
+  abbrev h : Float
+  h = A i (nearer i j) .rowWire
+
+  abbrev v : Float
+  v = A (nearer j i) j .columnWire
+
+  turned : (k : ℕ) (b : Block Cell) → turnTile (operations s) k i j h v b ≡ rotated i j h v b
+  turned k b = tile-turns s k i b j h v ∙ simp (rows-turned, columns-turned)
+
+  cells-ticked : CellsTicked K T i j (A i j) new brought h v
+  cells-ticked =
+      record {
+        rotates = λ k l e. ticks.cells-rotated (operations s) last K T A i j k l e ∙ turned k _;
+        reads-last = ticks.cells-read-last (operations s) last K T A i j;
+        else-stays = λ f. ticks.cells-kept (operations s) last K T A i j (λ k z. f k);
+        no-step-stays = λ e. ticks.cells-kept (operations s) last K T A i j (λ k z. absurd (omega arith));
+      }
+
+  parameters-ticked : ParametersTicked K T i j (A i j) new brought h v
+  parameters-ticked =
+      record {
+        sends = λ k l e d.
+            let w = ticks.parameters-sent (operations s) last K T A i j k l (omega arith) in
+            let z = tile-sends s k i (cond (eqb k 0) (A i j .cells) brought) in
+            (w .0 ∙ rw (eq-eqb i j d) (z .0), w .1 ∙ rw (eq-eqb i j d) (z .1));
+        passes-on = λ k l e d.
+            let w = ticks.parameters-sent (operations s) last K T A i j k l e in (w .0 ∙ rw (ne-eqb i j d), w .1 ∙ rw (ne-eqb i j d));
+        else-keeps = ticks.parameters-kept (operations s) last K T A i j;
+      }
+
+  -- in phase φ
+  wires-set : (inPhase : ℕ → Side → Side → ℕ → ℕ → Bool) (φ k : ℕ) → φ < 3 → k < K → T ≡ distance i j + 3 * k + φ
+      → ((r s : Side) → eqb φ (phaseOf last r s i j) ≡ inPhase last r s i j) → Sets inPhase last i j (A i j) new
+  wires-set inPhase φ k f l e g r c =
+      ticks.wire-set (operations s) last K T A i j r c
+      ∙ rw (ticks.wire-set-in (operations s) last K T A i j φ k f l e r c, g r c)
+
+  wires-ticked : i ≤ last → j ≤ last → WiresTicked last K T i j (A i j) new
+  wires-ticked p q =
+      record {
+        in-phase-0 = λ k l e. wires-set setInPhase0 0 k (omega arith) l (omega arith) (λ r c. phase-0-printed last r c i j);
+        in-phase-1 = λ k l e. wires-set setInPhase1 1 k (omega arith) l e (λ r c. phase-1-printed last r c i j);
+        in-phase-2 = λ k l e. wires-set setInPhase2 2 k (omega arith) l e (λ r c. phase-2-printed last r c i j p q);
+        kept-before = λ l. ticks.wires-kept (operations s) last K T A i j (λ o. absurd (omega arith));
+        kept-at-the-end = λ l. ticks.wires-kept (operations s) last K T A i j (λ o. l);
+      }
+
+  tile-ticked : i ≤ last → j ≤ last → TileTicked last K T i j (A i j) new brought h v
+  tile-ticked p q =
+      record {
+        cells = cells-ticked;
+        parameters = parameters-ticked;
+        wires = wires-ticked p q;
+        mark = ticks.mark-set (operations s) last K T A i j ∙ ap (λ (b : Bool). A i j .mark || b) (tile-fails s (new .cells));
+      }
+
+-- ---- the record
+tick-made : (x : Array) (r : Ticked) → Ticks x r → progressAnswered (r .answer) ≡ given made → TickMade x r
+tick-made x r p m =
+    let e = made-array x r p m in
+    record {
+      same-order = ap (λ (y : Array). y .n) e;
+      same-sweeps = ap (λ (y : Array). y .sweeps) e;
+      next-tick = ap (λ (y : Array). y .tick) e;
+      each-tile = λ i j hi hj.
+          rw (made-tile x r p m i j hi hj)
+          (tile-ticked (setting (x .n)) (processorsOf (x .n) - 1) (stepsOf (x .n) (x .sweeps)) (x .tick) (tileIn x) i j (omega arith) (omega arith));
+    }
+
+begun-started : (n : ℕ) (l : List Float) (i j : ℕ) → TileStarted n l i j (begun n l i j)
+unfolding blockAt inOrder inOrderAt slot tab cellOf startOf
+begun-started n l i j =
+    let a : 2 * i + 1 + 1 ≡ 2 * i + 2 = omega arith in
+    let b : 2 * j + 1 + 1 ≡ 2 * j + 2 = omega arith in
+    record { cells = rw (a, b); wires = refl; parameters = (refl, refl); mark = refl }
+
+start-made : (n sweeps : ℕ) (l : List Float) (s : Started) → Starts n sweeps l s → answered (s .answer) ≡ given tt → StartMade n sweeps l s
+start-made n sweeps l s p m =
+    let e = started-array n sweeps l s p m in
+    record {
+      order = ap (λ (y : Array). y .n) e ∙ unfold startArray in refl;
+      sweep-count = ap (λ (y : Array). y .sweeps) e ∙ unfold startArray in refl;
+      tick-0 = ap (λ (y : Array). y .tick) e ∙ unfold startArray in refl;
+      each-tile = λ i j hi hj. rw (started-tile n sweeps l s p m i j hi hj) (begun-started n l i j);
+    }
+
+pub tiles-as-printed : TilesAsPrinted
+tiles-as-printed =
+    record {
+      starts = start-made;
+      ticks = tick-made;
+      wires-lead = λ x r s i j hi hj. ticks.wire-arrives (processorsOf (x .n) - 1) (tileIn x) r s i j (omega arith) (omega arith);
+    }

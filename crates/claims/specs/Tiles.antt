@@ -1,0 +1,176 @@
+-- Document 01, "The array": what a start and a tick that is made leave in each tile of the record. Tiles are counted
+-- from 0 here, so document 01's P_ij stands in row i - 1 and column j - 1. Definitions only.
+use Prim.Native.Nat.{ℕ, _+_, _-_, _*_, _≤_, _<_}
+use mathlib.Core.Path.{_≡_}
+use mathlib.Core.Bool.{Bool, false, not, cond, _||_}
+use mathlib.Core.List.{List}
+use lib.Dec.{eqb, ltb}
+use lib.Ieee.{Float}
+use Rattle.float64.specs.Values.{plusZero, finite}
+use Rattle.refusal.specs.Answers.{given, answered}
+use Rattle.systolic.specs.Slots.{Side}
+use Rattle.systolic.specs.Blocks.{Block, cell as corner}
+use Rattle.systolic.specs.Tiles.{Tile, distance}
+use Rattle.systolic.specs.Arrays.{nearer, incoming}
+use Rattle.systolic.specs.Schedule.{interchange, leadsTo, setInPhase0, setInPhase1, setInPhase2}
+use Rattle.sizes.specs.Sizes.{processorsOf, stepsOf}
+use Rattle.rotation.specs.Rotation.{ofPair, ofTangent, turnOf, sent}
+use Rattle.matrix.specs.Matrix.{at}
+use Rattle.runs.specs.State.{identity}
+use Rattle.runs.specs.Cells.{Cell, cell, blockTurned}
+use Rattle.tile_schedule.specs.Answers.{made, progressAnswered}
+use Rattle.array.specs.declared.Array.{Array}
+use Rattle.array.specs.declared.Started.{Started}
+use Rattle.array.specs.declared.Ticked.{Ticked}
+use Rattle.array.specs.Arrays.{theArray, Ticks}
+use Rattle.array.specs.Runs.{Starts}
+
+-- A tile of a record: four cells and four outgoing wires by its corners α β / γ δ, each an entry of the matrix and one
+-- of the eigenvectors; the wires along its row and along its column, which carry tangents; and its mark.
+abbrev pub OneTile : Type 0
+OneTile = Tile Cell Float Float
+
+abbrev pub tileIn : Array → ℕ → ℕ → OneTile
+tileIn x = theArray (x .tiles)
+
+-- ---- what a rotation makes of the four cells
+-- The parameters of a tile on the diagonal, by a = α, d = δ and b = β.
+abbrev pub tangentSent : Block Cell → Float
+tangentSent b = sent (ofPair (b .α .entry) (b .δ .entry) (b .β .entry))
+
+abbrev pub onDiagonal : Block Cell → Block Cell
+onDiagonal b = blockTurned (ofPair (b .α .entry) (b .δ .entry) (b .β .entry)) b
+
+-- The row turn by the tangent t: the matrix alone.
+abbrev pub rowsTurned : Float → Block Cell → Block Cell
+rowsTurned t b =
+    record {
+      α = cell (turnOf (ofTangent t) (b .α .entry) (b .γ .entry) .left) (b .α .vector);
+      β = cell (turnOf (ofTangent t) (b .β .entry) (b .δ .entry) .left) (b .β .vector);
+      γ = cell (turnOf (ofTangent t) (b .α .entry) (b .γ .entry) .right) (b .γ .vector);
+      δ = cell (turnOf (ofTangent t) (b .β .entry) (b .δ .entry) .right) (b .δ .vector);
+    }
+
+-- Both entries of a cell.
+abbrev pub leftTurned : Float → Cell → Cell → Cell
+leftTurned t x y =
+    cell (turnOf (ofTangent t) (x .entry) (y .entry) .left) (turnOf (ofTangent t) (x .vector) (y .vector) .left)
+
+abbrev pub rightTurned : Float → Cell → Cell → Cell
+rightTurned t x y =
+    cell (turnOf (ofTangent t) (x .entry) (y .entry) .right) (turnOf (ofTangent t) (x .vector) (y .vector) .right)
+
+-- The column turn by the tangent t: matrix and eigenvectors.
+abbrev pub columnsTurned : Float → Block Cell → Block Cell
+columnsTurned t b =
+    record {
+      α = leftTurned t (b .α) (b .β);
+      β = rightTurned t (b .α) (b .β);
+      γ = leftTurned t (b .γ) (b .δ);
+      δ = rightTurned t (b .γ) (b .δ);
+    }
+
+-- With i < j the row turn first, then the column turn; with i > j the column turn first. h comes along the row and v
+-- along the column.
+abbrev pub rotated : ℕ → ℕ → Float → Float → Block Cell → Block Cell
+rotated i j h v b =
+    cond (eqb i j) (onDiagonal b)
+    (cond (ltb i j) (columnsTurned v (rowsTurned h b)) (rowsTurned h (columnsTurned v b)))
+
+-- ---- one tile in tick T of a run of K steps, from old to new
+-- brought is what its cell wires bring, h and v what its parameter wires bring. It rotates at T = Δ + 3 k, k from 0 to
+-- K - 1, and reads its cell wires first unless T = Δ; at T = Δ + 3 K it reads them, if K > 0, and does not turn.
+pub record CellsTicked (K T i j : ℕ) (old new : OneTile) (brought : Block Cell) (h v : Float) : Type 0 where
+  pub rotates : (k : ℕ) → k < K → T ≡ distance i j + 3 * k
+      → new .cells ≡ rotated i j h v (cond (eqb k 0) (old .cells) brought)
+  pub reads-last : 0 < K → T ≡ distance i j + 3 * K → new .cells ≡ brought
+  pub else-stays : ((k : ℕ) → k ≤ K → ¬ (T ≡ distance i j + 3 * k)) → new .cells ≡ old .cells
+  pub no-step-stays : K ≡ 0 → new .cells ≡ old .cells
+
+-- A diagonal tile passes its tangent, +0 when still, along its row and its column; another passes on what comes.
+pub record ParametersTicked (K T i j : ℕ) (old new : OneTile) (brought : Block Cell) (h v : Float) : Type 0 where
+  pub sends : (k : ℕ) → k < K → T ≡ 3 * k → i ≡ j
+      → (new .rowWire ≡ tangentSent (cond (eqb k 0) (old .cells) brought))
+      × (new .columnWire ≡ tangentSent (cond (eqb k 0) (old .cells) brought))
+  pub passes-on : (k : ℕ) → k < K → T ≡ distance i j + 3 * k → ¬ (i ≡ j) → (new .rowWire ≡ h) × (new .columnWire ≡ v)
+  pub else-keeps : ((k : ℕ) → k < K → ¬ (T ≡ distance i j + 3 * k))
+      → (new .rowWire ≡ old .rowWire) × (new .columnWire ≡ old .columnWire)
+
+-- A wire carries what Algorithm Interchange (document 000) says of the new cells, from the phase T - Δ modulo 3 on in
+-- which Program 3 (document 003) sets it, and keeps its value otherwise. last is the last row and column.
+abbrev pub Sets : (ℕ → Side → Side → ℕ → ℕ → Bool) → ℕ → ℕ → ℕ → OneTile → OneTile → Type 0
+Sets inPhase last i j old new = (r s : Side)
+    → corner r s (new .wires)
+    ≡ cond (inPhase last r s i j) (corner r s (interchange i j (new .cells))) (corner r s (old .wires))
+
+pub record WiresTicked (last K T i j : ℕ) (old new : OneTile) : Type 0 where
+  pub in-phase-0 : (k : ℕ) → k < K → T ≡ distance i j + 3 * k → Sets setInPhase0 last i j old new
+  pub in-phase-1 : (k : ℕ) → k < K → T ≡ distance i j + 3 * k + 1 → Sets setInPhase1 last i j old new
+  pub in-phase-2 : (k : ℕ) → k < K → T ≡ distance i j + 3 * k + 2 → Sets setInPhase2 last i j old new
+  pub kept-before : T < distance i j → new .wires ≡ old .wires
+  pub kept-at-the-end : distance i j + 3 * K ≤ T → new .wires ≡ old .wires
+
+-- One of the eight values in the cells isn't finite.
+abbrev pub cellNotFinite : Cell → Bool
+cellNotFinite x = not (finite (x .entry)) || not (finite (x .vector))
+
+abbrev pub someCellNotFinite : Block Cell → Bool
+someCellNotFinite b = cellNotFinite (b .α) || cellNotFinite (b .β) || cellNotFinite (b .γ) || cellNotFinite (b .δ)
+
+-- A tile is marked, for good, once one of its cells isn't finite at the end of a tick.
+pub record TileTicked (last K T i j : ℕ) (old new : OneTile) (brought : Block Cell) (h v : Float) : Type 0 where
+  pub cells : CellsTicked K T i j old new brought h v
+  pub parameters : ParametersTicked K T i j old new brought h v
+  pub wires : WiresTicked last K T i j old new
+  pub mark : new .mark ≡ (old .mark || someCellNotFinite (new .cells))
+
+-- ---- the record
+-- All tiles read before any writes: what is brought comes from the record before the tick, along a row or column from
+-- the neighbour that is one nearer to the diagonal.
+abbrev pub Ticking : Array → Ticked → ℕ → ℕ → Type 0
+Ticking x r i j =
+    let last = processorsOf (x .n) - 1 in
+    TileTicked last (stepsOf (x .n) (x .sweeps)) (x .tick) i j (tileIn x i j) (tileIn (r .array) i j)
+    (incoming last (tileIn x) i j) (tileIn x i (nearer i j) .rowWire) (tileIn x (nearer j i) j .columnWire)
+
+pub record TickMade (x : Array) (r : Ticked) : Type 0 where
+  pub same-order : r .array .n ≡ x .n
+  pub same-sweeps : r .array .sweeps ≡ x .sweeps
+  pub next-tick : r .array .tick ≡ x .tick + 1
+  pub each-tile : (i j : ℕ) → i < processorsOf (x .n) → j < processorsOf (x .n) → Ticking x r i j
+
+-- Where a wire leads: the tile and the corner that document 000 joins it with get what it carries.
+abbrev pub WiresLead : Type 0
+WiresLead = (x : Array) (r s : Side) (i j : ℕ) → i < processorsOf (x .n) → j < processorsOf (x .n)
+    → (let last = processorsOf (x .n) - 1 in
+    let to = leadsTo last r s i j in
+    corner (to .down) (to .across) (incoming last (tileIn x) (to .row) (to .column)) ≡ corner r s (tileIn x i j .wires))
+
+-- Tile P_ij begins with the part of the matrix at row registers i and column registers j and a like part of the
+-- identity, all wires at +0, not marked.
+abbrev pub cornersAt : (ℕ → ℕ → Cell) → ℕ → ℕ → Block Cell
+cornersAt f i j =
+    record {
+      α = f (2 * i + 1) (2 * j + 1);
+      β = f (2 * i + 1) (2 * j + 2);
+      γ = f (2 * i + 2) (2 * j + 1);
+      δ = f (2 * i + 2) (2 * j + 2);
+    }
+
+pub record TileStarted (n : ℕ) (l : List Float) (i j : ℕ) (new : OneTile) : Type 0 where
+  pub cells : new .cells ≡ cornersAt (λ r c. cell (at n l r c) (identity r c)) i j
+  pub wires : new .wires ≡ cornersAt (λ r c. cell plusZero plusZero) i j
+  pub parameters : (new .rowWire ≡ plusZero) × (new .columnWire ≡ plusZero)
+  pub mark : new .mark ≡ false
+
+pub record StartMade (n sweeps : ℕ) (l : List Float) (s : Started) : Type 0 where
+  pub order : s .array .n ≡ n
+  pub sweep-count : s .array .sweeps ≡ sweeps
+  pub tick-0 : s .array .tick ≡ 0
+  pub each-tile : (i j : ℕ) → i < processorsOf n → j < processorsOf n → TileStarted n l i j (tileIn (s .array) i j)
+
+pub record TilesAsPrinted : Type 0 where
+  pub starts : (n sweeps : ℕ) (l : List Float) (s : Started) → Starts n sweeps l s → answered (s .answer) ≡ given tt
+      → StartMade n sweeps l s
+  pub ticks : (x : Array) (r : Ticked) → Ticks x r → progressAnswered (r .answer) ≡ given made → TickMade x r
+  pub wires-lead : WiresLead
