@@ -7,7 +7,7 @@ use Rattle.claims.proofs.Sheets.{sheets-kept}
 use Rattle.claims.proofs.PlainRuns.{plain-runs-as-stated}
 use Rattle.claims.proofs.Tiles.{tiles-as-printed}
 use Rattle.claims.proofs.Histories.{one-history}
-use Rattle.claims.proofs.Computed.{examples-hold}
+use Rattle.claims.proofs.Examples.{examples-hold}
 
 pub demands-met : Demands
 demands-met =

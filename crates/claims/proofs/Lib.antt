@@ -1,10 +1,10 @@
-pub mod Computed
+pub mod Examples
 pub mod Sizes
 pub mod Tables
-pub mod WhatIsLeft
+pub mod KeptContents
 pub mod Places
-pub mod Rounded
-pub mod Rotated
+pub mod RootAnswers
+pub mod RotationCases
 pub mod Moves
 pub mod Refusals
 pub mod Report
@@ -12,5 +12,5 @@ pub mod Sheets
 pub mod Histories
 pub mod Tiles
 pub mod Demands
-pub mod Paired
+pub mod PairEntries
 pub mod PlainRuns

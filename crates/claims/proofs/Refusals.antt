@@ -3,9 +3,9 @@ use mathlib.Core.Path.{_∙_}
 use Rattle.claims.specs.Refusals.{RefusedAsTabled}
 use Rattle.sheet_reader.proofs.Tables.{lent-right}
 use Rattle.claims.proofs.Places.{entries-tested}
-use Rattle.claims.proofs.Rounded as root
+use Rattle.claims.proofs.RootAnswers as root
 use Rattle.claims.proofs.Tables as tables
-use Rattle.claims.proofs.WhatIsLeft as leaving
+use Rattle.claims.proofs.KeptContents as kept
 
 pub refused-as-tabled : RefusedAsTabled
 refused-as-tabled =
@@ -15,14 +15,14 @@ refused-as-tabled =
       pairs-answer = λ n step r h. (h .answers, λ e. h .lists ∙ rw e);
       plain-run-answers = tables.run-table;
       whole-run-answers = tables.whole-table;
-      runs-leave = leaving.runs-leave;
-      start-answers = λ n sweeps l s h. (h .answers ∙ tables.start-table n sweeps l, leaving.start-none n sweeps l s h);
-      tick-answers = λ x r h. (h .answers ∙ tables.tick-table (x .n) (x .sweeps) (x .tick), leaving.tick-back x r h);
+      runs-leave = kept.runs-leave;
+      start-answers = λ n sweeps l s h. (h .answers ∙ tables.start-table n sweeps l, kept.start-none n sweeps l s h);
+      tick-answers = λ x r h. (h .answers ∙ tables.tick-table (x .n) (x .sweeps) (x .tick), kept.tick-back x r h);
       records-answer = tables.records-table;
-      records-leave = leaving.records-leave;
+      records-leave = kept.records-leave;
       reader-answers = tables.reader-table;
       sheet-answers = lent-right;
-      reader-leaves = leaving.reader-leaves;
+      reader-leaves = kept.reader-leaves;
       writer-answers = tables.writer-table;
-      writer-leaves = leaving.writer-leaves;
+      writer-leaves = kept.writer-leaves;
     }

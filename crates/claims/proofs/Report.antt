@@ -1,8 +1,8 @@
 -- Demand 2 on numbers, each part by the law that proves it. Assumes nothing.
 use Rattle.claims.specs.Report.{AsTheReport}
-use Rattle.claims.proofs.Rounded.{root-rounds}
-use Rattle.claims.proofs.Rotated as rotated
-use Rattle.claims.proofs.Paired.{paired}
+use Rattle.claims.proofs.RootAnswers.{root-rounds}
+use Rattle.claims.proofs.RotationCases as rotation
+use Rattle.claims.proofs.PairEntries.{paired}
 use Rattle.claims.proofs.Moves.{moves}
 
 pub as-the-report : AsTheReport
@@ -10,6 +10,6 @@ as-the-report =
     record {
       root-rounds-correctly = root-rounds;
       rotation-is-the-reports =
-          record { turns = rotated.turns; pair = paired; still = rotated.still; sign-of-zero = rotated.sign-of-zero; not-a-number = rotated.not-a-number };
+          record { turns = rotation.turns; pair = paired; still = rotation.still; sign-of-zero = rotation.sign-of-zero; not-a-number = rotation.not-a-number };
       pairing-is-the-reports = moves;
     }

@@ -10,16 +10,16 @@ const TEXT: usize = listing_text::LONGEST;
 
 fn main() {
     let mut sheet = [0u8; INPUT];
-    let length = io::read_full(STDIN_FILENO, &mut sheet);
+    let bytes = io::read_full(STDIN_FILENO, &mut sheet);
     let mut text = [0u8; TEXT];
-    let listed = listing::list(&sheet[..length], &mut text);
+    let listed = listing::list(&sheet[..bytes], &mut text);
     write(&text, listed.count);
 }
 
 // Writes the first bytes of a text.
-fn write(text: &[u8], length: usize) -> bool {
-    if length > text.len() {
+fn write(text: &[u8], bytes: usize) -> bool {
+    if bytes > text.len() {
         return false;
     }
-    io::write_all(STDOUT_FILENO, &text[..length])
+    io::write_all(STDOUT_FILENO, &text[..bytes])
 }

@@ -26,7 +26,7 @@ use Rattle.sheet_reader.specs.declared.Reading.{Reading}
 use Rattle.sheet_reader.specs.declared.Reading.the-variants as reading
 use Rattle.sheet_reader.specs.Reader.{sheetAnswer, readAnswer, ReadOutcome, readOutcome, readingAnswered, contentOf, readOf}
 use Rattle.sheet_reader.proofs.Tables.{lent-right, readable}
-use Rattle.listing_text.specs.Printed.{Printing, printing, printOf, refusedLine, refusalOf, roomFor}
+use Rattle.listing_text.specs.Printed.{Printing, printing, printOf, refusedTextLine, refusalOf, roomFor}
 use Rattle.listing.specs.Listing.{ListingOutcome, listed, byRun, roomThenRun, contentListed, listOf}
 
 -- ---- the order
@@ -50,8 +50,9 @@ module _ (b : List ℕ) where
   pub order-there : {n : ℕ} → n ≡ cond (ltb largestOrder (orderIn b)) 0 (orderIn b) → isOrder (orderIn b) ≡ true → n ≡ orderIn b
   order-there e z = e ∙ sym (not-too-large (order-is (orderIn b) z .2))
 
--- ---- the line of a refusal
-pub refusal-listed : (r : Refusal) (t : List ℕ) {p : Printing} → p ≡ refusalOf r t → listed (refusedBy r) p ≡ listed (refusedBy r) (refusedLine (numberOf r) t)
+-- ---- the text line of a refusal
+pub refusal-listed : (r : Refusal) (t : List ℕ) {p : Printing} → p ≡ refusalOf r t
+    → listed (refusedBy r) p ≡ listed (refusedBy r) (refusedTextLine (numberOf r) t)
 unfolding refusalOf
 refusal-listed r t e = ap (listed (refusedBy r)) e
 
@@ -68,7 +69,7 @@ module _ (n sweeps : ℕ) (codes t : List ℕ) (o : Outcome ℕ) where
     run-printed ticks z h k = rw (le-ltb _ _ room, k) (ap (λ (y : Outcome ℕ). byRun (y .answer) y n sweeps codes t) (rw z at h))
 
     pub run-not-printed : (r : Refusal) {y : ListingOutcome} → x ≡ completion.Refused r → outcome (completionAnswered x) l e ≡ o
-        → y ≡ listed (refusedBy r) (refusedLine (numberOf r) t) → y ≡ roomThenRun n sweeps codes o t
+        → y ≡ listed (refusedBy r) (refusedTextLine (numberOf r) t) → y ≡ roomThenRun n sweeps codes o t
     unfolding roomThenRun
     run-not-printed r z h k = rw (le-ltb _ _ room, k) (ap (λ (y : Outcome ℕ). byRun (y .answer) y n sweeps codes t) (rw z at h))
 
@@ -141,7 +142,7 @@ module _ (b : List ℕ) where
   module _ (c : List ℕ) (m : List Float) (t : List ℕ) (fit : Fitting (length c) (length m)) where
     pub sheet-refused : (x : Reading) (r : Refusal) {y : ListingOutcome} {codes : List ℕ} {l : List Float}
         → readOutcome (readingAnswered x) codes l ≡ readOf b c m
-        → x ≡ reading.Refused r → y ≡ listed (refusedBy r) (refusedLine (numberOf r) t) → y ≡ listOf b t
+        → x ≡ reading.Refused r → y ≡ listed (refusedBy r) (refusedTextLine (numberOf r) t) → y ≡ listOf b t
     unfolding listOf
     sheet-refused x r h z k = rw (← (answers-alike (length c) (length m) fit), was-refused c m x h r z, k)
 

@@ -12,7 +12,7 @@ use Rattle.runs.specs.State.{zeros}
 use Rattle.array_run.specs.Whole.{wholeOf}
 use Rattle.sheet.specs.Format.{orderIn, sweepsIn, codesIn, entryIn}
 use Rattle.sheet_reader.specs.Reader.{sheetAnswer}
-use Rattle.listing_text.specs.Printed.{Printing, printOf, refusedLine, roomFor}
+use Rattle.listing_text.specs.Printed.{Printing, printOf, refusedTextLine, roomFor}
 
 -- What a listing answers, how many bytes it prints, and what the lent bytes hold.
 pub record ListingOutcome : Type 0 where
@@ -23,10 +23,10 @@ pub record ListingOutcome : Type 0 where
 abbrev pub listed : Answered Unit → Printing → ListingOutcome
 listed a p = record { answer = a; count = p .count; bytes = p .bytes }
 
--- The results o of a run, printed, or the line of its refusal.
+-- The results o of a run, printed, or the text line of its refusal.
 abbrev pub byRun : Answered ℕ → Outcome ℕ → ℕ → ℕ → List ℕ → List ℕ → ListingOutcome
 byRun (given ticks) o n sweeps codes t = listed (given tt) (printOf n sweeps ticks codes (o .result) (o .vectors) t)
-byRun (refused k values) o n sweeps codes t = listed (refused k values) (refusedLine k t)
+byRun (refused k values) o n sweeps codes t = listed (refused k values) (refusedTextLine k t)
 
 -- Refusal 7, and then the run, whose outcome is o.
 unfoldable pub roomThenRun : ℕ → ℕ → List ℕ → Outcome ℕ → List ℕ → ListingOutcome
@@ -40,7 +40,7 @@ contentListed b t =
 
 abbrev pub byReading : Answered Unit → List ℕ → List ℕ → ListingOutcome
 byReading (given x) b t = contentListed b t
-byReading (refused k values) b t = listed (refused k values) (refusedLine k t)
+byReading (refused k values) b t = listed (refused k values) (refusedTextLine k t)
 
 -- The listing of the sheet b in the lent bytes t. Its own refusals come first.
 unfoldable pub listOf : List ℕ → List ℕ → ListingOutcome

@@ -9,7 +9,7 @@ ghost use Rattle.refusal.specs.Refusal.{numberOf};
 ghost use Rattle.sizes.specs.Sizes.{isOrder, largestOrder};
 ghost use Rattle.array_run.specs.Whole.{wholeOf};
 ghost use Rattle.sheet.specs.Format.{orderIn};
-ghost use Rattle.listing_text.specs.Printed.{printing, refusedLine};
+ghost use Rattle.listing_text.specs.Printed.{printing, refusedTextLine};
 ghost use Rattle.listing.specs.Listing.{listed, roomThenRun, listOf};
 use array_run::Completion;
 use refusal::Answer;
@@ -109,10 +109,10 @@ fn run(
     }
 }
 
-// The line of a refusal.
+// The text line of a refusal.
 fn refuse(refused: Refusal, text: &mut [u8]) -> Listing
     ensures { λ r. ⌜ listed (answered (r .answer)) (printing (r .count) (now (text .exit)))
-        ≡ listed (refusedBy refused) (refusedLine (numberOf refused) (now (text .entry))) ⌝ }
+        ≡ listed (refusedBy refused) (refusedTextLine (numberOf refused) (now (text .entry))) ⌝ }
 {
     let count = listing_text::print_refusal(refused, text);
     Listing {

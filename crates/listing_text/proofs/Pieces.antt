@@ -13,7 +13,7 @@ use Rattle.refusal.specs.declared.Refusal.{Refusal}
 use Rattle.sizes.specs.Sizes.{isOrder}
 use Rattle.matrix.specs.Matrix.{at}
 use Rattle.text.specs.Text.{decimalOf, hexOf, space, newline, Put}
-use Rattle.listing_text.specs.Printed.{valueField, columnOf, headOf, lineOf, linesOf, printedOf}
+use Rattle.listing_text.specs.Printed.{valueField, columnOf, headOf, textLineOf, textLinesOf, printedOf}
 use Rattle.listing_text.specs.Printed.{roomFor, printable, printing, printOf, refusedWord, refusedText, refusalOf}
 use Rattle.text.proofs.TextPieces.{put-none, put-then, put-as, put-whole}
 
@@ -27,28 +27,28 @@ module _ {l m r : List ℕ} {from e f : ℕ} where
   unfolding columnOf
   column-next E c k p q z = let a : k + 1 ≡ suc k = omega arith in rw a (put-then p (put-as q (ap valueField (z ∙ ap (λ (i : ℕ). E i c) a))))
 
-  pub lines-next : (n : ℕ) (codes : List ℕ) (A E : ℕ → ℕ → Float) (k : ℕ) → Put l from (linesOf n codes A E k) m e
-      → Put m e (lineOf n (getD codes k 0) A E (k + 1)) r f → Put l from (linesOf n codes A E (k + 1)) r f
-  unfolding linesOf
-  lines-next n codes A E k p q = let a : k + 1 ≡ suc k = omega arith in rw a (put-then p (put-as q (ap (lineOf n (getD codes k 0) A E) a)))
+  pub text-lines-next : (n : ℕ) (codes : List ℕ) (A E : ℕ → ℕ → Float) (k : ℕ) → Put l from (textLinesOf n codes A E k) m e
+      → Put m e (textLineOf n (getD codes k 0) A E (k + 1)) r f → Put l from (textLinesOf n codes A E (k + 1)) r f
+  unfolding textLinesOf
+  text-lines-next n codes A E k p q = let a : k + 1 ≡ suc k = omega arith in rw a (put-then p (put-as q (ap (textLineOf n (getD codes k 0) A E) a)))
 
 pub column-none : (l : List ℕ) (from : ℕ) (E : ℕ → ℕ → Float) (c : ℕ) → Put l from (columnOf E c 0) l from
 unfolding columnOf
 column-none l from E c = put-none l from
 
-pub lines-none : (l : List ℕ) (from n : ℕ) (codes : List ℕ) (A E : ℕ → ℕ → Float) → Put l from (linesOf n codes A E 0) l from
-unfolding linesOf
-lines-none l from n codes A E = put-none l from
+pub text-lines-none : (l : List ℕ) (from n : ℕ) (codes : List ℕ) (A E : ℕ → ℕ → Float) → Put l from (textLinesOf n codes A E 0) l from
+unfolding textLinesOf
+text-lines-none l from n codes A E = put-none l from
 
 pub head-put : (n sweeps ticks : ℕ) {l₀ l₁ l₂ l₃ l₄ l₅ l₆ : List ℕ} {a b c d e f g : ℕ} → Put l₀ a (decimalOf n) l₁ b → Put l₁ b space l₂ c
     → Put l₂ c (decimalOf sweeps) l₃ d → Put l₃ d space l₄ e → Put l₄ e (decimalOf ticks) l₅ f → Put l₅ f newline l₆ g → Put l₀ a (headOf n sweeps ticks) l₆ g
 unfolding headOf
 head-put n sweeps ticks p q r s t u = put-then p (put-then q (put-then r (put-then s (put-then t u))))
 
-pub line-put : (n code : ℕ) (A E : ℕ → ℕ → Float) (k : ℕ) {x : Float} {l₀ l₁ l₂ l₃ l₄ : List ℕ} {a b c d e : ℕ} → Put l₀ a (decimalOf code) l₁ b
-    → Put l₁ b (valueField x) l₂ c → Put l₂ c (columnOf E k n) l₃ d → Put l₃ d newline l₄ e → x ≡ A k k → Put l₀ a (lineOf n code A E k) l₄ e
-unfolding lineOf
-line-put n code A E k p q r s z = put-then p (put-then (put-as q (ap valueField z)) (put-then r s))
+pub text-line-put : (n code : ℕ) (A E : ℕ → ℕ → Float) (k : ℕ) {x : Float} {l₀ l₁ l₂ l₃ l₄ : List ℕ} {a b c d e : ℕ} → Put l₀ a (decimalOf code) l₁ b
+    → Put l₁ b (valueField x) l₂ c → Put l₂ c (columnOf E k n) l₃ d → Put l₃ d newline l₄ e → x ≡ A k k → Put l₀ a (textLineOf n code A E k) l₄ e
+unfolding textLineOf
+text-line-put n code A E k p q r s z = put-then p (put-then (put-as q (ap valueField z)) (put-then r s))
 
 -- ---- what is printable
 module _ (n sweeps ticks codes matrix vectors room : ℕ) where
@@ -120,7 +120,7 @@ module _ (n sweeps ticks : ℕ) (codes : List ℕ) (l e : List Float) (b : List 
   not-printed z = rw z
 
   pub printed : {m r : List ℕ} {d f : ℕ} → printable n sweeps ticks (length codes) (length l) (length e) (length b) ≡ true
-      → Put b 0 (headOf n sweeps ticks) m d → Put m d (linesOf n codes (at n l) (at n e) n) r f → printing f r ≡ printOf n sweeps ticks codes l e b
+      → Put b 0 (headOf n sweeps ticks) m d → Put m d (textLinesOf n codes (at n l) (at n e) n) r f → printing f r ≡ printOf n sweeps ticks codes l e b
   unfolding printOf
   printed {m} {r} {d} {f} z p q = rw z (whole b (printedOf n sweeps ticks codes (at n l) (at n e)) r f (unfold printedOf in (put-then p q)))
 

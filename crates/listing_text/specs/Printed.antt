@@ -20,29 +20,29 @@ unfoldable pub columnOf : (ℕ → ℕ → Float) → ℕ → ℕ → List ℕ
 columnOf E c zero = []
 columnOf E c (suc k) = columnOf E c k ++ valueField (E (suc k) c)
 
--- The first line.
+-- The first text line.
 unfoldable pub headOf : ℕ → ℕ → ℕ → List ℕ
 headOf n sweeps ticks = decimalOf n ++ (space ++ (decimalOf sweeps ++ (space ++ (decimalOf ticks ++ newline))))
 
--- The line of a code and its line k: the code, its diagonal entry, and that column of the eigenvectors from the top.
-unfoldable pub lineOf : ℕ → ℕ → (ℕ → ℕ → Float) → (ℕ → ℕ → Float) → ℕ → List ℕ
-lineOf n code A E k = decimalOf code ++ (valueField (A k k) ++ (columnOf E k n ++ newline))
+-- The text line of a code and its line k: the code, its diagonal entry, and that column of the eigenvectors from the top.
+unfoldable pub textLineOf : ℕ → ℕ → (ℕ → ℕ → Float) → (ℕ → ℕ → Float) → ℕ → List ℕ
+textLineOf n code A E k = decimalOf code ++ (valueField (A k k) ++ (columnOf E k n ++ newline))
 
--- The first k lines.
-unfoldable pub linesOf : ℕ → List ℕ → (ℕ → ℕ → Float) → (ℕ → ℕ → Float) → ℕ → List ℕ
-linesOf n codes A E zero = []
-linesOf n codes A E (suc k) = linesOf n codes A E k ++ lineOf n (getD codes k 0) A E (suc k)
+-- The first k text lines.
+unfoldable pub textLinesOf : ℕ → List ℕ → (ℕ → ℕ → Float) → (ℕ → ℕ → Float) → ℕ → List ℕ
+textLinesOf n codes A E zero = []
+textLinesOf n codes A E (suc k) = textLinesOf n codes A E k ++ textLineOf n (getD codes k 0) A E (suc k)
 
 unfoldable pub printedOf : ℕ → ℕ → ℕ → List ℕ → (ℕ → ℕ → Float) → (ℕ → ℕ → Float) → List ℕ
-printedOf n sweeps ticks codes A E = headOf n sweeps ticks ++ linesOf n codes A E n
+printedOf n sweeps ticks codes A E = headOf n sweeps ticks ++ textLinesOf n codes A E n
 
--- Bytes that are enough for the line of a code: 4 for the code, 17 for the diagonal entry, 17 for each value of the column, and a newline.
-abbrev pub lineRoom : ℕ → ℕ
-lineRoom n = 22 + 17 * n
+-- Bytes that are enough for the text line of a code: 4 for the code, 17 for the diagonal entry, 17 for each value of the column, and a newline.
+abbrev pub textLineRoom : ℕ → ℕ
+textLineRoom n = 22 + 17 * n
 
--- Bytes that are enough for a first line of 15 and n lines of codes.
+-- Bytes that are enough for a first text line of 15 and n text lines of codes.
 abbrev pub roomFor : ℕ → ℕ
-roomFor n = 15 + n * lineRoom n
+roomFor n = 15 + n * textLineRoom n
 
 -- The sizes are those of a run, the numbers have at most 4 digits, and the bytes are enough.
 unfoldable pub printable : ℕ → ℕ → ℕ → ℕ → ℕ → ℕ → ℕ → Bool
@@ -69,9 +69,9 @@ refusedWord = 114 ∷ 101 ∷ 102 ∷ 117 ∷ 115 ∷ 101 ∷ 100 ∷ space
 abbrev pub refusedText : ℕ → List ℕ
 refusedText k = refusedWord ++ (decimalOf k ++ newline)
 
--- The line of the refusal with the number k, in bytes that are enough for any.
-abbrev pub refusedLine : ℕ → List ℕ → Printing
-refusedLine k b = cond (ltb (length b) 13) (printing 0 b) (printing (length (refusedText k)) (refusedText k ++ drop (length (refusedText k)) b))
+-- The text line of the refusal with the number k, in bytes that are enough for any.
+abbrev pub refusedTextLine : ℕ → List ℕ → Printing
+refusedTextLine k b = cond (ltb (length b) 13) (printing 0 b) (printing (length (refusedText k)) (refusedText k ++ drop (length (refusedText k)) b))
 
 unfoldable pub refusalOf : Refusal → List ℕ → Printing
-refusalOf r b = refusedLine (numberOf r) b
+refusalOf r b = refusedTextLine (numberOf r) b

@@ -5,7 +5,7 @@ ghost use lib.ListN.{length};
 ghost use Rattle.matrix.specs.Matrix.{at};
 ghost use Rattle.sizes.specs.Sizes.{largestOrder};
 ghost use Rattle.text.specs.Text.{Put};
-ghost use Rattle.listing_text.specs.Printed.{valueField, columnOf, headOf, lineOf, linesOf, lineRoom};
+ghost use Rattle.listing_text.specs.Printed.{valueField, columnOf, headOf, textLineOf, textLinesOf, textLineRoom};
 ghost use Rattle.listing_text.specs.Printed.{roomFor, printable, printing, printOf, refusedWord, refusalOf};
 use refusal::Refusal;
 use sizes::LARGEST_ORDER;
@@ -39,7 +39,7 @@ pub fn print(
         return 0;
     }
     let head = put_head(n, sweeps, ticks, out);
-    put_lines(n, codes, matrix, vectors, head, out)
+    put_text_lines(n, codes, matrix, vectors, head, out)
 }
 
 // Prints a refusal into lent bytes, and answers how many they are. Nothing is printed where there may be too little room.
@@ -111,7 +111,7 @@ fn is_printable(
     room >= room_for(n)
 }
 
-// The first line.
+// The first text line.
 fn put_head(n: usize, sweeps: usize, ticks: usize, out: &mut [u8]) -> usize
     requires { ⌜ 15 ≤ length (now out) ⌝ }
     ensures { λ r. ⌜ Put (now (out .entry)) 0 (headOf n sweeps ticks) (now (out .exit)) r ⌝ }
@@ -125,8 +125,8 @@ fn put_head(n: usize, sweeps: usize, ticks: usize, out: &mut [u8]) -> usize
     text::put(b'\n', tick, out)
 }
 
-// A line for each code.
-fn put_lines(
+// A text line for each code.
+fn put_text_lines(
     n: usize,
     codes: &[u8],
     matrix: &[f64],
@@ -135,19 +135,19 @@ fn put_lines(
     out: &mut [u8],
 ) -> usize
     requires { ⌜ (length (now codes) ≡ n) × (length (now matrix) ≡ n * n) × (length (now vectors) ≡ n * n)
-        × (from + n * lineRoom n ≤ length (now out)) ⌝ }
+        × (from + n * textLineRoom n ≤ length (now out)) ⌝ }
     ensures { λ r. ⌜ Put (now (out .entry)) from
-        (linesOf n (now (codes .entry)) (at n (now (matrix .entry))) (at n (now (vectors .entry))) n) (now (out .exit)) r ⌝ }
+        (textLinesOf n (now (codes .entry)) (at n (now (matrix .entry))) (at n (now (vectors .entry))) n) (now (out .exit)) r ⌝ }
 {
     let mut end = from;
     for k in 0..n {
-        end = put_line(n, k + 1, codes[k], matrix, vectors, end, out);
+        end = put_text_line(n, k + 1, codes[k], matrix, vectors, end, out);
     }
     end
 }
 
-// The code of line k, its diagonal entry, and that column of the eigenvectors from the top.
-fn put_line(
+// The text line of line k: its code, its diagonal entry, and that column of the eigenvectors from the top.
+fn put_text_line(
     n: usize,
     k: usize,
     code: u8,
@@ -157,10 +157,10 @@ fn put_line(
     out: &mut [u8],
 ) -> usize
     requires { ⌜ (1 ≤ k) × (k ≤ n) × (length (now matrix) ≡ n * n) × (length (now vectors) ≡ n * n)
-        × (from + lineRoom n ≤ length (now out)) ⌝ }
+        × (from + textLineRoom n ≤ length (now out)) ⌝ }
     ensures { λ r. ⌜ Put (now (out .entry)) from
-        (lineOf n code (at n (now (matrix .entry))) (at n (now (vectors .entry))) k) (now (out .exit)) r ⌝ }
-    ensures { λ r. ⌜ r ≤ from + lineRoom n ⌝ }
+        (textLineOf n code (at n (now (matrix .entry))) (at n (now (vectors .entry))) k) (now (out .exit)) r ⌝ }
+    ensures { λ r. ⌜ r ≤ from + textLineRoom n ⌝ }
 {
     let number = text::put_decimal(code as u64, from, out);
     let diagonal = put_field(matrix::entry(n, k, k, matrix), number, out);

@@ -1,3 +1,3 @@
 pub mod Words
 pub mod Triangle
-pub mod Used
+pub mod BadCodes

@@ -26,9 +26,9 @@ use Rattle.sheet.specs.Format.{sheetByte, sheetOf, orderIn, sweepsIn, codesIn, 
 use Rattle.sheet.specs.Codes.{badCodes}
 use Rattle.sheet.proofs.Words.{word-whole, word-small, byte-back as byte-of-word}
 use Rattle.sheet.proofs.Triangle.{length-is, number-below, numbered, place-within, place-of-number}
-use Rattle.sheet.proofs.Used.{codes-alike}
+use Rattle.sheet.proofs.BadCodes.{codes-alike}
 use Rattle.sheet_reader.specs.Reader.{notFiniteIn, storedRow, readAnswer, readOutcome, contentOf, readOf}
-use Rattle.sheet_reader.proofs.Stored.{is-finite, codes-count, code-at, all-read, read-accepted-as}
+use Rattle.sheet_reader.proofs.SheetContents.{is-finite, codes-count, code-at, all-read, read-accepted-as}
 use Rattle.sheet_reader.proofs.Tables.{read-5, Readable, readable}
 use Rattle.sheet_writer.specs.Writer.{writeAnswer, writeOutcome, writtenOver, writeOf}
 use Rattle.sheet_writer.proofs.Tables.{write-all, Writable, writable}

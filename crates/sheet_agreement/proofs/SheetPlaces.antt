@@ -13,7 +13,7 @@ use Rattle.sheet.specs.Format.{sheetLength, entriesFrom, entryNumber, byteOf, s
 use Rattle.sheet.proofs.Triangle.{length-is, number-below, half-of}
 use Rattle.sheet_reader.specs.Reader.{contentOf, readOf}
 use Rattle.sheet.proofs.Words.{byte-back as byte-of-word}
-use Rattle.sheet_reader.proofs.Stored.{code-at}
+use Rattle.sheet_reader.proofs.SheetContents.{code-at}
 use Rattle.sheet_reader.proofs.Tables.{readable}
 use Rattle.sheet_writer.specs.Writer.{writtenOver, writeOf}
 use Rattle.sheet_agreement.proofs.RoundTrip.{sheet-long, order-back, sweeps-back, code-back, byte-back, pattern-kept, writes, reads}

@@ -89,8 +89,8 @@ fn write_run(n: usize, sweeps: usize, matrix: &[f64]) -> bool {
 
 // Lends a run results as long as the matrix.
 fn lend(by_array: bool, n: usize, sweeps: usize, matrix: &[f64]) -> bool {
-    let length = matrix.len();
-    if length > LIMIT {
+    let entries = matrix.len();
+    if entries > LIMIT {
         return false;
     }
     let mut result = [9.0; LIMIT];
@@ -100,8 +100,8 @@ fn lend(by_array: bool, n: usize, sweeps: usize, matrix: &[f64]) -> bool {
         n,
         sweeps,
         matrix,
-        &mut result[..length],
-        &mut vectors[..length],
+        &mut result[..entries],
+        &mut vectors[..entries],
     )
 }
 

@@ -5,7 +5,7 @@ ghost use mathlib.Core.Path.{_≡_};
 ghost use Prim.Native.Nat.{_+_, _<_, _≤_};
 ghost use lib.ListN.{length, take};
 ghost use Rattle.io.specs.Counts.{Counts};
-ghost use Rattle.test_io.specs.Lines.{digitOf, lineOf, wordOf, Extended, Numbered};
+ghost use Rattle.test_io.specs.TextLines.{digitOf, wordTextLine, wordOf, Extended, Numbered};
 use libc::STDIN_FILENO;
 use libc::STDOUT_FILENO;
 
@@ -13,25 +13,25 @@ pub mod refusals;
 pub mod runs;
 pub mod values;
 
-pub enum Line {
+pub enum TextLine {
     Word(u64),
     End,
 }
 
 // Reads a line of standard input. Its end, and a line that is not 16 digits and a newline, are End.
-pub fn read_word() -> Line {
-    let mut line = [0u8; 17];
-    let n = io::read_full(STDIN_FILENO, &mut line);
+pub fn read_word() -> TextLine {
+    let mut text = [0u8; 17];
+    let n = io::read_full(STDIN_FILENO, &mut text);
     if n < 17 {
-        return Line::End;
+        return TextLine::End;
     }
-    parse(&line)
+    parse(&text)
 }
 
 // Writes n as a line of 16 digits, and answers as io::write_all does.
 pub fn print_word(n: u64) -> bool {
-    let line = spell(n);
-    io::write_all(STDOUT_FILENO, &line)
+    let text = spell(n);
+    io::write_all(STDOUT_FILENO, &text)
 }
 
 // Writes word, a space, n in decimal and a newline, and answers as io::write_all does. A word of
@@ -40,60 +40,60 @@ pub fn print_number(word: &[u8], n: u64) -> bool {
     if word.len() > 32 {
         return false;
     }
-    let mut line = [0u8; 54];
-    let k = number(word, n, &mut line);
-    io::write_all(STDOUT_FILENO, &line[..k])
+    let mut text = [0u8; 54];
+    let k = number(word, n, &mut text);
+    io::write_all(STDOUT_FILENO, &text[..k])
 }
 
-// What stands in a line, which is a word or else End.
-fn parse(line: &[u8; 17]) -> Line
-    ensures { λ r. ⌜ r ≡ wordOf (now (line .entry)) ⌝ }
+// What stands in a text line, which is a word or else End.
+fn parse(text: &[u8; 17]) -> TextLine
+    ensures { λ r. ⌜ r ≡ wordOf (now (text .entry)) ⌝ }
 {
     let mut n: u64 = 0;
     let mut i = 0;
     while i < 16 {
-        let d = digit(line[i]);
+        let d = digit(text[i]);
         if d > 15 {
-            return Line::End;
+            return TextLine::End;
         }
         n = n * 16 + d;
         i += 1;
     }
-    if line[16] == b'\n' {
-        return Line::Word(n);
+    if text[16] == b'\n' {
+        return TextLine::Word(n);
     }
-    Line::End
+    TextLine::End
 }
 
-// The line of n: 16 digits and a newline.
+// The text line of n: 16 digits and a newline.
 fn spell(n: u64) -> [u8; 17]
-    ensures { λ r. ⌜ r ≡ lineOf n ⌝ }
+    ensures { λ r. ⌜ r ≡ wordTextLine n ⌝ }
 {
-    let mut line = [b'\n'; 17];
-    text::put_hex(n, 0, &mut line);
-    line
+    let mut bytes = [b'\n'; 17];
+    text::put_hex(n, 0, &mut bytes);
+    bytes
 }
 
-// Puts word, a space, n in decimal and a newline at the start of line, and answers their length.
-fn number(word: &[u8], n: u64, line: &mut [u8]) -> usize
-    requires { ⌜ length (now word) + 22 ≤ length (now line) ⌝ }
-    ensures { λ r. ⌜ Counts r (now (line .exit)) ⌝ }
-    ensures { λ r. ⌜ Numbered (now (word .entry)) n (take r (now (line .exit))) ⌝ }
+// Puts word, a space, n in decimal and a newline at the start of out, and answers their length.
+fn number(word: &[u8], n: u64, out: &mut [u8]) -> usize
+    requires { ⌜ length (now word) + 22 ≤ length (now out) ⌝ }
+    ensures { λ r. ⌜ Counts r (now (out .exit)) ⌝ }
+    ensures { λ r. ⌜ Numbered (now (word .entry)) n (take r (now (out .exit))) ⌝ }
 {
     let mut digits = [0u8; 20];
     let k = io::decimal(n, &mut digits);
-    let mut at = put(line, 0, word);
-    at = put(line, at, b" ");
-    at = put(line, at, &digits[..k]);
-    put(line, at, b"\n")
+    let mut at = put(out, 0, word);
+    at = put(out, at, b" ");
+    at = put(out, at, &digits[..k]);
+    put(out, at, b"\n")
 }
 
-// Puts text into line from at on, and answers where it ends.
-fn put(line: &mut [u8], at: usize, text: &[u8]) -> usize
-    requires { ⌜ at + length (now text) ≤ length (now line) ⌝ }
-    ensures { λ r. ⌜ Extended (now (line .entry)) at (now (text .entry)) (now (line .exit)) r ⌝ }
+// Puts text into out from at on, and answers where it ends.
+fn put(out: &mut [u8], at: usize, text: &[u8]) -> usize
+    requires { ⌜ at + length (now text) ≤ length (now out) ⌝ }
+    ensures { λ r. ⌜ Extended (now (out .entry)) at (now (text .entry)) (now (out .exit)) r ⌝ }
 {
-    at + bytes::copy(text, &mut line[at..])
+    at + bytes::copy(text, &mut out[at..])
 }
 
 // The digit that b is the code of, and 16 where it is none's.

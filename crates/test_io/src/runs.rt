@@ -1,10 +1,14 @@
 // What stands before the matrix of a run, one word to a line: the order, the sweeps, the lengths of the matrix, of the result and of the
 // vectors, and the word that both results are filled with.
 ghost use Rattle.test_io.specs.Runs.{Lendable};
-use crate::Line;
+use crate::TextLine;
+use sizes::LARGEST_ORDER;
 
-// The values that a buffer of a test program holds: those of a matrix of order 34.
-pub const LIMIT: usize = 1156;
+// The first even order that is refused for its size. Inputs ask for a run of it, so a buffer has to hold its matrix.
+const ORDER_PAST: usize = LARGEST_ORDER + 2;
+
+// The values that a buffer of a test program holds.
+pub const LIMIT: usize = ORDER_PAST * ORDER_PAST;
 
 // The order, the sweeps, the lengths of the matrix and of both results, and the value that the results are filled with.
 pub struct Run {
@@ -25,22 +29,22 @@ pub enum Head {
 pub fn read_head() -> Head
     ensures { λ r. ⌜ Lendable r ⌝ }
 {
-    let Line::Word(n) = crate::read_word() else {
+    let TextLine::Word(n) = crate::read_word() else {
         return Head::End;
     };
-    let Line::Word(sweeps) = crate::read_word() else {
+    let TextLine::Word(sweeps) = crate::read_word() else {
         return Head::End;
     };
-    let Line::Word(matrix) = crate::read_word() else {
+    let TextLine::Word(matrix) = crate::read_word() else {
         return Head::End;
     };
-    let Line::Word(result) = crate::read_word() else {
+    let TextLine::Word(result) = crate::read_word() else {
         return Head::End;
     };
-    let Line::Word(vectors) = crate::read_word() else {
+    let TextLine::Word(vectors) = crate::read_word() else {
         return Head::End;
     };
-    let Line::Word(fill) = crate::read_word() else {
+    let TextLine::Word(fill) = crate::read_word() else {
         return Head::End;
     };
     checked(Run {

@@ -1,10 +1,10 @@
 // Values as words, by their bits: a NaN is written as 7FF8000000000000, and every pattern of a NaN is read as one.
-use crate::Line;
+use crate::TextLine;
 
 // Reads the values of a, and says whether they were all there.
 pub fn read_values(a: &mut [f64]) -> bool {
     for k in 0..a.len() {
-        let Line::Word(word) = crate::read_word() else {
+        let TextLine::Word(word) = crate::read_word() else {
             return false;
         };
         a[k] = float64::from_bits(word);

@@ -5,7 +5,7 @@
 ghost use Prim.Native.Nat.{_^_, _<_, _≤_};
 use ordering::Registers;
 use sizes::MOST_PROCESSORS;
-use test_io::Line;
+use test_io::TextLine;
 use test_io::refusals;
 
 // A proved loop has to end, so it counts its turns down, from a number that no run uses up.
@@ -18,10 +18,10 @@ fn main() {
 
 // Answers one list, and says whether there may be another.
 fn answer_list() -> bool {
-    let Line::Word(n) = test_io::read_word() else {
+    let TextLine::Word(n) = test_io::read_word() else {
         return false;
     };
-    let Line::Word(step) = test_io::read_word() else {
+    let TextLine::Word(step) = test_io::read_word() else {
         return false;
     };
     let listed = ordering::pairs(n as usize, step as usize);

@@ -4,7 +4,7 @@
 // tools/records_vectors.py writes the input and the expected output.
 use sizes::MOST_PROCESSORS;
 use step_records::Record;
-use test_io::Line;
+use test_io::TextLine;
 use test_io::refusals;
 use test_io::runs::LIMIT;
 use test_io::values;
@@ -18,24 +18,24 @@ fn main() {
 }
 
 fn answer_call() -> bool {
-    let Line::Word(n) = test_io::read_word() else {
+    let TextLine::Word(n) = test_io::read_word() else {
         return false;
     };
-    let Line::Word(length) = test_io::read_word() else {
+    let TextLine::Word(entries) = test_io::read_word() else {
         return false;
     };
-    let Line::Word(step) = test_io::read_word() else {
+    let TextLine::Word(step) = test_io::read_word() else {
         return false;
     };
-    let Line::Word(room) = test_io::read_word() else {
+    let TextLine::Word(room) = test_io::read_word() else {
         return false;
     };
-    let Line::Word(fill) = test_io::read_word() else {
+    let TextLine::Word(fill) = test_io::read_word() else {
         return false;
     };
     lend(
         n as usize,
-        length as usize,
+        entries as usize,
         step as usize,
         room as usize,
         float64::from_bits(fill),
@@ -43,12 +43,12 @@ fn answer_call() -> bool {
 }
 
 // Lends a call a part of its own buffer. A length above LIMIT ends the program.
-fn lend(n: usize, length: usize, step: usize, room: usize, fill: f64) -> bool {
-    if length > LIMIT {
+fn lend(n: usize, entries: usize, step: usize, room: usize, fill: f64) -> bool {
+    if entries > LIMIT {
         return false;
     }
     let mut matrix = [0.0; LIMIT];
-    answer(n, step, room, fill, &mut matrix[..length])
+    answer(n, step, room, fill, &mut matrix[..entries])
 }
 
 // Reads the matrix, asks for the records and writes them.

@@ -3,7 +3,7 @@
 // tools/rotation_vectors.py writes the input and the expected output.
 use libc::STDOUT_FILENO;
 use rotation::Parameters;
-use test_io::Line;
+use test_io::TextLine;
 use test_io::values;
 
 // A proved loop has to end, so it counts its turns down, from a number that no run uses up.
@@ -16,13 +16,13 @@ fn main() {
 
 // Answers one pair, and says whether there may be another.
 fn answer_pair() -> bool {
-    let Line::Word(a) = test_io::read_word() else {
+    let TextLine::Word(a) = test_io::read_word() else {
         return false;
     };
-    let Line::Word(d) = test_io::read_word() else {
+    let TextLine::Word(d) = test_io::read_word() else {
         return false;
     };
-    let Line::Word(b) = test_io::read_word() else {
+    let TextLine::Word(b) = test_io::read_word() else {
         return false;
     };
     answer(

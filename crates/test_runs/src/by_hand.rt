@@ -2,7 +2,7 @@
 // is the refusal of the start, if it is refused, what the last tick answered, and the last record.
 use crate::record;
 use array::Array;
-use test_io::Line;
+use test_io::TextLine;
 use test_io::refusals;
 use test_io::runs::LIMIT;
 use test_io::values;
@@ -11,25 +11,25 @@ use test_io::values;
 const NONE: u64 = 3;
 
 pub fn answer_run() -> bool {
-    let Line::Word(n) = test_io::read_word() else {
+    let TextLine::Word(n) = test_io::read_word() else {
         return false;
     };
-    let Line::Word(sweeps) = test_io::read_word() else {
+    let TextLine::Word(sweeps) = test_io::read_word() else {
         return false;
     };
-    let Line::Word(length) = test_io::read_word() else {
+    let TextLine::Word(entries) = test_io::read_word() else {
         return false;
     };
-    lend(n as usize, sweeps as usize, length as usize)
+    lend(n as usize, sweeps as usize, entries as usize)
 }
 
 // Lends a run a part of its own buffer. A length above LIMIT ends the program.
-fn lend(n: usize, sweeps: usize, length: usize) -> bool {
-    if length > LIMIT {
+fn lend(n: usize, sweeps: usize, entries: usize) -> bool {
+    if entries > LIMIT {
         return false;
     }
     let mut matrix = [0.0; LIMIT];
-    start(n, sweeps, &mut matrix[..length])
+    start(n, sweeps, &mut matrix[..entries])
 }
 
 // Reads the matrix and the number of ticks, makes the start and writes its answer.
@@ -37,7 +37,7 @@ fn start(n: usize, sweeps: usize, matrix: &mut [f64]) -> bool {
     if !values::read_values(matrix) {
         return false;
     }
-    let Line::Word(ticks) = test_io::read_word() else {
+    let TextLine::Word(ticks) = test_io::read_word() else {
         return false;
     };
     let started = Array::start(n, sweeps, matrix);

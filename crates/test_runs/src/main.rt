@@ -1,7 +1,7 @@
 // Reads cases of runs, one word to a line, and writes what comes of each. A case begins with the number of its kind: 0 is a whole run by
 // the array, 1 a run by hand, 2 a tick of a wild record and 3 a run by plain sweeps.
 // tools/array_vectors.py writes the input and the expected output.
-use test_io::Line;
+use test_io::TextLine;
 
 mod by_hand;
 mod lent;
@@ -18,7 +18,7 @@ fn main() {
 
 // Answers one case, and says whether there may be another.
 fn answer_case() -> bool {
-    let Line::Word(kind) = test_io::read_word() else {
+    let TextLine::Word(kind) = test_io::read_word() else {
         return false;
     };
     match kind {

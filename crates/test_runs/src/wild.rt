@@ -3,23 +3,23 @@
 use crate::record;
 use array::Array;
 use sizes::MOST_TILES;
-use test_io::Line;
+use test_io::TextLine;
 use tile::Tile;
 use tile_schedule::Progress;
 use tile_wires::Part;
 use tile_wires::Quad;
 
 pub fn answer_tick() -> bool {
-    let Line::Word(n) = test_io::read_word() else {
+    let TextLine::Word(n) = test_io::read_word() else {
         return false;
     };
-    let Line::Word(sweeps) = test_io::read_word() else {
+    let TextLine::Word(sweeps) = test_io::read_word() else {
         return false;
     };
-    let Line::Word(tick) = test_io::read_word() else {
+    let TextLine::Word(tick) = test_io::read_word() else {
         return false;
     };
-    let Line::Word(word) = test_io::read_word() else {
+    let TextLine::Word(word) = test_io::read_word() else {
         return false;
     };
     let value = float64::from_bits(word);

@@ -2,7 +2,7 @@
 // its kind: 0 is a reading and 1 a writing.
 // tools/sheet_vectors.py writes the input and the expected output.
 use calls::Call;
-use test_io::Line;
+use test_io::TextLine;
 
 mod buffers;
 mod calls;
@@ -18,7 +18,7 @@ fn main() {
 
 // Answers one case, and says whether there may be another.
 fn answer_case() -> bool {
-    let Line::Word(kind) = test_io::read_word() else {
+    let TextLine::Word(kind) = test_io::read_word() else {
         return false;
     };
     match kind {
@@ -30,19 +30,19 @@ fn answer_case() -> bool {
 
 // Reads the lengths of the sheet, of the codes and of the matrix, and what the last two are filled with.
 fn answer_reading() -> bool {
-    let Line::Word(sheet) = test_io::read_word() else {
+    let TextLine::Word(sheet) = test_io::read_word() else {
         return false;
     };
-    let Line::Word(codes) = test_io::read_word() else {
+    let TextLine::Word(codes) = test_io::read_word() else {
         return false;
     };
-    let Line::Word(matrix) = test_io::read_word() else {
+    let TextLine::Word(matrix) = test_io::read_word() else {
         return false;
     };
-    let Line::Word(byte) = test_io::read_word() else {
+    let TextLine::Word(byte) = test_io::read_word() else {
         return false;
     };
-    let Line::Word(pattern) = test_io::read_word() else {
+    let TextLine::Word(pattern) = test_io::read_word() else {
         return false;
     };
     buffers::lend(
@@ -58,22 +58,22 @@ fn answer_reading() -> bool {
 // Reads the order, the sweeps, the lengths of the codes, of the matrix and of the sheet, and what the last is
 // filled with.
 fn answer_writing() -> bool {
-    let Line::Word(n) = test_io::read_word() else {
+    let TextLine::Word(n) = test_io::read_word() else {
         return false;
     };
-    let Line::Word(sweeps) = test_io::read_word() else {
+    let TextLine::Word(sweeps) = test_io::read_word() else {
         return false;
     };
-    let Line::Word(codes) = test_io::read_word() else {
+    let TextLine::Word(codes) = test_io::read_word() else {
         return false;
     };
-    let Line::Word(matrix) = test_io::read_word() else {
+    let TextLine::Word(matrix) = test_io::read_word() else {
         return false;
     };
-    let Line::Word(sheet) = test_io::read_word() else {
+    let TextLine::Word(sheet) = test_io::read_word() else {
         return false;
     };
-    let Line::Word(byte) = test_io::read_word() else {
+    let TextLine::Word(byte) = test_io::read_word() else {
         return false;
     };
     buffers::lend(

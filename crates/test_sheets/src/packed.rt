@@ -1,5 +1,5 @@
 // Bytes as words, eight to a word, the first in the highest byte. The last word is filled up with zero bytes.
-use test_io::Line;
+use test_io::TextLine;
 
 // What the highest byte of a word counts.
 const HIGHEST: u64 = 0x100_0000_0000_0000;
@@ -9,7 +9,7 @@ pub fn read_bytes(bytes: &mut [u8]) -> bool {
     let mut word = 0;
     for k in 0..bytes.len() {
         if k % 8 == 0 {
-            let Line::Word(next) = test_io::read_word() else {
+            let TextLine::Word(next) = test_io::read_word() else {
                 return false;
             };
             word = next;

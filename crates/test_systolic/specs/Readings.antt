@@ -124,7 +124,8 @@ outputs m =
 
 -- ---- the array
 unfoldable pub array : ℕ → ℕ → ℕ → ℕ → ℕ → Tile ℕ ℕ ℕ
-unfolding toyArray pick flip carried joined phaseOf action actionAt stepAt turnTile newCells newParameter phaseIn newWires newTile tickTile nearer incoming tick arrayAfter
+unfolding toyArray pick flip carried joined phaseOf action actionAt stepAt turnTile newCells newParameter phaseIn newWires newTile
+    tickTile nearer incoming tick arrayAfter
 array m K t = arrayAfter toyArray m K t
 
 -- Each of these reads the array after every number of ticks in a list.

@@ -43,15 +43,17 @@ array-borrow-prefix-vectors : tie.Need-array-borrow-prefix-vectors
 array-borrow-prefix-vectors c = few (c .before .before .before)
 
 slice-aggregate-list-in-4 : tie.Need-slice-aggregate-list-in-4
-slice-aggregate-list-in-4 c = sym (length-take-le _ _ (few (c .before .before .before .before)))
+slice-aggregate-list-in-4 c =
+    let ordered = c .before .before .before .before in
+    sym (length-take-le _ _ (few ordered))
 
 list-in-requires : tie.Need-list-in-requires
 list-in-requires c κs =
-    let o = c .before .before .before .before .before in
+    let ordered = c .before .before .before .before .before in
     λ e.
-    let n = order-there (o .before .before .before .args .sheet .now) (o .order .ensures) e in
-    let f = few o in
-    (length-take-le _ _ (narrow o) ∙ n, length-take-le _ _ f ∙ rw n, length-take-le _ _ f ∙ rw n, length-take-le _ _ f ∙ rw n)
+    let n = order-there (ordered .before .before .before .args .sheet .now) (ordered .order .ensures) e in
+    let f = few ordered in
+    (length-take-le _ _ (narrow ordered) ∙ n, length-take-le _ _ f ∙ rw n, length-take-le _ _ f ∙ rw n, length-take-le _ _ f ∙ rw n)
 
 same-length : tie.Need-same-length
 same-length c = search needs

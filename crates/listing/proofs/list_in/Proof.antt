@@ -3,6 +3,16 @@ use borrow.Author.Needs.{needs}
 use Rattle.listing.proofs.list_in.Statement.{statement}
 use Rattle.listing.proofs.list_in.Tie as tie
 
+abbrev at-start : tie.After-read → tie.Start
+at-start c = c .before .before .before .before .before .before .before .before .before
+
+abbrev at-read : tie.After-slice-known7 → tie.After-read
+at-read c = c .before .before .before .before
+
+-- the order and the sweeps that are read
+abbrev at-sizes : tie.After-run-arg5 → tie.After-n
+at-sizes c = c .before .before .before .before .before .before
+
 read-requires : tie.Need-read-requires
 read-requires c κs = search needs
 
@@ -11,9 +21,9 @@ enum-known-n c = search needs
 
 run-requires : tie.Need-run-requires
 run-requires c κs =
-    let n = c .before .before .before .before .before .before in
-    let read = n .before .before .before .before .before .before in
-    let q = was-read _ _ _ _ (read .read .ensures) _ _ (n .n .given .1) in
+    let told = at-sizes c in
+    let read = at-read (told .before .before) in
+    let q = was-read _ _ _ _ (read .read .ensures) _ _ (told .n .given .1) in
     within-limit _ _ _ _ (q .0) (q .1 .as-order)
 
 enum-known-refused : tie.Need-enum-known-refused
@@ -39,13 +49,14 @@ same-length-5 c = search needs
 
 returns : tie.Need-returns
 returns c =
-    let run = c .before .before .before .before .before .before in
-    let n = run .before .before .before .before .before .before .before in
-    let read = n .before .before .before .before .before .before in
-    let s = read .before .before .before .before .before .before .before .before .before in
-    let q = was-read _ _ _ _ (read .read .ensures) _ _ (n .n .given .1) in
-    sheet-listed _ (s .args .codes .now) (s .args .matrix .now) _ (λ e. (s .pre e .0, s .pre e .1)) _ _ _ _ (λ e. (s .pre e .2, s .pre e .3))
-    (q .0) (q .1) (run .run .ensures)
+    let ran = c .before .before .before .before .before .before in
+    let told = at-sizes (ran .before) in
+    let read = at-read (told .before .before) in
+    let start = at-start read in
+    let p = start .pre in
+    let q = was-read _ _ _ _ (read .read .ensures) _ _ (told .n .given .1) in
+    sheet-listed _ (start .args .codes .now) (start .args .matrix .now) _ (λ e. (p e .0, p e .1)) _ _ _ _ (λ e. (p e .2, p e .3))
+    (q .0) (q .1) (ran .run .ensures)
 
 same-length-6 : tie.Need-same-length-6
 same-length-6 c = search needs
@@ -59,11 +70,12 @@ same-length-8 c = search needs
 returns-2 : tie.Need-returns-2
 returns-2 c =
     let refuse = c .before .before in
-    let refused = refuse .before .before .before in
-    let read = refused .before .before .before .before .before .before in
-    let s = read .before .before .before .before .before .before .before .before .before in
-    sheet-refused _ (s .args .codes .now) (s .args .matrix .now) _ (λ e. (s .pre e .0, s .pre e .1)) _ _
-    (read .read .ensures) (refused .refused .given .1) (refuse .refuse .ensures)
+    let told = refuse .before .before .before in
+    let read = at-read (told .before .before) in
+    let start = at-start read in
+    let p = start .pre in
+    sheet-refused _ (start .args .codes .now) (start .args .matrix .now) _ (λ e. (p e .0, p e .1)) _ _
+    (read .read .ensures) (told .refused .given .1) (refuse .refuse .ensures)
 
 pub list-in-spec : {M : Type 1} → statement M
 list-in-spec =

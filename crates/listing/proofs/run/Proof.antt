@@ -1,7 +1,20 @@
+use Prim.Native.Nat.{_≤_}
+use lib.ListN.{length}
+use Rattle.listing_text.specs.Printed.{roomFor}
 use Rattle.listing.proofs.ListingParts.{no-room, run-printed, run-not-printed}
 use borrow.Author.Needs.{needs}
 use Rattle.listing.proofs.run.Statement.{statement}
 use Rattle.listing.proofs.run.Tie as tie
+
+abbrev at-start : tie.Else1 → tie.Start
+at-start c = c .before .before .before .before .before .before .before
+
+-- past the test
+enough : (c : tie.Else1) → let a = at-start c .args in roomFor (a .n) ≤ length (a .text .now)
+enough c = rw (c .before .room-for .ensures) at (c .if1 .left)
+
+abbrev at-run : tie.After-slice-known5 → tie.After-run
+at-run c = c .before .before .before .before
 
 room-for-requires : tie.Need-room-for-requires
 room-for-requires c κs = search needs
@@ -35,12 +48,11 @@ same-length-3 c = search needs
 
 returns-2 : tie.Need-returns-2
 returns-2 c =
-    let print = c .before .before in
-    let ticks = print .before .before .before .before .before in
-    let run = ticks .before .before .before .before .before .before in
-    let enough = run .before .before .before in
-    let room = rw (enough .before .room-for .ensures) at (enough .if1 .left) in
-    run-printed _ _ _ _ _ room _ _ (ticks .ticks .given .1) (run .run .ensures) (print .print .ensures)
+    let printed = c .before .before in
+    let told = printed .before .before .before .before .before in
+    let ran = at-run (told .before .before) in
+    let room = enough (ran .before .before .before) in
+    run-printed _ _ _ _ _ room _ _ (told .ticks .given .1) (ran .run .ensures) (printed .print .ensures)
 
 same-length-4 : tie.Need-same-length-4
 same-length-4 c = search needs
@@ -54,11 +66,10 @@ same-length-6 c = search needs
 returns-3 : tie.Need-returns-3
 returns-3 c =
     let refuse = c .before .before in
-    let refused = refuse .before .before .before in
-    let run = refused .before .before .before .before .before .before in
-    let enough = run .before .before .before in
-    let room = rw (enough .before .room-for .ensures) at (enough .if1 .left) in
-    run-not-printed _ _ _ _ _ room _ _ (refused .refused .given .1) (run .run .ensures) (refuse .refuse .ensures)
+    let told = refuse .before .before .before in
+    let ran = at-run (told .before .before) in
+    let room = enough (ran .before .before .before) in
+    run-not-printed _ _ _ _ _ room _ _ (told .refused .given .1) (ran .run .ensures) (refuse .refuse .ensures)
 
 pub run-spec : {M : Type 1} → statement M
 run-spec =

@@ -51,7 +51,9 @@ returns-6 c =
     no-6 _ _ _ _ _ _ _ (ordered first) (omega arith) (omega arith) (fourth .if4 .left) (fifth .if5 .left) (c .if6 .taken)
 
 room-for-requires : tie.Need-room-for-requires
-room-for-requires c κs = order-is _ (ordered (c .before .before .before .before .before)) .2
+room-for-requires c κs =
+    let first = c .before .before .before .before .before in
+    order-is _ (ordered first) .2
 
 returns-7 : tie.Need-returns-7
 returns-7 c =

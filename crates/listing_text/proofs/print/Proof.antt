@@ -9,12 +9,15 @@ use borrow.Author.Needs.{needs}
 use Rattle.listing_text.proofs.print.Statement.{statement}
 use Rattle.listing_text.proofs.print.Tie as tie
 
+abbrev at-start : tie.Else1 → tie.Start
+at-start c = c .before .before .before .before .before .before
+
 -- past the test
-passed : (c : tie.Else1) → let a = c .before .before .before .before .before .before .args in
+passed : (c : tie.Else1) → let a = at-start c .args in
     printable (a .n) (a .sweeps) (a .ticks) (length (a .codes .now)) (length (a .matrix .now)) (length (a .vectors .now)) (length (a .out .now)) ≡ true
 passed c = sym (c .before .is-printable .ensures) ∙ not-false _ (c .if1 .left)
 
-fine : (c : tie.Else1) → let a = c .before .before .before .before .before .before .args in
+fine : (c : tie.Else1) → let a = at-start c .args in
     Sizes (a .n) (length (a .codes .now)) (length (a .matrix .now)) (length (a .vectors .now)) (length (a .out .now))
 fine c = sizes _ _ _ _ _ _ _ (passed c)
 
@@ -27,20 +30,20 @@ returns c = not-printed _ _ _ _ _ _ _ (sym (c .before .is-printable .ensures) �
 put-head-requires : tie.Need-put-head-requires
 put-head-requires c κs = let z = fine (c .before) in omega (arith, z .enough)
 
-put-lines-requires : tie.Need-put-lines-requires
-put-lines-requires c κs =
-    let h = c .before .before .before in
-    let z = fine (h .before .before) in
-    (z .codes-long, z .matrix-long, z .vectors-long, omega (arith, z .enough, h .put-head .ensures .1))
+put-text-lines-requires : tie.Need-put-text-lines-requires
+put-text-lines-requires c κs =
+    let head = c .before .before .before in
+    let z = fine (head .before .before) in
+    (z .codes-long, z .matrix-long, z .vectors-long, omega (arith, z .enough, head .put-head .ensures .1))
 
 same-length : tie.Need-same-length
 same-length c = search needs
 
 returns-2 : tie.Need-returns-2
 returns-2 c =
-    let q = c .before .before in
-    let h = q .before .before .before .before in
-    printed _ _ _ _ _ _ _ (passed (h .before .before)) (h .put-head .ensures .0) (q .put-lines .ensures)
+    let rest = c .before .before in
+    let head = rest .before .before .before .before in
+    printed _ _ _ _ _ _ _ (passed (head .before .before)) (head .put-head .ensures .0) (rest .put-text-lines .ensures)
 
 pub print-spec : {M : Type 1} → statement M
 print-spec =
@@ -49,6 +52,6 @@ print-spec =
     is-printable-requires
     returns
     put-head-requires
-    put-lines-requires
+    put-text-lines-requires
     same-length
     returns-2)

@@ -27,11 +27,11 @@ same-length c = search needs
 
 returns-2 : tie.Need-returns-2
 returns-2 c =
-    let s = c .before .before in
-    let q = s .before .before .before .before in
-    let k = q .before .before in
-    let p = k .before .before .before in
-    refusal-printed _ _ (omega arith) (k .number .ensures) (p .put-word .ensures .0) (q .put-decimal .ensures .0) (s .put .ensures)
+    let newline = c .before .before in
+    let decimal = newline .before .before .before .before in
+    let numbered = decimal .before .before in
+    let word = numbered .before .before .before in
+    refusal-printed _ _ (omega arith) (numbered .number .ensures) (word .put-word .ensures .0) (decimal .put-decimal .ensures .0) (newline .put .ensures)
 
 pub print-refusal-spec : {M : Type 1} → statement M
 print-refusal-spec =

@@ -19,12 +19,15 @@ Inv-loop n c vectors from out₀ end₀ r₀ out end r =
 abbrev μ-loop : tie.MeasureT-loop
 μ-loop n c vectors from out₀ end₀ r₀ out end r = n - r
 
+abbrev at-start : tie.At-loop Inv-loop μ-loop → tie.Start Inv-loop μ-loop
+at-start c = c .before .before .before
+
 -- the place that is read in a turn
-inside : (c : tie.In-loop Inv-loop μ-loop) → let a = c .before .before .before .before .args in
+inside : (c : tie.In-loop Inv-loop μ-loop) → let a = at-start (c .before) .args in
     Place (a .n) (c .before .loop .r + 1) (a .c) (length (a .vectors .now))
 inside c =
-    let s = c .before .before .before .before in
-    record { row-above = omega arith; row-within = omega arith; column-above = s .pre .0; column-within = s .pre .1; square = s .pre .2 }
+    let p = at-start (c .before) .pre in
+    record { row-above = omega arith; row-within = omega arith; column-above = p .0; column-within = p .1; square = p .2 }
 
 loop-holds : tie.Need-loop-holds Inv-loop μ-loop
 loop-holds c = (omega arith, omega arith, omega arith, column-none _ _ _ _)
@@ -46,14 +49,14 @@ loop-less c = omega arith
 
 loop-again : tie.Need-loop-again Inv-loop μ-loop
 loop-again c =
-    let p = c .before .before in
-    let e = p .before .before in
-    let k = e .before in
-    let u = k .before .loop .inv in (
+    let field = c .before .before in
+    let read = field .before .before in
+    let turn = read .before in
+    let inv = turn .before .loop .inv in (
       omega arith,
-      omega (arith, p .put-field .ensures .1),
-      (p .put-field .ensures .0) .as-long ∙ u .2,
-      column-next _ _ _ (u .3) (p .put-field .ensures .0) (e .entry .ensures ∙ entry-at _ _ _ _ (place-is _ _ _ _ (inside k))),
+      omega (arith, field .put-field .ensures .1),
+      (field .put-field .ensures .0) .as-long ∙ inv .2,
+      column-next _ _ _ (inv .3) (field .put-field .ensures .0) (read .entry .ensures ∙ entry-at _ _ _ _ (place-is _ _ _ _ (inside turn))),
     )
 
 same-length : tie.Need-same-length Inv-loop μ-loop
@@ -61,9 +64,9 @@ same-length c = omega arith
 
 returns : tie.Need-returns Inv-loop μ-loop
 returns c =
-    let loop = c .before .loop in
-    let z : loop .r ≡ c .before .before .before .before .args .n = omega arith in
-    (rw z at (loop .inv .3), omega arith)
+    let at-loop = c .before in
+    let z : at-loop .loop .r ≡ at-start at-loop .args .n = omega arith in
+    (rw z at (at-loop .loop .inv .3), omega arith)
 
 pub put-column-spec : {M : Type 1} → statement M
 put-column-spec =

@@ -18,10 +18,12 @@ same-length c = search needs
 
 returns : tie.Need-returns
 returns c =
-    let h = c .before .before in
-    let b = h .before .before in
-    let p = b .before .before .before in
-    (field-put _ (p .put .ensures) (h .put-hex .ensures .0) (b .to-bits .ensures), omega (arith, h .put-hex .ensures .1, (p .put .ensures) .ends))
+    let digits = c .before .before in
+    let bits = digits .before .before in
+    let space = bits .before .before .before in (
+      field-put _ (space .put .ensures) (digits .put-hex .ensures .0) (bits .to-bits .ensures),
+      omega (arith, digits .put-hex .ensures .1, (space .put .ensures) .ends),
+    )
 
 pub put-field-spec : {M : Type 1} → statement M
 put-field-spec =

@@ -27,22 +27,22 @@ same-length c = search needs
 
 returns : tie.Need-returns
 returns c =
-    let u = c .before .before in
-    let t = u .before .before .before .before in
-    let s = t .before .before .before .before in
-    let r = s .before .before .before .before in
-    let q = r .before .before .before .before in
-    let p = q .before .before .before .before in (
-      head-put _ _ _ (p .put-decimal .ensures .0) (q .put .ensures) (r .put-decimal2 .ensures .0) (s .put2 .ensures)
-          (t .put-decimal3 .ensures .0) (u .put3 .ensures),
+    let newline = c .before .before in
+    let ticks = newline .before .before .before .before in
+    let space2 = ticks .before .before .before .before in
+    let sweeps = space2 .before .before .before .before in
+    let space1 = sweeps .before .before .before .before in
+    let order = space1 .before .before .before .before in (
+      head-put _ _ _ (order .put-decimal .ensures .0) (space1 .put .ensures) (sweeps .put-decimal2 .ensures .0) (space2 .put2 .ensures)
+          (ticks .put-decimal3 .ensures .0) (newline .put3 .ensures),
       omega (
         arith,
-        p .put-decimal .ensures .1,
-        (q .put .ensures) .ends,
-        r .put-decimal2 .ensures .1,
-        (s .put2 .ensures) .ends,
-        t .put-decimal3 .ensures .1,
-        (u .put3 .ensures) .ends,
+        order .put-decimal .ensures .1,
+        (space1 .put .ensures) .ends,
+        sweeps .put-decimal2 .ensures .1,
+        (space2 .put2 .ensures) .ends,
+        ticks .put-decimal3 .ensures .1,
+        (newline .put3 .ensures) .ends,
       ),
     )
 

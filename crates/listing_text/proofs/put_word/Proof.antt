@@ -33,26 +33,26 @@ same-length c = search needs
 
 returns : tie.Need-returns
 returns c =
-    let w = c .before .before in
-    let v = w .before .before .before .before in
-    let u = v .before .before .before .before in
-    let t = u .before .before .before .before in
-    let s = t .before .before .before .before in
-    let r = s .before .before .before .before in
-    let q = r .before .before .before .before in
-    let p = q .before .before .before .before in (
-      word-put (p .put .ensures) (q .put2 .ensures) (r .put3 .ensures) (s .put4 .ensures) (t .put5 .ensures) (u .put6 .ensures)
-          (v .put7 .ensures) (w .put8 .ensures),
+    let byte8 = c .before .before in
+    let byte7 = byte8 .before .before .before .before in
+    let byte6 = byte7 .before .before .before .before in
+    let byte5 = byte6 .before .before .before .before in
+    let byte4 = byte5 .before .before .before .before in
+    let byte3 = byte4 .before .before .before .before in
+    let byte2 = byte3 .before .before .before .before in
+    let byte1 = byte2 .before .before .before .before in (
+      word-put (byte1 .put .ensures) (byte2 .put2 .ensures) (byte3 .put3 .ensures) (byte4 .put4 .ensures) (byte5 .put5 .ensures)
+          (byte6 .put6 .ensures) (byte7 .put7 .ensures) (byte8 .put8 .ensures),
       omega (
         arith,
-        (p .put .ensures) .ends,
-        (q .put2 .ensures) .ends,
-        (r .put3 .ensures) .ends,
-        (s .put4 .ensures) .ends,
-        (t .put5 .ensures) .ends,
-        (u .put6 .ensures) .ends,
-        (v .put7 .ensures) .ends,
-        (w .put8 .ensures) .ends,
+        (byte1 .put .ensures) .ends,
+        (byte2 .put2 .ensures) .ends,
+        (byte3 .put3 .ensures) .ends,
+        (byte4 .put4 .ensures) .ends,
+        (byte5 .put5 .ensures) .ends,
+        (byte6 .put6 .ensures) .ends,
+        (byte7 .put7 .ensures) .ends,
+        (byte8 .put8 .ensures) .ends,
       ),
     )
 

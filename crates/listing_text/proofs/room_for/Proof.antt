@@ -1,6 +1,6 @@
 use native.Mathlib.Omega.{arith}
 use borrow.Author.Needs.{needs}
-use Rattle.listing_text.proofs.Room.{lines-fit}
+use Rattle.listing_text.proofs.Room.{text-lines-fit}
 use Rattle.listing_text.proofs.room_for.Statement.{statement}
 use Rattle.listing_text.proofs.room_for.Tie as tie
 
@@ -11,10 +11,10 @@ add-result : tie.Need-add-result
 add-result c = search needs
 
 mul-result-2 : tie.Need-mul-result-2
-mul-result-2 c = omega (arith, lines-fit _ (c .pre))
+mul-result-2 c = omega (arith, text-lines-fit _ (c .pre))
 
 add-result-2 : tie.Need-add-result-2
-add-result-2 c = omega (arith, lines-fit _ (c .pre))
+add-result-2 c = omega (arith, text-lines-fit _ (c .pre))
 
 returns : tie.Need-returns
 returns c = search needs

@@ -1,7 +1,7 @@
 use Prim.Native.Nat.{_+_}
 use native.Mathlib.Omega.{arith}
 use borrow.Author.Needs.{needs}
-use Rattle.sheet.proofs.Used.{no-code}
+use Rattle.sheet.proofs.BadCodes.{no-code}
 use Rattle.sheet.proofs.code_at.Statement.{statement}
 use Rattle.sheet.proofs.code_at.Tie as tie
 

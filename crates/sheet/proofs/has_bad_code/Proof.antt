@@ -6,7 +6,7 @@ use borrow.Author.Needs.{needs}
 use Rattle.lists.specs.Bounded.{any}
 use Rattle.lists.proofs.Bounded.{any-none, any-more}
 use Rattle.sheet.specs.Codes.{badCode}
-use Rattle.sheet.proofs.Used.{one-bad, none-bad}
+use Rattle.sheet.proofs.BadCodes.{one-bad, none-bad}
 use Rattle.sheet.proofs.has_bad_code.Statement.{statement}
 use Rattle.sheet.proofs.has_bad_code.Tie as tie
 

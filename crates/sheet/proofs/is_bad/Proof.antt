@@ -5,7 +5,7 @@ use native.Mathlib.Omega.{arith}
 use borrow.Author.Needs.{needs}
 use borrow.Author.Tests.{ne-eqb}
 use Rattle.lists.proofs.Bounded.{any-none, any-more}
-use Rattle.sheet.proofs.Used.{usedBefore, code-zero, code-used, code-new}
+use Rattle.sheet.proofs.BadCodes.{usedBefore, code-zero, code-used, code-new}
 use Rattle.sheet.proofs.is_bad.Statement.{statement}
 use Rattle.sheet.proofs.is_bad.Tie as tie
 

@@ -8,7 +8,7 @@ use Rattle.refusal.specs.Answers.{given, answered, first}
 use Rattle.refusal.specs.declared.Answer.the-variants.{Accepted}
 use Rattle.refusal.proofs.FirstRefusal.{first-none, first-more}
 use Rattle.sheet_reader.specs.Reader.{notFiniteIn}
-use Rattle.sheet_reader.proofs.Stored.{tested-as, is-finite, none-found, one-found}
+use Rattle.sheet_reader.proofs.SheetContents.{tested-as, is-finite, none-found, one-found}
 use Rattle.sheet_reader.proofs.first_not_finite.Statement.{statement}
 use Rattle.sheet_reader.proofs.first_not_finite.Tie as tie
 
@@ -42,7 +42,10 @@ add-pattern-2 : tie.Need-add-pattern-2 Inv-loop μ-loop Inv-rows μ-rows
 add-pattern-2 c = omega arith
 
 pattern-requires : tie.Need-pattern-requires Inv-loop μ-loop Inv-rows μ-rows
-pattern-requires c κs = let p = c .before .before .before .before .before .pre in (p .0, p .1, p .2, omega arith, omega arith, omega arith)
+pattern-requires c κs =
+    let at-start = c .before .before .before .before .before in
+    let p = at-start .pre in
+    (p .0, p .1, p .2, omega arith, omega arith, omega arith)
 
 is-finite-pattern-requires : tie.Need-is-finite-pattern-requires Inv-loop μ-loop Inv-rows μ-rows
 is-finite-pattern-requires c κs = search needs

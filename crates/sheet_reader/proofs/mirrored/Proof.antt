@@ -1,5 +1,5 @@
 use native.Mathlib.Omega.{arith}
-use Rattle.sheet_reader.proofs.Stored.{above-diagonal, up-to-diagonal}
+use Rattle.sheet_reader.proofs.SheetContents.{above-diagonal, up-to-diagonal}
 use Rattle.sheet_reader.proofs.mirrored.Statement.{statement}
 use Rattle.sheet_reader.proofs.mirrored.Tie as tie
 

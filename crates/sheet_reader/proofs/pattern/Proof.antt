@@ -1,5 +1,5 @@
 use native.Mathlib.Omega.{arith}
-use Rattle.sheet_reader.proofs.Stored.{few-before, offset-is, offset-within, pattern-read}
+use Rattle.sheet_reader.proofs.SheetContents.{few-before, offset-is, offset-within, pattern-read}
 use borrow.Author.Needs.{needs}
 use Rattle.sheet_reader.proofs.pattern.Statement.{statement}
 use Rattle.sheet_reader.proofs.pattern.Tie as tie

@@ -1,6 +1,6 @@
 use mathlib.Core.Path.{sym, ap, _∙_}
 use Rattle.refusal.specs.Answers.{answered}
-use Rattle.sheet_reader.proofs.Stored.{read-refused, read-accepted-as}
+use Rattle.sheet_reader.proofs.SheetContents.{read-refused, read-accepted-as}
 use borrow.Author.Needs.{needs}
 use Rattle.sheet_reader.proofs.read.Statement.{statement}
 use Rattle.sheet_reader.proofs.read.Tie as tie
@@ -13,8 +13,8 @@ enum-told c = search needs
 
 read-accepted-requires : tie.Need-read-accepted-requires
 read-accepted-requires c κs =
-    let k = c .before .before in
-    sym (ap answered (sym (k .enum-told .given .1)) ∙ k .before .before .verdict .ensures)
+    let told = c .before .before in
+    sym (ap answered (sym (told .enum-told .given .1)) ∙ told .before .before .verdict .ensures)
 
 enum-known-refused : tie.Need-enum-known-refused
 enum-known-refused c = search needs
@@ -27,14 +27,14 @@ same-length-2 c = search needs
 
 returns : tie.Need-returns
 returns c =
-    let s = c .before .before .before .before in
-    let k = s .before .before .before in
-    read-accepted-as _ _ _ (ap answered (sym (k .enum-told .given .1)) ∙ k .before .before .verdict .ensures) (s .read-accepted .ensures)
+    let read = c .before .before .before .before in
+    let told = read .before .before .before in
+    read-accepted-as _ _ _ (ap answered (sym (told .enum-told .given .1)) ∙ told .before .before .verdict .ensures) (read .read-accepted .ensures)
 
 returns-2 : tie.Need-returns-2
 returns-2 c =
-    let k = c .before in
-    read-refused _ _ _ (ap answered (sym (k .refused .given .1)) ∙ k .before .before .verdict .ensures)
+    let told = c .before in
+    read-refused _ _ _ (ap answered (sym (told .refused .given .1)) ∙ told .before .before .verdict .ensures)
 
 pub read-spec : {M : Type 1} → statement M
 read-spec =

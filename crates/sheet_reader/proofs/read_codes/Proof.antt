@@ -4,7 +4,7 @@ use native.Mathlib.Omega.{arith}
 use lib.ListN.{length, getD}
 use Rattle.lists.proofs.Filled.{Filled, filled-none, filled-next}
 use Rattle.sheet.specs.Format.{orderIn}
-use Rattle.sheet_reader.proofs.Stored.{codes-read}
+use Rattle.sheet_reader.proofs.SheetContents.{codes-read}
 use Rattle.sheet_reader.proofs.read_codes.Statement.{statement}
 use Rattle.sheet_reader.proofs.read_codes.Tie as tie
 

@@ -6,7 +6,7 @@ use lib.Ieee.{nan}
 use Rattle.lists.proofs.Filled.{Filled, filled-none, filled-next}
 use Rattle.matrix.proofs.Flat.{row-lt, column-lt}
 use Rattle.sheet.specs.Format.{entryIn}
-use Rattle.sheet_reader.proofs.Stored.{entries-read}
+use Rattle.sheet_reader.proofs.SheetContents.{entries-read}
 use Rattle.sheet_reader.proofs.read_entries.Statement.{statement}
 use Rattle.sheet_reader.proofs.read_entries.Tie as tie
 
@@ -17,11 +17,14 @@ Inv-loop n sheet matrix₀ k₀ k-end matrix k = (k ≤ n * n) × Filled nan (λ
 abbrev μ-loop : tie.MeasureT-loop
 μ-loop n sheet matrix₀ k₀ k-end matrix k = n * n - k
 
-place : (c : tie.In-loop Inv-loop μ-loop) → let n = c .before .before .before .before .args .n in
+abbrev at-start : tie.In-loop Inv-loop μ-loop → tie.Start Inv-loop μ-loop
+at-start c = c .before .before .before .before
+
+place : (c : tie.In-loop Inv-loop μ-loop) → let n = at-start c .args .n in
     (c .before .loop .k / n < n) × (c .before .loop .k % n < n)
 place c =
     let at-loop = c .before in
-    let n = at-loop .before .before .before .args .n in
+    let n = at-start c .args .n in
     (row-lt n (at-loop .loop .k) (omega arith), column-lt n (at-loop .loop .k) (omega arith))
 
 loop-holds : tie.Need-loop-holds Inv-loop μ-loop
@@ -41,7 +44,7 @@ add-mirrored-2 c = let w = place c in omega (arith, w .1)
 
 mirrored-requires : tie.Need-mirrored-requires Inv-loop μ-loop
 mirrored-requires c κs =
-    let p = c .before .before .before .before .pre in
+    let p = at-start c .pre in
     let w = place c in
     (p .0, p .1, p .2, omega arith, omega (arith, w .0), omega arith, omega (arith, w .1))
 

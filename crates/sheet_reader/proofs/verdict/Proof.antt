@@ -12,13 +12,15 @@ use Rattle.sheet_reader.proofs.Tables.{head-short, sizes-refused, codes
 use Rattle.sheet_reader.proofs.verdict.Statement.{statement}
 use Rattle.sheet_reader.proofs.verdict.Tie as tie
 
+abbrev at-start : tie.After-enum-told → tie.Start
+at-start c = c .before .before .before .before .before .before .before
+
 -- past the test of the sizes
-sized : (c : tie.After-enum-told) → let at-start = c .before .before .before .before .before .before .before in
-    (isOrder (orderIn (at-start .args .sheet .now)) ≡ true) × (sweepsIn (at-start .args .sheet .now) ≤ mostSweeps)
+sized : (c : tie.After-enum-told) → let sheet = at-start c .args .sheet .now in
+    (isOrder (orderIn sheet) ≡ true) × (sweepsIn sheet ≤ mostSweeps)
 sized c = sizes-given _ _ (sym (ap answered (sym (c .enum-told .given .1)) ∙ c .before .before .tested .ensures))
 
-small : (c : tie.After-enum-told) → let at-start = c .before .before .before .before .before .before .before in
-    orderIn (at-start .args .sheet .now) ≤ largestOrder
+small : (c : tie.After-enum-told) → orderIn (at-start c .args .sheet .now) ≤ largestOrder
 small c = order-is _ (sized c .0) .2
 
 returns : tie.Need-returns
@@ -89,7 +91,8 @@ returns-6 c =
 first-not-finite-requires : tie.Need-first-not-finite-requires
 first-not-finite-requires c κs =
     let sheet = c .before .before in
-    (refl, small (sheet .before .before .before .before), sheet .if4 .left ∙ sheet .before .length-of .ensures)
+    let codes = sheet .before .before .before in
+    (refl, small (codes .before), sheet .if4 .left ∙ sheet .before .length-of .ensures)
 
 returns-7 : tie.Need-returns-7
 returns-7 c =

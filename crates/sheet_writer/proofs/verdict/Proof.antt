@@ -11,12 +11,15 @@ use Rattle.sheet_writer.proofs.Tables.{sizes-refused, write-3, write-3-
 use Rattle.sheet_writer.proofs.verdict.Statement.{statement}
 use Rattle.sheet_writer.proofs.verdict.Tie as tie
 
+abbrev at-start : tie.After-enum-told → tie.Start
+at-start c = c .before .before .before .before .before
+
 -- past the test of the sizes
-sized : (c : tie.After-enum-told) → let at-start = c .before .before .before .before .before in
-    (isOrder (at-start .args .n) ≡ true) × (at-start .args .sweeps ≤ mostSweeps)
+sized : (c : tie.After-enum-told) → let a = at-start c .args in
+    (isOrder (a .n) ≡ true) × (a .sweeps ≤ mostSweeps)
 sized c = sizes-given _ _ (sym (ap answered (sym (c .enum-told .given .1)) ∙ c .before .before .tested .ensures))
 
-small : (c : tie.After-enum-told) → let at-start = c .before .before .before .before .before in at-start .args .n ≤ largestOrder
+small : (c : tie.After-enum-told) → at-start c .args .n ≤ largestOrder
 small c = order-is _ (sized c .0) .2
 
 tested-requires : tie.Need-tested-requires

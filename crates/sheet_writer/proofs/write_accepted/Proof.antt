@@ -15,6 +15,12 @@ known c = writable _ _ _ _ _ (c .pre)
 as-long : (c : tie.Start) → length (set (set (c .args .sheet .now) 0 (c .args .n)) 1 (c .args .sweeps)) ≡ length (c .args .sheet .now)
 as-long c = length-set (set (c .args .sheet .now) 0 (c .args .n)) 1 (c .args .sweeps) ∙ length-set (c .args .sheet .now) 0 (c .args .n)
 
+abbrev at-start : tie.After-write-codes-arg → tie.Start
+at-start c = c .before .before .before .before
+
+abbrev at-codes : tie.After-write-entries-arg → tie.After-write-codes-arg
+at-codes c = c .before .before .before .before
+
 cast-sheet : tie.Need-cast-sheet
 cast-sheet c = let k = known (c .before .before .before) in omega (arith, order-is _ (k .order) .2)
 
@@ -29,28 +35,28 @@ slice-write-sheet-2 c = let k = known (c .before .before .before) in simp length
 
 write-codes-requires : tie.Need-write-codes-requires
 write-codes-requires c κs =
-    let at-start = c .before .before .before .before in
-    let k = known at-start in
-    simp length-set (omega (arith, k .room, k .codes-long, length-is (at-start .args .n)))
+    let start = at-start c in
+    let k = known start in
+    simp length-set (omega (arith, k .room, k .codes-long, length-is (start .args .n)))
 
 write-entries-requires : tie.Need-write-entries-requires
 write-entries-requires c κs =
-    let at-start = c .before .before .before .before .before .before .before .before in
-    let k = known at-start in
-    (order-is _ (k .order) .2, k .matrix-long, omega (arith, k .room, as-long at-start))
+    let start = at-start (at-codes c) in
+    let k = known start in
+    (order-is _ (k .order) .2, k .matrix-long, omega (arith, k .room, as-long start))
 
 same-length : tie.Need-same-length
 same-length c =
-    let at-start = c .before .before .before .before .before .before .before .before .before .before .before in
-    omega (arith, as-long at-start)
+    let at-entries = c .before .before .before in
+    omega (arith, as-long (at-start (at-codes at-entries)))
 
 returns : tie.Need-returns
 returns c =
     let entries = c .before .before in
     let codes = entries .before .before .before .before in
-    let at-start = codes .before .before .before .before .before in
-    let k = known at-start in
-    written-over _ _ _ _ (at-start .args .sheet .now) (k .codes-long) (k .room) (codes .write-codes .ensures) (entries .write-entries .ensures)
+    let start = at-start (codes .before) in
+    let k = known start in
+    written-over _ _ _ _ (start .args .sheet .now) (k .codes-long) (k .room) (codes .write-codes .ensures) (entries .write-entries .ensures)
 
 pub write-accepted-spec : {M : Type 1} → statement M
 write-accepted-spec =

@@ -30,12 +30,14 @@ Inv-loop n matrix sheet₀ offset₀ i₀ sheet offset i =
 abbrev μ-loop : tie.MeasureT-loop
 μ-loop n matrix sheet₀ offset₀ i₀ sheet offset i = n - i
 
+abbrev at-start : tie.In-loop2 Inv-loop2 μ-loop2 Inv-loop μ-loop → tie.Start Inv-loop2 μ-loop2 Inv-loop μ-loop
+at-start c = c .before .before .before .before .before .before
+
 -- there is room for the entry
-room : (c : tie.In-loop2 Inv-loop2 μ-loop2 Inv-loop μ-loop) → let at-loop2 = c .before in
-    at-loop2 .loop2 .offset + 8 ≤ sheetLength (at-loop2 .before .before .before .before .before .args .n)
+room : (c : tie.In-loop2 Inv-loop2 μ-loop2 Inv-loop μ-loop) → c .before .loop2 .offset + 8 ≤ sheetLength (at-start c .args .n)
 room c =
     let at-loop = c .before .before .before in
-    let n = at-loop .before .before .before .args .n in
+    let n = at-start c .args .n in
     let u = c .before .loop2 .inv in
     let v = at-loop .loop .inv in
     let w = rows-below (at-loop .loop .i) n (omega arith) in
@@ -77,8 +79,8 @@ put-word-requires c κs =
 add-offset-2 : tie.Need-add-offset-2 Inv-loop2 μ-loop2 Inv-loop μ-loop
 add-offset-2 c =
     let in-loop2 = c .before .before .before .before .before .before in
-    let at-start = in-loop2 .before .before .before .before .before .before in
-    omega (arith, room in-loop2, few-entries (at-start .args .n) (at-start .pre .0) .1)
+    let start = at-start in-loop2 in
+    omega (arith, room in-loop2, few-entries (start .args .n) (start .pre .0) .1)
 
 add-j : tie.Need-add-j Inv-loop2 μ-loop2 Inv-loop μ-loop
 add-j c = omega arith
@@ -90,10 +92,9 @@ loop2-again : tie.Need-loop2-again Inv-loop2 μ-loop2 Inv-loop μ-loop
 loop2-again c =
     let put = c .before .before in
     let read = put .before .before .before in
-    let at-loop2 = read .before .before in
-    let at-start = at-loop2 .before .before .before .before .before in
-    let u = at-loop2 .loop2 .inv in
-    let entry = read .entry .ensures ∙ entry-in _ _ _ _ (at-start .pre .1) (omega arith) (omega arith) in (
+    let in-loop2 = read .before in
+    let u = in-loop2 .before .loop2 .inv in
+    let entry = read .entry .ensures ∙ entry-in _ _ _ _ (at-start in-loop2 .pre .1) (omega arith) (omega arith) in (
       omega arith,
       bytes-long _ _ _ _ (put .put-word .ensures) ∙ u .1,
       omega arith,

@@ -1,6 +1,6 @@
 use borrow.Author.Needs.{needs}
 use borrow.Author.Tests.{lt-ltb, le-ltb, le-leb, lt-leb}
-use Rattle.test_io.specs.Lines.{digitOf}
+use Rattle.test_io.specs.TextLines.{digitOf}
 use Rattle.test_io.proofs.digit.Statement.{statement}
 use Rattle.test_io.proofs.digit.Tie as tie
 

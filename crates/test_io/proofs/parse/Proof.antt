@@ -4,18 +4,18 @@ use native.Mathlib.Omega.{arith}
 use borrow.Author.Needs.{needs}
 use borrow.Author.Tests.{eq-eqb, ne-eqb}
 use denote.Ref.{now}
-use Rattle.test_io.specs.Lines.{spelt, ended, wordOf}
-use Rattle.test_io.specs.declared.Line.the-variants.{Word}
-use Rattle.test_io.proofs.Reading.{spoilt, one-more, room, grown}
+use Rattle.test_io.specs.TextLines.{spelt, ended, wordOf}
+use Rattle.test_io.specs.declared.TextLine.the-variants.{Word}
+use Rattle.test_io.proofs.ReadWords.{spoilt, one-more, room, grown}
 use Rattle.test_io.proofs.parse.Statement.{statement}
 use Rattle.test_io.proofs.parse.Tie as tie
 
 -- The first i bytes spell the number n, which has at most i digits. What falls is the number of bytes left of the 16.
 abbrev Inv-loop : tie.InvT-loop
-Inv-loop line n₀ i₀ n i = (i ≤ 16) × (n < 16 ^ i) × (spelt i line ≡ Word n)
+Inv-loop text n₀ i₀ n i = (i ≤ 16) × (n < 16 ^ i) × (spelt i text ≡ Word n)
 
 abbrev μ-loop : tie.MeasureT-loop
-μ-loop line n₀ i₀ n i = 16 - i
+μ-loop text n₀ i₀ n i = 16 - i
 
 loop-holds : tie.Need-loop-holds Inv-loop μ-loop
 unfolding spelt
@@ -31,7 +31,7 @@ returns : tie.Need-returns Inv-loop μ-loop
 unfolding wordOf ended
 returns c =
     let turn = c .before .before .before in
-    simp (spoilt (now (turn .before .before .args .line)) (turn .before .loop .i) 16 (turn .loop-test .taken) (omega (arith, c .before .digit .ensures)))
+    simp (spoilt (now (turn .before .before .args .text)) (turn .before .loop .i) 16 (turn .loop-test .taken) (omega (arith, c .before .digit .ensures)))
 
 -- n has room for another digit
 roomy : (c : tie.In-loop Inv-loop μ-loop) → c .before .loop .n * 16 + 15 < 2 ^ 64
@@ -52,13 +52,14 @@ loop-less c = search needs
 loop-again : tie.Need-loop-again Inv-loop μ-loop
 loop-again c =
     let d = c .before .digit .ensures in
-    let h = c .before .before .before .before .loop .inv in
+    let at-loop = c .before .before .before .before in
+    let h = at-loop .loop .inv in
     (search needs, grown _ _ _ (omega arith) (h .1), rw d (one-more _ _ _ (h .2) (omega arith)))
 
 element-copy-out-if2 : tie.Need-element-copy-out-if2 Inv-loop μ-loop
 element-copy-out-if2 c = search needs
 
-whole : (c : tie.After-loop Inv-loop μ-loop) → spelt 16 (now (c .before .before .args .line)) ≡ Word (c .before .loop .n)
+whole : (c : tie.After-loop Inv-loop μ-loop) → spelt 16 (now (c .before .before .args .text)) ≡ Word (c .before .loop .n)
 whole c = let all : c .before .loop .i ≡ 16 = omega arith in rw all at (c .before .loop .inv .2)
 
 returns-2 : tie.Need-returns-2 Inv-loop μ-loop

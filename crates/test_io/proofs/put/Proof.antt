@@ -2,7 +2,7 @@ use Prim.Native.Nat.{_≤_}
 use borrow.Author.Needs.{needs}
 use lib.ListN.{length}
 use denote.Ref.{now}
-use Rattle.test_io.proofs.Writing.{begun}
+use Rattle.test_io.proofs.WrittenTexts.{begun}
 use Rattle.test_io.proofs.put.Statement.{statement}
 use Rattle.test_io.proofs.put.Tie as tie
 
@@ -28,7 +28,7 @@ returns : tie.Need-returns
 returns c =
     let start = c .before .before .before .before .before .before in
     let copy = c .before .before .copy in
-    let within : start .args .at ≤ length (now (start .args .line)) = search needs in
+    let within : start .args .at ≤ length (now (start .args .out)) = search needs in
     record {
       ends = search needs;
       begins = rw (copy .ensures .0, copy .ensures .1) (begun _ _ _ _ _ within);

@@ -1,7 +1,7 @@
 use borrow.Author.Needs.{needs}
 use Rattle.text.specs.Text.{hexOf}
 use Rattle.text.proofs.TextPieces.{put-whole}
-use Rattle.test_io.specs.Lines.{lineOf}
+use Rattle.test_io.specs.TextLines.{wordTextLine}
 use Rattle.test_io.proofs.spell.Statement.{statement}
 use Rattle.test_io.proofs.spell.Tie as tie
 
@@ -12,7 +12,7 @@ put-hex-requires : tie.Need-put-hex-requires
 put-hex-requires c κs = search needs
 
 returns : tie.Need-returns
-unfolding lineOf hexOf
+unfolding wordTextLine hexOf
 returns c = put-whole _ _ _ _ (c .before .put-hex .ensures .0) .1
 
 pub spell-spec : {M : Type 1} → statement M

@@ -27,13 +27,15 @@ same-length c = search needs
 
 returns : tie.Need-returns
 returns c =
-    let e = c .before .before in
-    let k = e .before .before in
-    let d = k .before .before .before in
-    let q = d .before .before .before .before in
-    let p = q .before .before .before .before in
-    let last = put-as (e .put .ensures) (ap (λ (x : ℕ). x ∷ []) (k .code .ensures)) in
-    (decimal-put _ (p .put-shown .ensures .0) (q .put-shown2 .ensures .0) (d .put-shown3 .ensures .0) last, omega (arith, last .ends))
+    let units = c .before .before in
+    let coded = units .before .before in
+    let tens = coded .before .before .before in
+    let hundreds = tens .before .before .before .before in
+    let thousands = hundreds .before .before .before .before in
+    let last = put-as (units .put .ensures) (ap (λ (x : ℕ). x ∷ []) (coded .code .ensures)) in (
+      decimal-put _ (thousands .put-shown .ensures .0) (hundreds .put-shown2 .ensures .0) (tens .put-shown3 .ensures .0) last,
+      omega (arith, last .ends),
+    )
 
 pub put-decimal-spec : {M : Type 1} → statement M
 put-decimal-spec =

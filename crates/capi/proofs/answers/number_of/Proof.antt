@@ -18,7 +18,9 @@ returns c = rw (c .enum-told .given .1)
 
 returns-2 : tie.Need-returns-2
 unfolding cAnswerOf
-returns-2 c = rw (c .before .before .before .before .answer .given .1) (c .refuse .ensures)
+returns-2 c =
+    let told = c .before .before .before .before in
+    rw (told .answer .given .1) (c .refuse .ensures)
 
 pub number-of-spec : {M : Type 1} → statement M
 number-of-spec = tie.close (tie.spec enum-told enum-known-answer refuse-requires returns returns-2)

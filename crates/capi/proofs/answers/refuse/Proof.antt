@@ -10,7 +10,10 @@ number-requires : tie.Need-number-requires
 number-requires c κs = search needs
 
 returns : tie.Need-returns
-returns c = placed _ _ (c .before .before .before .before .args .refused) (c .number .ensures) (c .before .set-place .ensures)
+returns c =
+    let set = c .before in
+    let start = set .before .before .before in
+    placed _ _ (start .args .refused) (c .number .ensures) (set .set-place .ensures)
 
 pub refuse-spec : {M : Type 1} → statement M
 refuse-spec = tie.close (tie.spec set-place-requires number-requires returns)

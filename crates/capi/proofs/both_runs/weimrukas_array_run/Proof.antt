@@ -3,6 +3,9 @@ use borrow.Author.Needs.{needs}
 use Rattle.capi.proofs.both_runs.weimrukas_array_run.Statement.{statement}
 use Rattle.capi.proofs.both_runs.weimrukas_array_run.Tie as tie
 
+abbrev at-run : tie.After-slice-known4 → tie.After-run
+at-run c = c .before .before .before .before
+
 run-requires : tie.Need-run-requires
 run-requires c κs = search needs
 
@@ -22,7 +25,10 @@ same-length-2 : tie.Need-same-length-2
 same-length-2 c = search needs
 
 returns : tie.Need-returns
-returns c = whole-made _ _ _ _ _ _ (c .before .made .given .1) (c .before .before .before .before .before .before .before .run .ensures)
+returns c =
+    let told = c .before in
+    let ran = at-run (told .before .before) in
+    whole-made _ _ _ _ _ _ (told .made .given .1) (ran .run .ensures)
 
 same-length-3 : tie.Need-same-length-3
 same-length-3 c = search needs
@@ -31,8 +37,10 @@ same-length-4 : tie.Need-same-length-4
 same-length-4 c = search needs
 
 returns-2 : tie.Need-returns-2
-returns-2 c = whole-refused _ _ _ _ _ _ (c .before .before .before .before .refused .given .1)
-    (c .before .before .before .before .before .before .before .before .before .before .run .ensures) (c .refuse .ensures)
+returns-2 c =
+    let told = c .before .before .before .before in
+    let ran = at-run (told .before .before) in
+    whole-refused _ _ _ _ _ _ (told .refused .given .1) (ran .run .ensures) (c .refuse .ensures)
 
 pub weimrukas-array-run-spec : {M : Type 1} → statement M
 weimrukas-array-run-spec =

@@ -16,7 +16,9 @@ same-length-2 : tie.Need-same-length-2
 same-length-2 c = search needs
 
 returns : tie.Need-returns
-returns c = run-said _ _ _ (c .before .before .before .before .before .before .before .run .ensures) (c .number-of .ensures)
+returns c =
+    let ran = c .before .before .before .before .before .before .before in
+    run-said _ _ _ (ran .run .ensures) (c .number-of .ensures)
 
 pub weimrukas-plain-run-spec : {M : Type 1} → statement M
 weimrukas-plain-run-spec =

@@ -15,9 +15,10 @@ number-of-requires : tie.Need-number-of-requires
 number-of-requires c κs = search needs
 
 returns : tie.Need-returns
-returns c = start-refused _ _ _ _ _ _
-    (sym (c .before .before .before .before .before .is-array .ensures) ∙ not-true _ (c .before .before .before .before .if1 .taken))
-    (c .before .before .before .verdict .ensures) (c .number-of .ensures)
+returns c =
+    let judged = c .before .before .before in
+    let test = judged .before in
+    start-refused _ _ _ _ _ _ (sym (test .before .is-array .ensures) ∙ not-true _ (test .if1 .taken)) (judged .verdict .ensures) (c .number-of .ensures)
 
 start-requires : tie.Need-start-requires
 start-requires c κs = search needs
@@ -32,11 +33,12 @@ same-length : tie.Need-same-length
 same-length c = search needs
 
 returns-2 : tie.Need-returns-2
-returns-2 c = start-stored _ _ _ _ _ _ _
-    (sym (c .before .before .before .before .before .before .before .before .before .before .is-array .ensures)
-    ∙ not-false _ (c .before .before .before .before .before .before .before .before .before .if1 .left))
-    (c .before .before .before .before .before .before .before .before .start .ensures) (c .before .before .before .before .before .store .ensures)
-    (c .number-of2 .ensures)
+returns-2 c =
+    let stored = c .before .before .before .before .before in
+    let started = stored .before .before .before in
+    let test = started .before in
+    start-stored _ _ _ _ _ _ _ (sym (test .before .is-array .ensures) ∙ not-false _ (test .if1 .left)) (started .start .ensures)
+    (stored .store .ensures) (c .number-of2 .ensures)
 
 pub weimrukas-array-start-spec : {M : Type 1} → statement M
 weimrukas-array-start-spec =

@@ -5,6 +5,10 @@ use borrow.Author.Needs.{needs}
 use Rattle.capi.proofs.hand.weimrukas_array_tick.Statement.{statement}
 use Rattle.capi.proofs.hand.weimrukas_array_tick.Tie as tie
 
+-- the test that the words are an array's
+abbrev at-test : tie.After-tick → tie.Else1
+at-test c = c .before .before .before
+
 is-array-requires : tie.Need-is-array-requires
 is-array-requires c κs = search needs
 
@@ -12,7 +16,9 @@ number-requires : tie.Need-number-requires
 number-requires c κs = search needs
 
 returns : tie.Need-returns
-returns c = tick-refused-by-3 _ _ (sym (c .before .before .is-array .ensures) ∙ not-true _ (c .before .if1 .taken)) (c .number .ensures)
+returns c =
+    let test = c .before in
+    tick-refused-by-3 _ _ (sym (test .before .is-array .ensures) ∙ not-true _ (test .if1 .taken)) (c .number .ensures)
 
 load-requires : tie.Need-load-requires
 load-requires c κs = search needs
@@ -40,19 +46,20 @@ same-length c = search needs
 
 returns-2 : tie.Need-returns-2
 returns-2 c =
-    let t = c .before .before .before .before .before .before .before in
-    let e = t .before .before .before in
-    tick-made _ _ (sym (e .before .is-array .ensures) ∙ not-false _ (e .if1 .left)) _ (t .before .load .ensures) _ (t .tick .ensures)
-    (c .before .before .before .before .before .enum-told .given .1) (c .before .before .store .ensures)
+    let told = c .before .before .before .before .before in
+    let ticked = told .before .before in
+    let test = at-test ticked in
+    tick-made _ _ (sym (test .before .is-array .ensures) ∙ not-false _ (test .if1 .left)) _ (ticked .before .load .ensures) _ (ticked .tick .ensures)
+    (told .enum-told .given .1) (c .before .before .store .ensures)
 
 same-length-2 : tie.Need-same-length-2
 same-length-2 c = search needs
 
 returns-3 : tie.Need-returns-3
 returns-3 c =
-    let t = c .before .before in
-    let e = t .before .before .before in
-    tick-stopped _ _ (sym (e .before .is-array .ensures) ∙ not-false _ (e .if1 .left)) _ (t .before .load .ensures) _ (t .tick .ensures)
+    let ticked = c .before .before in
+    let test = at-test ticked in
+    tick-stopped _ _ (sym (test .before .is-array .ensures) ∙ not-false _ (test .if1 .left)) _ (ticked .before .load .ensures) _ (ticked .tick .ensures)
     (c .enum-told2 .given .1)
 
 same-length-3 : tie.Need-same-length-3
@@ -60,10 +67,11 @@ same-length-3 c = search needs
 
 returns-4 : tie.Need-returns-4
 returns-4 c =
-    let t = c .before .before .before .before in
-    let e = t .before .before .before in
-    tick-refused _ _ (sym (e .before .is-array .ensures) ∙ not-false _ (e .if1 .left)) _ (t .before .load .ensures) _ (t .tick .ensures) _
-    (c .before .before .answer .given .1) (c .number2 .ensures)
+    let told = c .before .before in
+    let ticked = told .before .before in
+    let test = at-test ticked in
+    tick-refused _ _ (sym (test .before .is-array .ensures) ∙ not-false _ (test .if1 .left)) _ (ticked .before .load .ensures) _ (ticked .tick .ensures) _
+    (told .answer .given .1) (c .number2 .ensures)
 
 pub weimrukas-array-tick-spec : {M : Type 1} → statement M
 weimrukas-array-tick-spec =

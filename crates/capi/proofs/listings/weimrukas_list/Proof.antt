@@ -13,7 +13,9 @@ same-length : tie.Need-same-length
 same-length c = search needs
 
 returns : tie.Need-returns
-returns c = list-said _ _ _ (c .before .before .before .before .before .list .ensures) (c .number-of .ensures)
+returns c =
+    let listed = c .before .before .before .before .before in
+    list-said _ _ _ (listed .list .ensures) (c .number-of .ensures)
 
 pub weimrukas-list-spec : {M : Type 1} → statement M
 weimrukas-list-spec = tie.close (tie.spec list-requires number-of-requires same-length returns)

@@ -22,9 +22,13 @@ canonical-requires-3 : tie.Need-canonical-requires-3
 canonical-requires-3 c κs = search needs
 
 returns : tie.Need-returns
-returns c = let p = c .before .before .before .before .before in
-    parameters-said (p .of-pair .ensures) (c .before .before .before .before .of-parameters .ensures) (c .before .before .before .turns .ensures)
-    (c .before .before .canonical .ensures) (c .before .canonical2 .ensures) (c .canonical3 .ensures)
+returns c =
+    let cosine = c .before in
+    let tangent = cosine .before in
+    let turned = tangent .before in
+    let recorded = turned .before in
+    parameters-said (recorded .before .of-pair .ensures) (recorded .of-parameters .ensures) (turned .turns .ensures) (tangent .canonical .ensures)
+    (cosine .canonical2 .ensures) (c .canonical3 .ensures)
 
 pub weimrukas-parameters-spec : {M : Type 1} → statement M
 weimrukas-parameters-spec =

@@ -16,10 +16,14 @@ number-requires : tie.Need-number-requires
 number-requires c κs = search needs
 
 returns : tie.Need-returns
-returns c = root-given _ _ _ (c .before .y .given .1) (c .before .before .before .sqrt .ensures)
+returns c =
+    let told = c .before in
+    root-given _ _ _ (told .y .given .1) (told .before .before .sqrt .ensures)
 
 returns-2 : tie.Need-returns-2
-returns-2 c = root-refused _ _ _ (c .before .before .refused .given .1) (c .before .before .before .before .sqrt .ensures) (c .number .ensures)
+returns-2 c =
+    let told = c .before .before in
+    root-refused _ _ _ (told .refused .given .1) (told .before .before .sqrt .ensures) (c .number .ensures)
 
 pub weimrukas-root-spec : {M : Type 1} → statement M
 weimrukas-root-spec =

@@ -11,7 +11,9 @@ enum-told : tie.Need-enum-told
 enum-told c = search needs
 
 put-records-requires : tie.Need-put-records-requires
-put-records-requires c κs = let e = c .before .enum-told .given .1 in let h = records-fit _ _ _ _ e (c .before .before .before .verdict .ensures) in
+put-records-requires c κs =
+    let told = c .before in
+    let h = records-fit _ _ _ _ (told .enum-told .given .1) (told .before .before .verdict .ensures) in
     (h .0, omega (arith, h .1))
 
 enum-known-refused : tie.Need-enum-known-refused
@@ -24,12 +26,15 @@ same-length : tie.Need-same-length
 same-length c = search needs
 
 returns : tie.Need-returns
-returns c = records-given _ _ _ _ _ _ _ (c .before .before .before .before .enum-told .given .1)
-    (c .before .before .before .before .before .before .verdict .ensures) (c .before .before .put-records .ensures)
+returns c =
+    let put = c .before .before in
+    let told = put .before .before in
+    records-given _ _ _ _ _ _ _ (told .enum-told .given .1) (told .before .before .verdict .ensures) (put .put-records .ensures)
 
 returns-2 : tie.Need-returns-2
-returns-2 c = records-refused _ _ _ _ _ _ _ _ (c .before .before .before .before .refused .given .1)
-    (c .before .before .before .before .before .before .verdict .ensures) (c .refuse .ensures)
+returns-2 c =
+    let told = c .before .before .before .before in
+    records-refused _ _ _ _ _ _ _ _ (told .refused .given .1) (told .before .before .verdict .ensures) (c .refuse .ensures)
 
 pub weimrukas-records-spec : {M : Type 1} → statement M
 weimrukas-records-spec =

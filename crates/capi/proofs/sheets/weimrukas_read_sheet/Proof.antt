@@ -3,6 +3,9 @@ use borrow.Author.Needs.{needs}
 use Rattle.capi.proofs.sheets.weimrukas_read_sheet.Statement.{statement}
 use Rattle.capi.proofs.sheets.weimrukas_read_sheet.Tie as tie
 
+abbrev at-read : tie.After-slice-known4 → tie.After-read
+at-read c = c .before .before .before .before
+
 read-requires : tie.Need-read-requires
 read-requires c κs = search needs
 
@@ -22,7 +25,10 @@ same-length-2 : tie.Need-same-length-2
 same-length-2 c = search needs
 
 returns : tie.Need-returns
-returns c = read-given _ _ _ _ _ _ _ _ (c .before .order .given .1) (c .before .before .before .before .before .before .before .read .ensures)
+returns c =
+    let told = c .before in
+    let read = at-read (told .before .before) in
+    read-given _ _ _ _ _ _ _ _ (told .order .given .1) (read .read .ensures)
 
 same-length-3 : tie.Need-same-length-3
 same-length-3 c = search needs
@@ -31,8 +37,10 @@ same-length-4 : tie.Need-same-length-4
 same-length-4 c = search needs
 
 returns-2 : tie.Need-returns-2
-returns-2 c = read-refused _ _ _ _ _ _ _ (c .before .before .before .before .refused .given .1)
-    (c .before .before .before .before .before .before .before .before .before .before .read .ensures) (c .refuse .ensures)
+returns-2 c =
+    let told = c .before .before .before .before in
+    let read = at-read (told .before .before) in
+    read-refused _ _ _ _ _ _ _ (told .refused .given .1) (read .read .ensures) (c .refuse .ensures)
 
 pub weimrukas-read-sheet-spec : {M : Type 1} → statement M
 weimrukas-read-sheet-spec =

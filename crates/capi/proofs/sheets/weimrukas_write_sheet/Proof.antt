@@ -13,7 +13,9 @@ same-length : tie.Need-same-length
 same-length c = search needs
 
 returns : tie.Need-returns
-returns c = write-said _ _ _ (c .before .before .before .before .before .write .ensures) (c .number-of .ensures)
+returns c =
+    let written = c .before .before .before .before .before in
+    write-said _ _ _ (written .write .ensures) (c .number-of .ensures)
 
 pub weimrukas-write-sheet-spec : {M : Type 1} → statement M
 weimrukas-write-sheet-spec =

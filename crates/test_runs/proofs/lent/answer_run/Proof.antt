@@ -39,7 +39,9 @@ array-borrow-prefix-vectors : tie.Need-array-borrow-prefix-vectors
 array-borrow-prefix-vectors c = lendable (c .before .before .before) .2
 
 slice-aggregate-answer-3 : tie.Need-slice-aggregate-answer-3
-slice-aggregate-answer-3 c = sym (length-take-le _ _ (lendable (c .before .before .before .before) .2))
+slice-aggregate-answer-3 c =
+    let read = c .before .before .before .before in
+    sym (length-take-le _ _ (lendable read .2))
 
 answer-requires : tie.Need-answer-requires
 answer-requires c κs = search needs

@@ -9,11 +9,11 @@ use native.Mathlib.Omega.{arith}
 use borrow.Author.Tests.{lt-ltb, le-ltb}
 use lib.Dec.{lit<}
 use lib.ListN.{getD}
-use Rattle.test_io.specs.Lines.{digitOf, then, spelt}
-use Rattle.test_io.specs.declared.Line.{Line}
-use Rattle.test_io.specs.declared.Line.the-variants.{Word, End}
+use Rattle.test_io.specs.TextLines.{digitOf, then, spelt}
+use Rattle.test_io.specs.declared.TextLine.{TextLine}
+use Rattle.test_io.specs.declared.TextLine.the-variants.{Word, End}
 
-no-digit : (l : Line) (d : ℕ) → 16 ≤ d → then l d ≡ End
+no-digit : (l : TextLine) (d : ℕ) → 16 ≤ d → then l d ≡ End
 unfolding then
 no-digit End d h = refl
 no-digit (Word n) d h = simp (le-ltb d 16 h)
@@ -25,7 +25,7 @@ spoilt s i zero h b = absurd (omega arith)
 spoilt s i (suc k) h b =
     let le : i ≤ k = omega arith in
     ⊎-elim (λ same. no-digit (spelt k s) _ (rw same at b))
-    (λ below. ap (λ (l : Line). then l (digitOf (getD s k 0))) (spoilt s i k below b))
+    (λ below. ap (λ (l : TextLine). then l (digitOf (getD s k 0))) (spoilt s i k below b))
     (eq-or-lt-of-le le)
 
 -- a digit more

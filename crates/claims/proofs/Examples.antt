@@ -24,5 +24,7 @@ use Rattle.plain_run.specs.Run.{ranOf, runOf}
 use Rattle.claims.specs.Examples.{All, examples}
 
 pub examples-hold : All examples
-unfolding sqrtOf ofBits toBits finite tabulate any slot cameFrom intoLast prior lineAt inOrderAt inOrder column registersOf registersAt isOrder at flat first notFiniteAt notMirroredAt finiteRow mirrorRow turnedAt rowTurn columnTurn columnTurnAll ofAngle ofTangent tangent ofPair identity place pairBlock matrixBlock pairTurned pairRotated pairsRotated after notFinite spoiled beforeRun startOf ranOf runOf
+unfolding sqrtOf ofBits toBits finite tabulate any slot cameFrom intoLast prior lineAt inOrderAt inOrder column registersOf registersAt isOrder
+    at flat first notFiniteAt notMirroredAt finiteRow mirrorRow turnedAt rowTurn columnTurn columnTurnAll ofAngle ofTangent tangent ofPair
+    identity place pairBlock matrixBlock pairTurned pairRotated pairsRotated after notFinite spoiled beforeRun startOf ranOf runOf
 examples-hold = (refl, (refl, (refl, (refl, (refl, (refl, (refl, (refl, (refl, (refl, (λ r v e f. rw (e, f), tt)))))))))))

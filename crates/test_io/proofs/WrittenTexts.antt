@@ -1,4 +1,4 @@
--- Facts on the lines that are written. Assumes nothing.
+-- Facts on the texts that are written. Assumes nothing.
 use mathlib.Core.Path.{_≡_, refl}
 use mathlib.Core.Bool.{Bool, true, false}
 use mathlib.Core.List.{List, [], _∷_, _++_, append-assoc}
@@ -11,12 +11,12 @@ use lib.ListN.{length, take, length-append}
 use lib.Seq.{take-at, take-length, length-take-le}
 use Rattle.io.specs.Digits.{Fewest}
 
--- a line whose bytes from at on are a text and more
-pub begun : (line text x y : List ℕ) (at : ℕ) → at ≤ length line
-    → take (at + length text) (take at line ++ ((take (length text) text ++ x) ++ y)) ≡ take at line ++ text
-begun line text x y at h =
+-- bytes that from at on are a text and more
+pub begun : (bytes text x y : List ℕ) (at : ℕ) → at ≤ length bytes
+    → take (at + length text) (take at bytes ++ ((take (length text) text ++ x) ++ y)) ≡ take at bytes ++ text
+begun bytes text x y at h =
     rw (take-length, append-assoc text x y, ← append-assoc)
-    (take-at (take at line ++ text) (x ++ y) (at + length text) (rw (length-append, length-take-le at line h)))
+    (take-at (take at bytes ++ text) (x ++ y) (at + length text) (rw (length-append, length-take-le at bytes h)))
 
 -- a u64 has at most 20 decimal digits
 pub few : (n k : ℕ) → Fewest 10 1 n k → n < 2 ^ 64 → k ≤ 20
