@@ -10,7 +10,7 @@ use Rattle.float64.specs.Values.{sameBits}
 use Rattle.float64.proofs.Patterns.{same-bits-same}
 use Rattle.rotation.specs.declared.Angle.{Angle}
 use Rattle.rotation.specs.Rotation.{cosineOf, angleOf}
-use Rattle.rotation.proofs.Cases.{cosine-nan}
+use Rattle.rotation.proofs.ParameterCases.{cosine-nan}
 use Rattle.array.specs.Angles.{Known}
 
 -- ---- an angle that is known already

@@ -26,7 +26,7 @@ use Rattle.systolic.proofs.Agreement.{agreement}
 use Rattle.sizes.specs.Sizes.{mostSweeps, isOrder, processorsOf, firstLine, stepsOf, ticksOf}
 use Rattle.sizes.proofs.Orders.{order-is, order-half, order-twice, sweep-is}
 use Rattle.matrix.specs.Matrix.{at, flat}
-use Rattle.matrix.proofs.Same.{Line, flat-same}
+use Rattle.matrix.proofs.SameEntries.{Line, flat-same}
 use Rattle.matrix.proofs.AcceptedEntries.{accepted-long}
 use Rattle.runs.specs.State.{State, startOf, zeros}
 use Rattle.plain_run.specs.State.{after, notFinite, spoiled}

@@ -22,7 +22,7 @@ use Rattle.ordering.specs.Pairs.{registersAt, Lists}
 use Rattle.step_records.specs.declared.Record.{Record}
 use Rattle.step_records.specs.Records.{recordAt, beforeRecords}
 use Rattle.refusal.proofs.FirstRefusal.{refused-given}
-use Rattle.step_records.proofs.Rows.{written-fits}
+use Rattle.step_records.proofs.WrittenRows.{written-fits}
 use Rattle.capi.specs.CAnswers.{CAnswer, cAnswer, refusedAs, cAnswerOf, numberAnswered}
 use Rattle.capi.specs.Calls.{pairsTooShort, listedIn, pairsOf, recordField, recordFields, recordsLeft, ofRecords}
 

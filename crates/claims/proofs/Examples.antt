@@ -9,7 +9,7 @@ use Rattle.lists.specs.Bounded.{any}
 use Rattle.ordering.specs.Registers.{column, registersOf}
 use Rattle.sizes.specs.Sizes.{isOrder}
 use Rattle.ordering.specs.Pairs.{registersAt}
-use Rattle.rotation.specs.Rotation.{tangent, ofAngle, ofTangent, ofPair}
+use Rattle.rotation.specs.Rotation.{tangentOfPair, ofAngle, ofTangent, ofPair}
 use Rattle.matrix.specs.Matrix.{at, flat}
 use Rattle.refusal.specs.Answers.{first}
 use Rattle.matrix.specs.Entries.{notFiniteAt, notMirroredAt, finiteRow, mirrorRow}
@@ -25,6 +25,6 @@ use Rattle.claims.specs.Examples.{All, examples}
 
 pub examples-hold : All examples
 unfolding sqrtOf ofBits toBits finite tabulate any slot cameFrom intoLast prior lineAt inOrderAt inOrder column registersOf registersAt isOrder
-    at flat first notFiniteAt notMirroredAt finiteRow mirrorRow turnedAt rowTurn columnTurn columnTurnAll ofAngle ofTangent tangent ofPair
+    at flat first notFiniteAt notMirroredAt finiteRow mirrorRow turnedAt rowTurn columnTurn columnTurnAll ofAngle ofTangent tangentOfPair ofPair
     identity place pairBlock matrixBlock pairTurned pairRotated pairsRotated after notFinite spoiled beforeRun startOf ranOf runOf
 examples-hold = (refl, (refl, (refl, (refl, (refl, (refl, (refl, (refl, (refl, (refl, (λ r v e f. rw (e, f), tt)))))))))))

@@ -14,7 +14,7 @@ use Rattle.ordering.proofs.Meetings as ordering
 use Rattle.sizes.specs.Sizes.{isOrder, stepsOf, ticksOf}
 use Rattle.matrix.specs.Matrix.{flat}
 use Rattle.matrix.proofs.AcceptedEntries.{accepted-long, accepted-if}
-use Rattle.matrix.proofs.Same.{flat-same}
+use Rattle.matrix.proofs.SameEntries.{flat-same}
 use Rattle.runs.specs.State.{startOf}
 use Rattle.runs.specs.Outcome.{Outcome}
 use Rattle.runs.proofs.Verdicts.{Begins, begun}

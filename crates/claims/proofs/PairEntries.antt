@@ -4,7 +4,7 @@ use mathlib.Core.Path.{_≡_, sym, ap, subst, _∙_}
 use lib.Ieee.{Float}
 use Rattle.rotation.specs.declared.Parameters.{Parameters}
 use Rattle.rotation.specs.declared.Parameters.the-variants.{Still, Turn}
-use Rattle.matrix_turns.proofs.Still.{still-all-columns}
+use Rattle.matrix_turns.proofs.StillTurns.{still-all-columns}
 use Rattle.matrix_turns.specs.Turns.{parametersOf, columnTurnAll}
 use Rattle.runs.specs.State.{State}
 use Rattle.plain_pair.specs.Pair.{pairTurned, pairRotated}

@@ -15,7 +15,7 @@ use Rattle.float64.specs.Values.{finite, sameBits}
 use Rattle.lists.proofs.Bounded.{up-to}
 use Rattle.matrix.specs.Matrix.{at}
 use Rattle.matrix.specs.Entries.{notFiniteAt, notMirroredAt, finiteRow, mirrorRow}
-use Rattle.matrix.proofs.Same.{Line}
+use Rattle.matrix.proofs.SameEntries.{Line}
 use Rattle.sheet.specs.Format.{orderIn, patternIn}
 use Rattle.sheet_reader.specs.Reader.{notFiniteIn, storedRow}
 use Rattle.claims.specs.Refusals.{Before, Tested, all-good, first-bad, InSquare, AboveDiagonal, InTriangle, EntriesAreTested}

@@ -14,7 +14,7 @@ use Rattle.ordering.specs.Pairs.{registersAt, Lists}
 use Rattle.ordering.proofs.OrderRegisters.{of-order}
 use Rattle.sizes.specs.Sizes.{isOrder, processorsOf}
 use Rattle.matrix.specs.Matrix.{at}
-use Rattle.matrix.proofs.Same.{read-again}
+use Rattle.matrix.proofs.SameEntries.{read-again}
 use Rattle.matrix_turns.specs.Turns.{parametersOf}
 use Rattle.runs.specs.State.{State, startOf, identity}
 use Rattle.plain_run.specs.State.{pairsRotated, after, spoiled}

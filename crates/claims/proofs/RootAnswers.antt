@@ -12,7 +12,7 @@ use Rattle.refusal.specs.Answers.{given, refusedBy}
 use Rattle.float64.specs.Values.{plusZero, finite, signOf}
 use Rattle.float64.proofs.Zeros.{above-zero, below-zero}
 use Rattle.root.specs.Sqrt.{sqrtOf}
-use Rattle.root.proofs.Correct as root
+use Rattle.root.proofs.CorrectRounding as root
 use Rattle.claims.specs.Report.{CorrectlyRounded, RootRoundsCorrectly}
 
 -- ---- what is refused, and what is not

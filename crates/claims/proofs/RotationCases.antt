@@ -8,12 +8,12 @@ use lib.Ieee.Positive.{above}
 use Rattle.float64.specs.Values.{one, isZero}
 use Rattle.float64.proofs.Zeros.{equal-zero, below-zero}
 use Rattle.rotation.specs.declared.Parameters.the-variants.{Still, Turn}
-use Rattle.rotation.specs.Rotation.{two, signum, tangentOf, cosineOf, quotient, tangent, ofAngle, ofTangent, ofPair}
-use Rattle.rotation.proofs.Cases.{still-pair, other-pair, turn-nan, tangent-nan}
+use Rattle.rotation.specs.Rotation.{two, signum, tangentOf, cosineOf, quotient, tangentOfPair, ofAngle, ofTangent, ofPair}
+use Rattle.rotation.proofs.ParameterCases.{still-pair, other-pair, turn-nan, tangent-nan}
 use Rattle.claims.specs.Report.{TurnsByTheReport}
 
 pub turns : TurnsByTheReport
-unfolding ofPair ofTangent ofAngle tangent tangentOf cosineOf quotient
+unfolding ofPair ofTangent ofAngle tangentOfPair tangentOf cosineOf quotient
 turns a d b h = rw h
 
 module _ (a d b : Float) where

@@ -5,5 +5,5 @@ pub mod Grid
 pub mod Units
 pub mod Patterns
 pub mod Order
-pub mod Above
+pub mod PositiveValues
 pub mod Operands

@@ -14,7 +14,7 @@ use Rattle.float64.specs.Values.{finite, sameBits}
 use Rattle.float64.proofs.Patterns.{same-bits-same}
 use Rattle.matrix.specs.Matrix.{at}
 use Rattle.matrix.specs.Entries.{firstPlace, notFiniteAt, notMirroredAt, finiteRow, mirrorRow, isSquare, entriesOf}
-use Rattle.matrix.proofs.Same.{Line, Finite, Mirrored}
+use Rattle.matrix.proofs.SameEntries.{Line, Finite, Mirrored}
 use Rattle.refusal.proofs.FirstRefusal.{refused-given, both-given, of-test, each-given, first-fine}
 
 module _ (n : ℕ) (l : List Float) (fitting : (k : ℕ) → T (fits binary64 (getD l k nan))) (accepted : entriesOf n l ≡ given tt) where

@@ -1,7 +1,7 @@
 pub mod Flat
-pub mod Within
+pub mod EntryPlaces
 pub mod EntryTests
 pub mod Answers
-pub mod Same
+pub mod SameEntries
 pub mod AcceptedEntries
 pub mod Transposition

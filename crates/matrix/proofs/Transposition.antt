@@ -15,7 +15,7 @@ use lib.Ieee.{Float, nan}
 use Rattle.matrix.specs.Matrix.{at, flat}
 use Rattle.matrix.specs.Transposed.{transposed, transposedIn, across, upTo, exchanged}
 use Rattle.matrix.proofs.Flat.{index-one, at-offset, flat-length, at-flat, flat-is}
-use Rattle.matrix.proofs.Same.{flat-same, flat-again, one-more}
+use Rattle.matrix.proofs.SameEntries.{flat-same, flat-again, one-more}
 
 -- ---- two values
 module _ (p q : ℕ) (l : List Float) where

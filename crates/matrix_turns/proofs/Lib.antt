@@ -1,5 +1,5 @@
-pub mod Two
-pub mod Lines
+pub mod LinePairs
+pub mod TurnedLines
 pub mod TurnedLists
-pub mod Same
-pub mod Still
+pub mod SameTurns
+pub mod StillTurns

@@ -15,8 +15,8 @@ use Rattle.rotation.specs.declared.Parameters.{Parameters}
 use Rattle.matrix.specs.Matrix.{at, flat}
 use Rattle.matrix_turns.specs.Turns.{turnedAt, onLines, rowTurnAll, columnTurnAll, turnLines}
 use Rattle.matrix.proofs.Flat.{index-one, at-offset, flat-is}
-use Rattle.matrix_turns.proofs.Two.{Two, two-are, on-lines}
-use Rattle.matrix_turns.proofs.Lines.{Grid, turned-length, lines-done}
+use Rattle.matrix_turns.proofs.LinePairs.{Two, two-are, on-lines}
+use Rattle.matrix_turns.proofs.TurnedLines.{Grid, turned-length, lines-done}
 
 -- ---- where the places of a line are
 abbrev inColumn : ℕ → ℕ → ℕ → ℕ

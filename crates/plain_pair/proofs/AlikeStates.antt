@@ -10,9 +10,9 @@ use Rattle.rotation.specs.declared.Parameters.{Parameters}
 use Rattle.matrix.specs.Matrix.{at}
 use Rattle.matrix.specs.Transposed.{transposed}
 use Rattle.matrix.proofs.Flat.{flat-length}
-use Rattle.matrix.proofs.Same.{Line, Same, flat-same, flat-again, read-again}
+use Rattle.matrix.proofs.SameEntries.{Line, Same, flat-same, flat-again, read-again}
 use Rattle.matrix_turns.specs.Turns.{parametersOf}
-use Rattle.matrix_turns.proofs.Same.{rows-same, columns-same, all-columns-same}
+use Rattle.matrix_turns.proofs.SameTurns.{rows-same, columns-same, all-columns-same}
 use Rattle.runs.specs.State.{State}
 use Rattle.runs.specs.Blocks.{matrixBlock}
 use Rattle.plain_pair.specs.Pair.{pairTurned, stateTurned, pairRotated, stateOf, Held}

@@ -9,7 +9,7 @@ use lib.ListN.{length}
 use lib.Ieee.{Float}
 use Rattle.rotation.specs.declared.Parameters.{Parameters}
 use Rattle.matrix_turns.specs.Turns.{twoLines}
-use Rattle.matrix_turns.proofs.Two.{are-two}
+use Rattle.matrix_turns.proofs.LinePairs.{are-two}
 use Rattle.plain_pair.specs.Pair.{stateTurned, stateOf, Held, hasPair, TwoLists, twoLists, pairOf}
 
 module _ (n p q first second : ℕ) where

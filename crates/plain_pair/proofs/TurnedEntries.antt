@@ -13,7 +13,7 @@ use Rattle.systolic.specs.Sequential.{pairBlock, place}
 use Rattle.rotation.specs.declared.Parameters.{Parameters}
 use Rattle.rotation.specs.Rotation.{diagonalOf, turnOf}
 use Rattle.matrix_turns.specs.Turns.{turnedAt, isOne, rowTurn, columnTurn, rowTurnAll, columnTurnAll}
-use Rattle.matrix_turns.proofs.Still.{same-either}
+use Rattle.matrix_turns.proofs.StillTurns.{same-either}
 use Rattle.runs.specs.Blocks.{matrixBlock}
 use Rattle.plain_pair.specs.Pair.{withEntry, pairTurned}
 

@@ -17,11 +17,11 @@ use Rattle.rotation.specs.Rotation.{diagonalOf}
 use Rattle.matrix.specs.Matrix.{at, flat, entryOf}
 use Rattle.matrix.specs.Transposed.{transposed}
 use Rattle.matrix.proofs.Flat.{flat-length}
-use Rattle.matrix.proofs.Same.{Same, flat-same, flat-again, one-more}
+use Rattle.matrix.proofs.SameEntries.{Same, flat-same, flat-again, one-more}
 use Rattle.matrix_turns.specs.Turns.{twoLines, onLines, rowTurn, columnTurn, rowTurnAll, columnTurnAll}
-use Rattle.matrix_turns.proofs.Two.{are-two, two-as, first-line, second-line, pair-entries, turned-flat}
-use Rattle.matrix_turns.proofs.Same.{all-columns-same}
-use Rattle.matrix_turns.proofs.Still.{still-rows, still-columns, still-all-columns}
+use Rattle.matrix_turns.proofs.LinePairs.{are-two, two-as, first-line, second-line, pair-entries, turned-flat}
+use Rattle.matrix_turns.proofs.SameTurns.{all-columns-same}
+use Rattle.matrix_turns.proofs.StillTurns.{still-rows, still-columns, still-all-columns}
 use Rattle.runs.specs.Blocks.{matrixBlock}
 use Rattle.plain_pair.proofs.TurnedEntries.{turned-whole, placed}
 use Rattle.plain_pair.specs.Pair.{withEntry, pairTurned, stateTurned, stateOf, Held}

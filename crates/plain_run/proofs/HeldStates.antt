@@ -13,7 +13,7 @@ use Rattle.ordering.specs.Pairs.{registersAt}
 use Rattle.ordering.proofs.RegisterLines.{pair-within}
 use Rattle.rotation.specs.declared.Parameters.{Parameters}
 use Rattle.matrix_turns.specs.Turns.{parametersOf, twoLines}
-use Rattle.matrix_turns.proofs.Two.{are-two, two-lines, first-line, second-line}
+use Rattle.matrix_turns.proofs.LinePairs.{are-two, two-lines, first-line, second-line}
 use Rattle.runs.specs.State.{State}
 use Rattle.plain_pair.specs.Pair.{stateTurned, pairRotated, stateOf, Held}
 use Rattle.plain_pair.proofs.AlikeStates.{Alike, turned-alike, pair-alike, held-alike, read-alike}

@@ -10,8 +10,8 @@ use lib.Ieee.{Float}
 use Rattle.rotation.specs.declared.Parameters.{Parameters}
 use Rattle.rotation.specs.Rotation.{turnOf}
 use Rattle.sizes.specs.Sizes.{isOrder, processorsOf}
-use Rattle.matrix.proofs.Same.{Line, Mirrored}
-use Rattle.matrix_turns.proofs.Two.{are-two, first-line, second-line}
+use Rattle.matrix.proofs.SameEntries.{Line, Mirrored}
+use Rattle.matrix_turns.proofs.LinePairs.{are-two, first-line, second-line}
 use Rattle.runs.specs.State.{State}
 use Rattle.plain_pair.specs.Pair.{pairTurned, pairRotated}
 use Rattle.plain_run.specs.State.{pairsRotated, after}

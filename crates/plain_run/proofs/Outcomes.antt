@@ -19,7 +19,7 @@ use Rattle.matrix.specs.Matrix.{at, flat}
 use Rattle.matrix.specs.Transposed.{transposedIn}
 use Rattle.matrix.proofs.Flat.{row-lt, column-lt, at-offset, flat-length, at-flat}
 use Rattle.matrix.proofs.Transposition.{transposed-again}
-use Rattle.matrix.proofs.Same.{Finite, Mirrored, read-again, flat-again}
+use Rattle.matrix.proofs.SameEntries.{Finite, Mirrored, read-again, flat-again}
 use Rattle.matrix.proofs.AcceptedEntries.{accepted-finite, accepted-mirrored}
 use Rattle.runs.specs.State.{State, identity, startOf}
 use Rattle.plain_pair.specs.Pair.{stateOf, Held}

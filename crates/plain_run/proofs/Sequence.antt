@@ -16,7 +16,7 @@ use Rattle.systolic.proofs.Steps.{end, pair-none, pair-row, pair-column, pair-c
 use Rattle.matrix_turns.specs.Turns.{parametersOf, columnTurnAll}
 use Rattle.rotation.specs.declared.Parameters.{Parameters}
 use Rattle.rotation.specs.Rotation.{sent, turnOf}
-use Rattle.rotation.proofs.Cases.{received-pair}
+use Rattle.rotation.proofs.ParameterCases.{received-pair}
 use Rattle.sizes.specs.Sizes.{isOrder, processorsOf, firstLine}
 use Rattle.sizes.proofs.Orders.{order-is, order-half}
 use Rattle.ordering.proofs.RegisterLines.{left-stands, right-stands, lines-differ}

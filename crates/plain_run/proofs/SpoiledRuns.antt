@@ -13,11 +13,11 @@ use Rattle.float64.specs.Values.{finite}
 use Rattle.lists.specs.Bounded.{any}
 use Rattle.lists.proofs.Bounded.{or-false, false-or, same-bool, any-to, any-from}
 use Rattle.rotation.specs.declared.Parameters.{Parameters}
-use Rattle.rotation.proofs.Kept.{turn-kept, pair-kept}
+use Rattle.rotation.proofs.FiniteOperands.{turn-kept, pair-kept}
 use Rattle.sizes.specs.Sizes.{isOrder, processorsOf}
-use Rattle.matrix.proofs.Same.{Line, Finite, Mirrored}
+use Rattle.matrix.proofs.SameEntries.{Line, Finite, Mirrored}
 use Rattle.matrix_turns.specs.Turns.{parametersOf, columnTurnAll}
-use Rattle.matrix_turns.proofs.Two.{are-two, first-line, second-line}
+use Rattle.matrix_turns.proofs.LinePairs.{are-two, first-line, second-line}
 use Rattle.runs.specs.State.{State}
 use Rattle.plain_pair.specs.Pair.{pairTurned, pairRotated}
 use Rattle.plain_run.specs.State.{pairsRotated, after, notFinite, spoiled}

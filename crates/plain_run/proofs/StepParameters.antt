@@ -17,10 +17,10 @@ use Rattle.ordering.proofs.RegisterLines.{stands, lines-apart}
 use Rattle.rotation.specs.declared.Parameters.{Parameters}
 use Rattle.rotation.specs.declared.Parameters.the-variants.{Still}
 use Rattle.rotation.specs.Rotation.{ofTangent, ofPair}
-use Rattle.rotation.proofs.Cases.{by-tangent}
+use Rattle.rotation.proofs.ParameterCases.{by-tangent}
 use Rattle.matrix.specs.Matrix.{entryOf}
-use Rattle.matrix_turns.specs.Turns.{pairTangent, parametersOf}
-use Rattle.matrix_turns.proofs.Two.{are-two, two-as, from-three, pair-parameters}
+use Rattle.matrix_turns.specs.Turns.{tangentAt, parametersOf}
+use Rattle.matrix_turns.proofs.LinePairs.{are-two, two-as, from-three, pair-parameters}
 use Rattle.runs.specs.State.{State}
 use Rattle.plain_pair.specs.Pair.{pairRotated, stateOf}
 use Rattle.plain_pair.proofs.TurnedEntries.{at-others}
@@ -68,7 +68,7 @@ module _ (n : ℕ) (ls rs : List ℕ) (N : ℕ) (paired : Paired n ls rs N) (apa
 
 pub step-found : (n : ℕ) → isOrder n ≡ true → (s : ℕ) (R : Registers) → R ≡ registersAt n s
     → (tangents : List Float) (found : List Parameters) (l e : List Float) → length l ≡ n * n
-    → ((k : ℕ) → k < processorsOf n → getD tangents k nan ≡ pairTangent (getD (R .left) k 0) (getD (R .right) k 0) (entryOf n l))
+    → ((k : ℕ) → k < processorsOf n → getD tangents k nan ≡ tangentAt (getD (R .left) k 0) (getD (R .right) k 0) (entryOf n l))
     → ((k : ℕ) → k < processorsOf n → getD found k Still ≡ ofTangent (getD tangents k nan)) → Found found (R .left) (R .right) (stateOf n l e) (processorsOf n)
 step-found n order s R r tangents found l e long f g =
     found-before n (R .left) (R .right) (processorsOf n) (rw r (registers-paired n order s)) (rw r (registers-apart n order s)) found l e long

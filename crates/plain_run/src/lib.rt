@@ -10,7 +10,7 @@ ghost use Rattle.sizes.specs.Sizes.{isOrder, largestOrder, processorsOf};
 ghost use Rattle.rotation.specs.declared.Parameters.the-variants.{Still};
 ghost use Rattle.rotation.specs.Rotation.{ofTangent};
 ghost use Rattle.matrix.specs.Matrix.{flat, entryOf};
-ghost use Rattle.matrix_turns.specs.Turns.{pairTangent, parametersOf, twoLines};
+ghost use Rattle.matrix_turns.specs.Turns.{tangentAt, parametersOf, twoLines};
 ghost use Rattle.plain_pair.specs.Pair.{stateOf, Held};
 ghost use Rattle.runs.specs.State.{identity, zeros};
 ghost use Rattle.plain_run.specs.State.{pairsRotated, after};
@@ -97,14 +97,14 @@ fn make_steps(n: usize, count: usize, a: &mut [f64], vectors: &mut [f64])
 fn tangents_of(n: usize, registers: Registers, a: &[f64]) -> [f64; MOST_PROCESSORS]
     requires { ⌜ n ≤ largestOrder ⌝ }
     ensures { λ r. ⌜ ((k : ℕ) → k < processorsOf n →
-        getD r k nan ≡ pairTangent (getD (registers .left) k 0) (getD (registers .right) k 0) (entryOf n (now (a .entry)))) ⌝ }
+        getD r k nan ≡ tangentAt (getD (registers .left) k 0) (getD (registers .right) k 0) (entryOf n (now (a .entry)))) ⌝ }
 {
     let lefts = registers.left;
     let rights = registers.right;
     let mut tangents = [0.0; MOST_PROCESSORS];
     let processors = sizes::processors_of(n);
     for k in 0..processors {
-        tangents[k] = matrix_turns::tangent(n, lefts[k], rights[k], a);
+        tangents[k] = matrix_turns::tangent_at(n, lefts[k], rights[k], a);
     }
     tangents
 }

@@ -3,6 +3,6 @@ pub mod Floors
 pub mod DigitLoop
 pub mod Remainders
 pub mod Scales
-pub mod Cases
-pub mod Rooted
-pub mod Correct
+pub mod RootCases
+pub mod RootUnits
+pub mod CorrectRounding

@@ -1,2 +1,2 @@
-pub mod Cases
-pub mod Kept
+pub mod ParameterCases
+pub mod FiniteOperands

@@ -31,8 +31,8 @@ cosineOf t = div binary64 one (rootOf (add binary64 one (mul binary64 t t)))
 unfoldable pub quotient : Float → Float → Float → Float
 quotient a d b = div binary64 (sub binary64 d a) (mul binary64 two b)
 
-unfoldable pub tangent : Float → Float → Float → Float
-tangent a d b = cond (isZero b) plusZero (tangentOf (quotient a d b))
+unfoldable pub tangentOfPair : Float → Float → Float → Float
+tangentOfPair a d b = cond (isZero b) plusZero (tangentOf (quotient a d b))
 
 abbrev pub angleOf : Float → Angle
 angleOf t = record { tangent = t; cosine = cosineOf t }
@@ -45,7 +45,7 @@ unfoldable pub ofTangent : Float → Parameters
 ofTangent t = ofAngle (angleOf t)
 
 unfoldable pub ofPair : Float → Float → Float → Parameters
-ofPair a d b = ofTangent (tangent a d b)
+ofPair a d b = ofTangent (tangentOfPair a d b)
 
 -- The tangent that a diagonal tile passes on: +0 when still.
 abbrev pub sent : Parameters → Float

@@ -1,6 +1,6 @@
 // One rotation of a pair of lines (document 01, "One rotation"; document 003, (5.1)).
 ghost use mathlib.Core.Path.{_≡_};
-ghost use Rattle.rotation.specs.Rotation.{rootOf, signum, tangentOf, cosineOf, angleOf, ofAngle, tangent, ofTangent, ofPair, sent, diagonalOf, turnOf};
+ghost use Rattle.rotation.specs.Rotation.{rootOf, signum, tangentOf, cosineOf, angleOf, ofAngle, tangentOfPair, ofTangent, ofPair, sent, diagonalOf, turnOf};
 use root::Root;
 
 // Still, or a turn with the tangent, the cosine and the sine of its angle.
@@ -30,7 +30,7 @@ pub fn of_pair(a: f64, d: f64, b: f64) -> Parameters
 
 // The tangent of a pair, +0 where b is zero.
 pub fn tangent_of_pair(a: f64, d: f64, b: f64) -> f64
-    ensures { λ r. ⌜ r ≡ tangent a d b ⌝ }
+    ensures { λ r. ⌜ r ≡ tangentOfPair a d b ⌝ }
 {
     if b == 0.0 {
         return 0.0;
@@ -38,7 +38,7 @@ pub fn tangent_of_pair(a: f64, d: f64, b: f64) -> f64
     let difference = d - a;
     let double = 2.0 * b;
     let quotient = difference / double;
-    tangent(quotient)
+    tangent_of(quotient)
 }
 
 // The parameters of a pair whose tangent is t.
@@ -110,7 +110,7 @@ pub fn turn(p: Parameters, x: f64, y: f64) -> Sides
     }
 }
 
-fn tangent(xi: f64) -> f64
+fn tangent_of(xi: f64) -> f64
     ensures { λ r. ⌜ r ≡ tangentOf xi ⌝ }
 {
     sign(xi) / (float64::magnitude(xi) + root_or_nan(1.0 + xi * xi))

@@ -17,7 +17,7 @@ use Rattle.lists.specs.Tabulate.{tabulate}
 use Rattle.lists.proofs.Tabulated.{length-tabulate, getD-tabulate, tabulated}
 use Rattle.sizes.proofs.Orders.{order-is}
 use Rattle.matrix.specs.Matrix.{at, flat}
-use Rattle.matrix.proofs.Same.{Line, Finite, Mirrored, flat-same, flat-again, read-again}
+use Rattle.matrix.proofs.SameEntries.{Line, Finite, Mirrored, flat-same, flat-again, read-again}
 use Rattle.refusal.proofs.FirstRefusal.{first-fine, refused-given, each-given, of-test}
 use Rattle.matrix.proofs.AcceptedEntries.{accepted-finite, accepted-mirrored, accepted-if}
 use Rattle.matrix.proofs.Flat.{flat-length}

@@ -8,7 +8,7 @@ use lib.ListN.{length, getD, drop, List·getD-append}
 use lib.Ieee.{Float, binary64, toBits}
 use Rattle.refusal.specs.Answers.{given}
 use Rattle.matrix.specs.Matrix.{at, flat}
-use Rattle.matrix.proofs.Same.{read-again}
+use Rattle.matrix.proofs.SameEntries.{read-again}
 use Rattle.sheet.specs.Format.{sheetLength, entriesFrom, entryNumber, byteOf, sheetOf, orderIn, codesIn, patternIn, entryIn}
 use Rattle.sheet.proofs.Triangle.{length-is, number-below, half-of}
 use Rattle.sheet_reader.specs.Reader.{contentOf, readOf}

@@ -19,9 +19,9 @@ use Rattle.ordering.proofs.RegisterLines.{pair-within}
 use Rattle.matrix.specs.Matrix.{at, entryOf}
 use Rattle.matrix.specs.Entries.{isSquare, entriesOf, finiteRow, mirrorRow}
 use Rattle.matrix_turns.specs.Turns.{parametersOf}
-use Rattle.matrix_turns.proofs.Two.{two-lines, pair-parameters}
+use Rattle.matrix_turns.proofs.LinePairs.{two-lines, pair-parameters}
 use Rattle.step_records.specs.declared.Record.{Record}
-use Rattle.step_records.proofs.Refused.{by-parts}
+use Rattle.step_records.proofs.RecordRefusals.{by-parts}
 use Rattle.step_records.specs.Records.{recordOf, recordAt, beforeRecords, rowOutcome, recordsOf}
 
 -- what is known where nothing is refused

@@ -1,4 +1,4 @@
-pub mod Refused
-pub mod Absent
-pub mod Rows
+pub mod RecordRefusals
+pub mod AbsentProcessor
+pub mod WrittenRows
 pub mod FoundRecords

@@ -11,7 +11,7 @@ use Rattle.tile_wires.specs.declared.Quad.{Quad}
 use Rattle.sizes.specs.Sizes.{isOrder, processorsOf}
 use Rattle.sizes.proofs.Orders.{order-twice}
 use Rattle.matrix.specs.Matrix.{at, entryOf}
-use Rattle.matrix.proofs.Within.{entry-in}
+use Rattle.matrix.proofs.EntryPlaces.{entry-in}
 use Rattle.runs.specs.State.{identity, startOf}
 use Rattle.tile.specs.declared.Tile.{Tile}
 use Rattle.tile_start.specs.Beginning.{zeroPart, startingTile, quadAt, partAt, startTile}

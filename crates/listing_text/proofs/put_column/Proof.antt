@@ -4,7 +4,7 @@ use mathlib.Core.Path.{_≡_, _∙_}
 use native.Mathlib.Omega.{arith}
 use lib.ListN.{length}
 use Rattle.matrix.specs.Matrix.{at}
-use Rattle.matrix.proofs.Within.{Place, entry-at, place-is}
+use Rattle.matrix.proofs.EntryPlaces.{Place, entry-at, place-is}
 use Rattle.text.specs.Text.{Put}
 use Rattle.listing_text.specs.Printed.{columnOf}
 use Rattle.listing_text.proofs.Pieces.{column-none, column-next}

@@ -1,6 +1,6 @@
 use mathlib.Core.Path.{_∙_}
 use native.Mathlib.Omega.{arith}
-use Rattle.matrix.proofs.Within.{entry-at, place-is}
+use Rattle.matrix.proofs.EntryPlaces.{entry-at, place-is}
 use Rattle.listing_text.proofs.Pieces.{text-line-put}
 use borrow.Author.Needs.{needs}
 use Rattle.listing_text.proofs.put_text_line.Statement.{statement}

@@ -11,7 +11,7 @@ use Rattle.matrix.specs.Entries.{notFiniteAt}
 use Rattle.refusal.specs.declared.Answer.the-variants.{Accepted}
 use Rattle.refusal.proofs.FirstRefusal.{first-none, first-more, first-found}
 use Rattle.matrix.proofs.EntryTests.{is-finite, is-not-finite}
-use Rattle.matrix.proofs.Within.{entry-in}
+use Rattle.matrix.proofs.EntryPlaces.{entry-in}
 use Rattle.matrix.proofs.first_not_finite.Statement.{statement}
 use Rattle.matrix.proofs.first_not_finite.Tie as tie
 

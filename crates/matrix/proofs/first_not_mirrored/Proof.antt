@@ -10,7 +10,7 @@ use Rattle.matrix.specs.Entries.{notMirroredAt}
 use Rattle.refusal.specs.declared.Answer.the-variants.{Accepted}
 use Rattle.refusal.proofs.FirstRefusal.{first-none, first-more, first-found}
 use Rattle.matrix.proofs.EntryTests.{same, is-mirrored, is-not-mirrored, not-compared}
-use Rattle.matrix.proofs.Within.{entry-in}
+use Rattle.matrix.proofs.EntryPlaces.{entry-in}
 use Rattle.matrix.proofs.first_not_mirrored.Statement.{statement}
 use Rattle.matrix.proofs.first_not_mirrored.Tie as tie
 

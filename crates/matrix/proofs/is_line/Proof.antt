@@ -1,5 +1,5 @@
 use native.Mathlib.Omega.{arith}
-use Rattle.matrix.proofs.Within.{line-zero, line-other}
+use Rattle.matrix.proofs.EntryPlaces.{line-zero, line-other}
 use Rattle.matrix.proofs.is_line.Statement.{statement}
 use Rattle.matrix.proofs.is_line.Tie as tie
 

@@ -1,6 +1,6 @@
 use mathlib.Core.Path.{sym, _∙_}
 use borrow.Author.Tests.{not-true, not-false}
-use Rattle.matrix.proofs.Within.{no-row, no-column, by-length}
+use Rattle.matrix.proofs.EntryPlaces.{no-row, no-column, by-length}
 use borrow.Author.Needs.{needs}
 use Rattle.matrix.proofs.is_place.Statement.{statement}
 use Rattle.matrix.proofs.is_place.Tie as tie

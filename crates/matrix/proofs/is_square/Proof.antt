@@ -1,6 +1,6 @@
 use native.Mathlib.Omega.{arith}
 use borrow.Author.Needs.{needs}
-use Rattle.matrix.proofs.Within.{too-large, square-fits}
+use Rattle.matrix.proofs.EntryPlaces.{too-large, square-fits}
 use Rattle.matrix.proofs.is_square.Statement.{statement}
 use Rattle.matrix.proofs.is_square.Tie as tie
 

@@ -1,6 +1,6 @@
 use mathlib.Core.Path.{_∙_}
 use native.Mathlib.Omega.{arith}
-use Rattle.matrix_turns.proofs.Two.{one-line, by-place}
+use Rattle.matrix_turns.proofs.LinePairs.{one-line, by-place}
 use borrow.Author.Needs.{needs}
 use Rattle.matrix_turns.proofs.are_lines.Statement.{statement}
 use Rattle.matrix_turns.proofs.are_lines.Tie as tie

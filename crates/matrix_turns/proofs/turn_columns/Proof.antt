@@ -3,7 +3,7 @@ use native.Mathlib.Omega.{arith}
 use borrow.Author.Needs.{needs}
 use borrow.Author.Tests.{not-true, not-false}
 use lib.ListN.{length}
-use Rattle.matrix_turns.proofs.Two.{Two, are-two, left-alone}
+use Rattle.matrix_turns.proofs.LinePairs.{Two, are-two, left-alone}
 use Rattle.matrix_turns.proofs.TurnedLists.{in-rows, columns-turned}
 use Rattle.matrix_turns.proofs.turn_columns.Statement.{statement}
 use Rattle.matrix_turns.proofs.turn_columns.Tie as tie

@@ -4,7 +4,7 @@ use native.Mathlib.Omega.{arith}
 use native.Mathlib.Nat.{le-antisymm}
 use lib.ListN.{length}
 use Rattle.matrix_turns.specs.Turns.{turnLines}
-use Rattle.matrix_turns.proofs.Lines.{no-lines, next-line, turned-length}
+use Rattle.matrix_turns.proofs.TurnedLines.{no-lines, next-line, turned-length}
 use Rattle.matrix_turns.proofs.turn_lines.Statement.{statement}
 use Rattle.matrix_turns.proofs.turn_lines.Tie as tie
 
@@ -15,27 +15,31 @@ Inv-loop parameters n step i j a₀ r₀ a r = (r ≤ n) × (a ≡ turnLines (λ
 abbrev μ-loop : tie.MeasureT-loop
 μ-loop parameters n step i j a₀ r₀ a r = n - r
 
+-- the start, from a turn of the loop
+abbrev start-of : tie.In-loop Inv-loop μ-loop → tie.Start Inv-loop μ-loop
+start-of c = c .before .before .before
+
 loop-holds : tie.Need-loop-holds Inv-loop μ-loop
 loop-holds c = (omega arith, no-lines _ _ _ _)
 
 mul-turn-places : tie.Need-mul-turn-places Inv-loop μ-loop
-mul-turn-places c = let b = c .before .before .before .pre (c .before .loop .r) (omega arith) in omega arith
+mul-turn-places c = let b = start-of c .pre (c .before .loop .r) (omega arith) in omega arith
 
 add-turn-places : tie.Need-add-turn-places Inv-loop μ-loop
-add-turn-places c = let b = c .before .before .before .pre (c .before .loop .r) (omega arith) in omega arith
+add-turn-places c = let b = start-of c .pre (c .before .loop .r) (omega arith) in omega arith
 
 mul-turn-places-2 : tie.Need-mul-turn-places-2 Inv-loop μ-loop
-mul-turn-places-2 c = let b = c .before .before .before .pre (c .before .loop .r) (omega arith) in omega arith
+mul-turn-places-2 c = let b = start-of c .pre (c .before .loop .r) (omega arith) in omega arith
 
 add-turn-places-2 : tie.Need-add-turn-places-2 Inv-loop μ-loop
-add-turn-places-2 c = let b = c .before .before .before .pre (c .before .loop .r) (omega arith) in omega arith
+add-turn-places-2 c = let b = start-of c .pre (c .before .loop .r) (omega arith) in omega arith
 
 turn-places-requires : tie.Need-turn-places-requires Inv-loop μ-loop
 turn-places-requires c κs =
-    let k = c .before .before in
-    let s = k .before .before in
-    let b = s .pre (k .loop .r) (omega arith) in
-    let e : length (k .loop .a) ≡ length (s .args .a .now) = ap length (k .loop .inv .1) ∙ turned-length _ _ _ _ _ in
+    let at-loop = c .before .before in
+    let start = at-loop .before .before in
+    let b = start .pre (at-loop .loop .r) (omega arith) in
+    let e : length (at-loop .loop .a) ≡ length (start .args .a .now) = ap length (at-loop .loop .inv .1) ∙ turned-length _ _ _ _ _ in
     omega arith
 
 add-r : tie.Need-add-r Inv-loop μ-loop
@@ -46,8 +50,8 @@ loop-less c = omega arith
 
 loop-again : tie.Need-loop-again Inv-loop μ-loop
 loop-again c =
-    let k = c .before .before .before .before .before in
-    (omega arith, next-line _ _ _ _ _ (k .loop .inv .1) (c .before .before .turn-places .ensures))
+    let at-loop = c .before .before .before .before .before in
+    (omega arith, next-line _ _ _ _ _ (at-loop .loop .inv .1) (c .before .before .turn-places .ensures))
 
 same-length : tie.Need-same-length Inv-loop μ-loop
 same-length c = ap length (c .before .loop .inv .1) ∙ turned-length _ _ _ _ _

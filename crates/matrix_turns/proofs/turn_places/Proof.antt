@@ -1,4 +1,4 @@
-use Rattle.matrix_turns.proofs.Lines.{places-are}
+use Rattle.matrix_turns.proofs.TurnedLines.{places-are}
 use borrow.Author.Needs.{needs}
 use Rattle.matrix_turns.proofs.turn_places.Statement.{statement}
 use Rattle.matrix_turns.proofs.turn_places.Tie as tie

@@ -24,10 +24,10 @@ same-length c = search needs
 
 returns : tie.Need-returns
 returns c =
-    let s = c .before .before in
-    let k = s .before .before in
-    let start = k .before .before .before .before in
-    still-held _ _ _ (start .args .a .now) _ _ (start .pre .0) (start .pre .1) (sym (k .enum-told .given .1)) (s .clear-pair .ensures)
+    let cleared = c .before .before in
+    let told = cleared .before .before in
+    let start = told .before .before .before .before in
+    still-held _ _ _ (start .args .a .now) _ _ (start .pre .0) (start .pre .1) (sym (told .enum-told .given .1)) (cleared .clear-pair .ensures)
 
 same-length-2 : tie.Need-same-length-2
 same-length-2 c = search needs
@@ -37,12 +37,12 @@ same-length-3 c = search needs
 
 returns-2 : tie.Need-returns-2
 returns-2 c =
-    let s = c .before .before in
-    let m = s .before .before .before .before in
-    let k = m .before .before .before in
-    let start = k .before .before .before .before in
+    let vectors-turned = c .before .before in
+    let matrix-turned = vectors-turned .before .before .before .before in
+    let told = matrix-turned .before .before .before in
+    let start = told .before .before .before .before in
     turn-held _ _ _ _ (start .args .a .now) _ (start .args .vectors .now) _ (start .pre .0) (start .pre .1)
-    (sym (k .parameters .given .1)) (m .turn-matrix .ensures) (s .turn-rows .ensures)
+    (sym (told .parameters .given .1)) (matrix-turned .turn-matrix .ensures) (vectors-turned .turn-rows .ensures)
 
 pub make-pair-spec : {M : Type 1} → statement M
 make-pair-spec =

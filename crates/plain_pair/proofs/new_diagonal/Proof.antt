@@ -2,7 +2,7 @@ use mathlib.Core.Path.{_∙_}
 use borrow.Author.Needs.{needs}
 use Rattle.rotation.specs.declared.Parameters.the-variants.{Turn}
 use Rattle.rotation.specs.Rotation.{diagonalOf}
-use Rattle.matrix_turns.proofs.Two.{from-three}
+use Rattle.matrix_turns.proofs.LinePairs.{from-three}
 use Rattle.plain_pair.proofs.new_diagonal.Statement.{statement}
 use Rattle.plain_pair.proofs.new_diagonal.Tie as tie
 
@@ -20,10 +20,11 @@ diagonal-requires c κs = search needs
 
 returns : tie.Need-returns
 returns c =
-    let s = c .before in
-    let a = s .before .before .before .before .args in
+    let read = c .before in
+    let start = read .before .before .before .before in
+    let a = start .args in
     c .diagonal .ensures
-    ∙ from-three (diagonalOf (Turn (a .t) (a .c) (a .s))) (s .before .before .entry .ensures) (s .before .entry2 .ensures) (s .entry3 .ensures)
+    ∙ from-three (diagonalOf (Turn (a .t) (a .c) (a .s))) (read .before .before .entry .ensures) (read .before .entry2 .ensures) (read .entry3 .ensures)
 
 pub new-diagonal-spec : {M : Type 1} → statement M
 new-diagonal-spec =

@@ -13,8 +13,8 @@ returns c = nothing-done _ _ _ _ _ _ (sym (c .before .has-pair .ensures) ∙ not
 
 make-pair-requires : tie.Need-make-pair-requires
 make-pair-requires c κs =
-    let t = c .before .before in
-    pair-there _ _ _ _ _ (sym (t .before .has-pair .ensures) ∙ not-false _ (t .if1 .left))
+    let tested = c .before .before in
+    pair-there _ _ _ _ _ (sym (tested .before .has-pair .ensures) ∙ not-false _ (tested .if1 .left))
 
 same-length : tie.Need-same-length
 same-length c = search needs
@@ -24,9 +24,9 @@ same-length-2 c = search needs
 
 returns-2 : tie.Need-returns-2
 returns-2 c =
-    let s = c .before .before .before .before in
-    let t = s .before .before .before in
-    pair-done _ _ _ _ _ _ (sym (t .before .has-pair .ensures) ∙ not-false _ (t .if1 .left)) (s .make-pair .ensures)
+    let made = c .before .before .before .before in
+    let tested = made .before .before .before in
+    pair-done _ _ _ _ _ _ (sym (tested .before .has-pair .ensures) ∙ not-false _ (tested .if1 .left)) (made .make-pair .ensures)
 
 pub turn-spec : {M : Type 1} → statement M
 turn-spec =

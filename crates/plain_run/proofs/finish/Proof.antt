@@ -18,9 +18,9 @@ same-length-2 c = search needs
 
 returns : tie.Need-returns
 returns c =
-    let s = c .before .before .before .before in
-    let t = s .before .before .before in
-    spoils _ _ _ (of-not _ (t .before .both-finite .ensures) .0 (not-true _ (t .if1 .taken))) (s .spoil .ensures)
+    let spoiled = c .before .before .before .before in
+    let tested = spoiled .before .before .before in
+    spoils _ _ _ (of-not _ (tested .before .both-finite .ensures) .0 (not-true _ (tested .if1 .taken))) (spoiled .spoil .ensures)
 
 same-length-3 : tie.Need-same-length-3
 same-length-3 c = search needs

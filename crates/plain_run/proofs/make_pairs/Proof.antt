@@ -3,7 +3,7 @@ use mathlib.Core.Path.{refl}
 use native.Mathlib.Nat.{le-antisymm}
 use native.Mathlib.Omega.{arith}
 use borrow.Author.Needs.{needs}
-use Rattle.matrix_turns.proofs.Two.{two-as}
+use Rattle.matrix_turns.proofs.LinePairs.{two-as}
 use Rattle.plain_pair.specs.Pair.{stateOf, Held}
 use Rattle.plain_pair.proofs.AlikeStates.{held-itself, held-long}
 use Rattle.plain_pair.proofs.PairLines.{pair-held}

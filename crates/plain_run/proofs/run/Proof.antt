@@ -13,8 +13,8 @@ enum-told c = search needs
 
 run-accepted-requires : tie.Need-run-accepted-requires
 run-accepted-requires c κs =
-    let k = c .before .before in
-    sym (ap answered (sym (k .enum-told .given .1)) ∙ k .before .before .verdict .ensures)
+    let told = c .before .before in
+    sym (ap answered (sym (told .enum-told .given .1)) ∙ told .before .before .verdict .ensures)
 
 enum-known-refused : tie.Need-enum-known-refused
 enum-known-refused c = search needs
@@ -27,14 +27,14 @@ same-length-2 c = search needs
 
 returns : tie.Need-returns
 returns c =
-    let s = c .before .before .before .before in
-    let k = s .before .before .before in
-    run-accepted-as _ _ _ _ _ (ap answered (sym (k .enum-told .given .1)) ∙ k .before .before .verdict .ensures) (s .run-accepted .ensures)
+    let made = c .before .before .before .before in
+    let told = made .before .before .before in
+    run-accepted-as _ _ _ _ _ (ap answered (sym (told .enum-told .given .1)) ∙ told .before .before .verdict .ensures) (made .run-accepted .ensures)
 
 returns-2 : tie.Need-returns-2
 returns-2 c =
-    let k = c .before in
-    run-refused _ _ _ _ _ (ap answered (sym (k .refused .given .1)) ∙ k .before .before .verdict .ensures)
+    let told = c .before in
+    run-refused _ _ _ _ _ (ap answered (sym (told .refused .given .1)) ∙ told .before .before .verdict .ensures)
 
 pub run-spec : {M : Type 1} → statement M
 run-spec =

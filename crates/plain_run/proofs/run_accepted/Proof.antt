@@ -14,9 +14,9 @@ use Rattle.plain_run.proofs.run_accepted.Tie as tie
 begun : (s : tie.Start) → Begins (s .args .n) (s .args .sweeps) (s .args .matrix .now) (length (s .args .result .now)) (length (s .args .vectors .now))
 begun s = begins _ _ _ _ _ (s .pre)
 
--- the start of the run, from the place where its steps are counted
-abbrev start-of : tie.After-slice-known4 → tie.Start
-start-of c = c .before .before .before .before .before .before .before .before .before .before .before
+-- the start of the run, from the place where the eigenvectors are begun
+abbrev start-of : tie.After-set-identity-arg → tie.Start
+start-of c = c .before .before .before .before .before .before .before .before
 
 copy-requires : tie.Need-copy-requires
 copy-requires c κs =
@@ -26,16 +26,18 @@ copy-requires c κs =
 
 set-identity-requires : tie.Need-set-identity-requires
 set-identity-requires c κs =
-    let b = begun (c .before .before .before .before .before .before .before .before) in
+    let b = begun (start-of c) in
     let o = order-is _ (b .order) in
     (omega arith, omega (arith, b .vectors-long))
 
 steps-of-requires : tie.Need-steps-of-requires
-steps-of-requires c κs = let b = begun (start-of c) in (b .order, b .few)
+steps-of-requires c κs = let b = begun (start-of (c .before .before .before)) in (b .order, b .few)
 
 make-steps-requires : tie.Need-make-steps-requires
 make-steps-requires c κs =
-    let b = begun (start-of (c .before .before .before)) in
+    let counted = c .before .before in
+    let at-identity = counted .before .before .before in
+    let b = begun (start-of (at-identity .before)) in
     (b .order, omega (arith, b .result-long), omega (arith, b .vectors-long))
 
 transpose-requires : tie.Need-transpose-requires
@@ -43,7 +45,9 @@ transpose-requires c κs = search needs
 
 finish-requires : tie.Need-finish-requires
 finish-requires c κs =
-    let h = held-long _ _ _ _ (c .before .before .before .before .before .before .before .before .before .before .make-steps .ensures) in
+    let at-columns = c .before .before .before .before in
+    let at-steps = at-columns .before .before .before .before .before .before in
+    let h = held-long _ _ _ _ (at-steps .make-steps .ensures) in
     (h .0, omega (arith, h .1))
 
 same-length : tie.Need-same-length

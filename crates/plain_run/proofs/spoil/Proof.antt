@@ -17,9 +17,10 @@ same-length-2 c = search needs
 
 returns : tie.Need-returns
 returns c =
-    let s = c .before .before in
-    let p = s .before .before .before .before .before .before .before .before .pre in
-    spoiled-outcome _ (cleared _ (p .0) (s .before .before .before .before .clear .ensures)) (cleared _ (p .1) (s .clear2 .ensures))
+    let second-cleared = c .before .before in
+    let first-cleared = second-cleared .before .before .before .before in
+    let start = first-cleared .before .before .before .before in
+    spoiled-outcome _ (cleared _ (start .pre .0) (first-cleared .clear .ensures)) (cleared _ (start .pre .1) (second-cleared .clear2 .ensures))
 
 pub spoil-spec : {M : Type 1} → statement M
 spoil-spec = tie.close (tie.spec clear-requires clear-requires-2 same-length same-length-2 returns)

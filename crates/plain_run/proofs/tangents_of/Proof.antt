@@ -7,14 +7,14 @@ use lib.ListN.{getD}
 use Rattle.lists.proofs.Filled.{Filled, filled-none, filled-next}
 use Rattle.sizes.specs.Sizes.{mostProcessors}
 use Rattle.matrix.specs.Matrix.{entryOf}
-use Rattle.matrix_turns.specs.Turns.{pairTangent}
+use Rattle.matrix_turns.specs.Turns.{tangentAt}
 use Rattle.plain_run.proofs.tangents_of.Statement.{statement}
 use Rattle.plain_run.proofs.tangents_of.Tie as tie
 
 -- The tangents of the processors below k are found. What falls is processors - k.
 abbrev Inv-loop : tie.InvT-loop
 Inv-loop n a lefts rights tangents₀ processors k₀ tangents k =
-    (k ≤ processors) × Filled nan (λ i. pairTangent (getD lefts i 0) (getD rights i 0) (entryOf n a)) mostProcessors k tangents
+    (k ≤ processors) × Filled nan (λ i. tangentAt (getD lefts i 0) (getD rights i 0) (entryOf n a)) mostProcessors k tangents
 
 abbrev μ-loop : tie.MeasureT-loop
 μ-loop n a lefts rights tangents₀ processors k₀ tangents k = processors - k
@@ -25,20 +25,20 @@ processors-of-requires c κs = search needs
 loop-holds : tie.Need-loop-holds Inv-loop μ-loop
 loop-holds c = (omega arith, filled-none _ refl)
 
-mul-tangent : tie.Need-mul-tangent Inv-loop μ-loop
-mul-tangent c = omega arith
+mul-tangent-at : tie.Need-mul-tangent-at Inv-loop μ-loop
+mul-tangent-at c = omega arith
 
-array-read-tangent : tie.Need-array-read-tangent Inv-loop μ-loop
-array-read-tangent c = omega arith
+array-read-tangent-at : tie.Need-array-read-tangent-at Inv-loop μ-loop
+array-read-tangent-at c = omega arith
 
-mul-tangent-2 : tie.Need-mul-tangent-2 Inv-loop μ-loop
-mul-tangent-2 c = omega arith
+mul-tangent-at-2 : tie.Need-mul-tangent-at-2 Inv-loop μ-loop
+mul-tangent-at-2 c = omega arith
 
-array-read-tangent-2 : tie.Need-array-read-tangent-2 Inv-loop μ-loop
-array-read-tangent-2 c = omega arith
+array-read-tangent-at-2 : tie.Need-array-read-tangent-at-2 Inv-loop μ-loop
+array-read-tangent-at-2 c = omega arith
 
-tangent-requires : tie.Need-tangent-requires Inv-loop μ-loop
-tangent-requires c κs = search needs
+tangent-at-requires : tie.Need-tangent-at-requires Inv-loop μ-loop
+tangent-at-requires c κs = search needs
 
 mul-tangents : tie.Need-mul-tangents Inv-loop μ-loop
 mul-tangents c = omega arith
@@ -55,7 +55,7 @@ loop-less c = omega arith
 loop-again : tie.Need-loop-again Inv-loop μ-loop
 loop-again c =
     let at-loop = c .before .before .loop in
-    (omega arith, filled-next _ _ _ (at-loop .inv .1) (omega arith) (c .tangent .ensures))
+    (omega arith, filled-next _ _ _ (at-loop .inv .1) (omega arith) (c .tangent-at .ensures))
 
 returns : tie.Need-returns Inv-loop μ-loop
 returns c i h = c .before .loop .inv .1 .filled i (omega arith)
@@ -68,11 +68,11 @@ tangents-of-spec =
     μ-loop
     processors-of-requires
     loop-holds
-    mul-tangent
-    array-read-tangent
-    mul-tangent-2
-    array-read-tangent-2
-    tangent-requires
+    mul-tangent-at
+    array-read-tangent-at
+    mul-tangent-at-2
+    array-read-tangent-at-2
+    tangent-at-requires
     mul-tangents
     array-write-tangents
     add-k

@@ -5,9 +5,9 @@ use lib.Ieee.Bits.{ofBits-toBits}
 use Rattle.refusal.specs.Answers.{given}
 use Rattle.float64.specs.Units.{unitsOf}
 use Rattle.float64.proofs.Zeros.{above-zero, equal-zero}
-use Rattle.float64.proofs.Above.{above-no-nan, above-pattern, finite-pattern, infinite-pattern}
+use Rattle.float64.proofs.PositiveValues.{above-no-nan, above-pattern, finite-pattern, infinite-pattern}
 use Rattle.root.specs.Sqrt.{rootUnits}
-use Rattle.root.proofs.Cases.{sqrt-positive, sqrt-infinite, sqrt-zero, sqrt-refused}
+use Rattle.root.proofs.RootCases.{sqrt-positive, sqrt-infinite, sqrt-zero, sqrt-refused}
 use Rattle.root.proofs.sqrt.Statement.{statement}
 use Rattle.root.proofs.sqrt.Tie as tie
 

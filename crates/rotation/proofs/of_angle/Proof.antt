@@ -1,4 +1,4 @@
-use Rattle.rotation.proofs.Cases.{still-at, turn-at}
+use Rattle.rotation.proofs.ParameterCases.{still-at, turn-at}
 use Rattle.rotation.proofs.of_angle.Statement.{statement}
 use Rattle.rotation.proofs.of_angle.Tie as tie
 

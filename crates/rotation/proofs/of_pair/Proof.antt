@@ -1,6 +1,6 @@
 use mathlib.Core.Path.{_∙_}
 use borrow.Author.Needs.{needs}
-use Rattle.rotation.proofs.Cases.{by-tangent}
+use Rattle.rotation.proofs.ParameterCases.{by-tangent}
 use Rattle.rotation.proofs.of_pair.Statement.{statement}
 use Rattle.rotation.proofs.of_pair.Tie as tie
 

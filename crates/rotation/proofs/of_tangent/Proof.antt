@@ -1,7 +1,7 @@
 use mathlib.Core.Path.{ap, _∙_}
 use borrow.Author.Needs.{needs}
 use Rattle.rotation.specs.Rotation.{angleOf, ofAngle, ofTangent}
-use Rattle.rotation.proofs.Cases.{still-at}
+use Rattle.rotation.proofs.ParameterCases.{still-at}
 use Rattle.rotation.proofs.of_tangent.Statement.{statement}
 use Rattle.rotation.proofs.of_tangent.Tie as tie
 

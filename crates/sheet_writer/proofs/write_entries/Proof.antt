@@ -5,7 +5,7 @@ use mathlib.Core.List.{List}
 use native.Mathlib.Omega.{arith}
 use lib.ListN.{length}
 use Rattle.matrix.specs.Matrix.{at}
-use Rattle.matrix.proofs.Within.{entry-in}
+use Rattle.matrix.proofs.EntryPlaces.{entry-in}
 use Rattle.sheet.specs.Format.{sheetLength, entriesFrom, entriesTo}
 use Rattle.sheet.proofs.Triangle.{length-is, rows-below, few-entries}
 use Rattle.sheet_writer.specs.Steps.{withEntries}

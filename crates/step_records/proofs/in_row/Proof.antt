@@ -1,4 +1,4 @@
--- `records::in_row` meets its contract: a walk of its MIR by hand. The array is lent to `of_step` for the time of the call and then put into the result.
+-- `step_records::in_row` meets its contract: a walk of its MIR by hand. The array is lent to `of_step` for the time of the call and then put into the result.
 -- Assumes nothing.
 use mathlib.Core.Path.{_≡_, refl, sym, _∙_, subst}
 use Prim.Native.Nat.{ℕ, _<_, _^_}
@@ -18,15 +18,18 @@ use prog.Wp.{Heap, Env, Calls, Loops, Wp, atReturn, WpFn, Tables}
 use ghost.Atoms.{Atoms, sem}
 use contract.Monad.{Fun, fact}
 use contract.Running.{givenOf, tables, tablesOf}
-use types.Kit.{Given, Item, ‵, raw, _⊛_, given, some, later, ⋆, mean, atRet, _$_, _∵_, !, qed, by, move, keep, drop, use1, use3, split, join, learn, pick, rewrite, check, fsplit, fjoin, fpick, fpack, feqL, feqI, suffices, frame, await, done}
-use types.Run.{look, init, forget, stop, from, load, lit, addr, of-opd, and-then, no-more, assigns, land, returns, enter, alloc1, alloc0, params1, pass1, pass0, free1, free0, exec}
+use types.Kit.{Given, Item, ‵, raw, _⊛_, given, some, later, ⋆, mean, atRet, _$_, _∵_, !, qed, by}
+use types.Kit.{move, keep, drop, use1, use3, split, join, learn, pick, rewrite, check, suffices, frame, await, done}
+use types.Kit.{fsplit, fjoin, fpick, fpack, feqL, feqI}
+use types.Run.{look, init, forget, stop, from, load, lit, addr, of-opd, and-then, no-more, assigns, land, returns, exec}
+use types.Run.{enter, alloc1, alloc0, params1, pass1, pass0, free1, free0}
 use types.Part.{agg}
 use types.SemTy.{cells, Arr}
 use types.Share.{arr-parts}
 use types.Tokens.{lft-new, lft-end}
 use sound.WpLaws.{FmC, fmOf, WpFn-mono}
 use denote.RattleType.{RattleType, owns}
-use denote.Laws.{Is, shows}
+use denote.Laws.{Is, Makes, shows}
 use denote.Plain.{uint-makes, uint-vals, uint-tells}
 use denote.Builtin.{usize, f64}
 use denote.Memory.{pointee, mem, partAt, partOf, cellAt, shares}
@@ -58,6 +61,7 @@ use Rattle.refusal.proofs.Answer.Laws as Ans′
 use Rattle.sizes.specs.Sizes.{mostProcessors}
 use Rattle.step_records.specs.Records.{recordsOf, rowOutcome}
 use Rattle.step_records.specs.declared.Record.{Record}
+use Rattle.step_records.specs.declared.Recorded.{Recorded}
 use Rattle.step_records.proofs.Record as Rec
 use Rattle.step_records.proofs.Record.Laws as Rec′
 use Rattle.step_records.proofs.Recorded as Res
@@ -109,30 +113,40 @@ tells : (zs : List Record) (vs : List Val) → Is Row zs vs → vs ≡ spelled z
 tells = array-tells Rec.the-row (StructLaws.vals Rec.the-type Rec′.the-laws) (StructLaws.tells Rec.the-type Rec′.the-laws) mostProcessors
 
 -- an answer and a row are the struct of both
+abbrev recorded : Answer → List Record → Recorded
+recorded r zs = record { answer = r; row = zs }
+
 abbrev both : Val → Val → Val
 both u z = vstruct (ofList (u ∷ z ∷ []))
 
-is-both : (r : Answer) (zs : List Record) (u z : Val) → Is Ans.the-row r (u ∷ []) → Is Row zs (z ∷ []) → Is Res.the-row (record { answer = r; row = zs }) (both u z ∷ [])
+is-both : (r : Answer) (zs : List Record) (u z : Val) → Is Ans.the-row r (u ∷ []) → Is Row zs (z ∷ []) → Is Res.the-row (recorded r zs) (both u z ∷ [])
 is-both r zs u z is-u is-z =
-    ((u ∷ [], (z ∷ [], tt)), (refl, (is-u, (is-same (Struct (shape Rec.the-type)) Record (Rec.the-type .to) (Rec.the-type .to-one) mostProcessors zs (z ∷ []) is-z, tt))))
+    let is-row = is-same (Struct (shape Rec.the-type)) Record (Rec.the-type .to) (Rec.the-type .to-one) mostProcessors zs (z ∷ []) is-z in
+    ((u ∷ [], (z ∷ [], tt)), (refl, (is-u, (is-row, tt))))
 
 module _ {M : Type 1} (𝓤 : URA M) (H : Heap 𝓤) (A : Atoms 𝓤) (W : Given 𝓤 H A) where
+  makes-row : Makes 𝓤 H A Row (Is Row)
+  makes-row = array-makes 𝓤 H A W Rec.the-row (StructLaws.makes Rec.the-type Rec′.the-plain 𝓤 H A) mostProcessors
+
   -- a local array as its elements side by side, and back
-  spreads : (l : ℕ) (xs : List Record) (z : Val) → Is Row xs (z ∷ []) → ent 𝓤 (⋆ 𝓤 H A (‵ (fat fullShare arrayTy l 0 z) ∷ [])) (sem 𝓤 H A (cells (mem Rec.the-row) xs l 0))
+  spreads : (l : ℕ) (xs : List Record) (z : Val) → Is Row xs (z ∷ [])
+      → ent 𝓤 (⋆ 𝓤 H A (‵ (fat fullShare arrayTy l 0 z) ∷ [])) (sem 𝓤 H A (cells (mem Rec.the-row) xs l 0))
   unfolding partOf
   spreads l xs z is =
       qed W (‵ (fat fullShare arrayTy l 0 z) ∷ []) ∵ use1 W (‵ (cellAt fullShare (Row .mir) (z ∷ []) l 0)) (W .laws .at-raw fullShare arrayTy l 0 z) $
-      owned ! Row (Is Row) (array-makes 𝓤 H A W Rec.the-row (StructLaws.makes Rec.the-type Rec′.the-plain 𝓤 H A) mostProcessors) xs (z ∷ []) is $ move ! (1 ∷ 0 ∷ []) $ fjoin ! $
+      owned ! Row (Is Row) makes-row xs (z ∷ []) is $ move ! (1 ∷ 0 ∷ []) $ fjoin ! $
       fpack ! (List Val) (λ us. fsep (cellAt fullShare (Row .mir) us l 0) (Row .own xs us)) (z ∷ []) $
-      use1 W (‵ (arr-parts (shares Rec.the-row) mostProcessors .part fullShare xs l 0)) (array-apart 𝓤 H A W Rec.the-row fullShare tt mostProcessors xs l 0) $ fsplit ! $ drop ! $
-      use1 W (‵ (cells (mem Rec.the-row) xs l 0)) (whole-in 𝓤 H A W Rec.the-row xs l 0) $ done !
+      use1 W (‵ (arr-parts (shares Rec.the-row) mostProcessors .part fullShare xs l 0)) (array-apart 𝓤 H A W Rec.the-row fullShare tt mostProcessors xs l 0) $
+      fsplit ! $ drop ! $ use1 W (‵ (cells (mem Rec.the-row) xs l 0)) (whole-in 𝓤 H A W Rec.the-row xs l 0) $ done !
 
   gathers : (l : ℕ) (zs : List Record) (m : ℕ) → m ≡ mostProcessors
       → ent 𝓤 (⋆ 𝓤 H A (‵ (Arr (mem Rec.the-row) m .lies zs l 0) ∷ [])) (mean 𝓤 H A (given (Is Row zs (val zs ∷ [])) (‵ (fat fullShare arrayTy l 0 (val zs)))))
   unfolding partOf
   gathers l zs m long =
-      qed W (‵ (Arr (mem Rec.the-row) m .lies zs l 0) ∷ []) ∵ fsplit ! $ feqL ! (λ e. use1 W (‵ (row Rec.the-row fullShare zs l 0)) (whole-out 𝓤 H A W Rec.the-row zs l 0) $
-      feqI ! ℕ (length zs) mostProcessors (e ∙ long) $ fjoin ! $ use1 W (‵ (partAt Row fullShare zs l 0)) (array-whole 𝓤 H A W Rec.the-row fullShare mostProcessors zs l 0) $
+      qed W (‵ (Arr (mem Rec.the-row) m .lies zs l 0) ∷ []) ∵ fsplit ! $ feqL ! (λ e.
+      use1 W (‵ (row Rec.the-row fullShare zs l 0)) (whole-out 𝓤 H A W Rec.the-row zs l 0) $
+      feqI ! ℕ (length zs) mostProcessors (e ∙ long) $ fjoin ! $
+      use1 W (‵ (partAt Row fullShare zs l 0)) (array-whole 𝓤 H A W Rec.the-row fullShare mostProcessors zs l 0) $
       fpick ! (λ vs. fsplit ! $ move ! (1 ∷ []) $ facts ! Row (Is Row) (shows 𝓤 H A Row) zs vs (λ p.
       rewrite ! 0 (λ (us : List Val). ‵ (cellAt fullShare (Row .mir) us l 0)) (tells zs vs p) refl $
       use1 W (‵ (fat fullShare arrayTy l 0 (val zs))) (W .laws .raw-at fullShare arrayTy l 0 (val zs)) $
@@ -197,17 +211,17 @@ module _ {M : Type 1} (𝓤 : URA M) (H : Heap 𝓤) (A : Atoms 𝓤) (W : Given
         -- [what is passed; the tokens]
         move ! (1 ∷ []) $ split ! $ move ! (1 ∷ []) $ split ! $ move ! (2 ∷ 1 ∷ []) $ join ! $ move ! (1 ∷ 0 ∷ []) $ join ! $ join ! $ frame ! $ done !
 
-  exits : (r : Answer) (zs : List Record) (u : Val) → Is Res.the-row (record { answer = r; row = zs }) (both u (val zs) ∷ []) → Says r zs
+  exits : (r : Answer) (zs : List Record) (u : Val) → Is Res.the-row (recorded r zs) (both u (val zs) ∷ []) → Says r zs
       → ent 𝓤 (⋆ 𝓤 H A (‵ (flft κ₀ q₀) ∷ ‵ Lent ∷ [])) (Post (both u (val zs)))
   exits r zs u is say =
       qed W (‵ (flft κ₀ q₀) ∷ ‵ Lent ∷ []) ∵
-      suffices ! _ (ends-at 𝓤 H A f.ended stayed (f.clauses 𝓤 H A mem′ run) W (((κ₀, tt), (q₀, tt), tt, a, vals), tt) (both u (val zs)) (record { answer = r; row = zs })
+      suffices ! _ (ends-at 𝓤 H A f.ended stayed (f.clauses 𝓤 H A mem′ run) W (((κ₀, tt), (q₀, tt), tt, a, vals), tt) (both u (val zs)) (recorded r zs)
       (tt, (tt, (tt, (tt, tt)))) (tt, (tt, (tt, (tt, tt))))) $ says ! say $
       nothing ! $ move ! (1 ∷ 0 ∷ []) $ join ! $ frame ! $ nothing ! $
-      owned ! Row (Is Row) (array-makes 𝓤 H A W Rec.the-row (StructLaws.makes Rec.the-type Rec′.the-plain 𝓤 H A) mostProcessors) xs (v ∷ []) is-v $ fjoin ! $
+      owned ! Row (Is Row) (makes-row 𝓤 H A W) xs (v ∷ []) is-v $ fjoin ! $
       owned ! usize (Is usize) (uint-makes 𝓤 H A W w64) step _ (refl, step-fits) $ fjoin ! $ move ! (1 ∷ 0 ∷ []) $ fjoin ! $
       owned ! usize (Is usize) (uint-makes 𝓤 H A W w64) n _ (refl, n-fits) $ fjoin ! $ frame ! $
-      owned ! Res.the-row (Is Res.the-row) (StructLaws.makes Res.the-type Res′.the-plain 𝓤 H A) (record { answer = r; row = zs }) (both u (val zs) ∷ []) is $ done !
+      owned ! Res.the-row (Is Res.the-row) (StructLaws.makes Res.the-type Res′.the-plain 𝓤 H A) (recorded r zs) (both u (val zs) ∷ []) is $ done !
 
   module _ (C : Calls 𝓤 H) (Λ : Loops 𝓤 H) (fm : FmC 𝓤 H (W .laws) C) (known : Triple 𝓤 (C #of-step) (Stepped 𝓤 H A mem′ run)) where
     -- the locals
@@ -225,8 +239,9 @@ module _ {M : Type 1} (𝓤 : URA M) (H : Heap 𝓤) (A : Atoms 𝓤) (W : Given
       -- what the call leaves as it is
       abbrev Rest : List (Item 𝓤)
       Rest =
-          ‵ (froom arrayTy l₉ 0) ∷ ‵ (fat fullShare rowTy l₈ 0 (sliceVal (l₅, 0) (length xs))) ∷ ‵ (fat fullShare refTy l₇ 0 (vptr l₅ 0)) ∷ ‵ (fat fullShare arrayTy l₄ 0 v)
-          ∷ ‵ (fat fullShare word l₃ 0 (vint w64 step)) ∷ ‵ (fat fullShare matrixTy l₂ 0 vm) ∷ ‵ (fat fullShare word l₁ 0 (vint w64 n)) ∷ ‵ (froom Res′.mir l₀ 0) ∷ Dies
+          ‵ (froom arrayTy l₉ 0) ∷ ‵ (fat fullShare rowTy l₈ 0 (sliceVal (l₅, 0) (length xs))) ∷ ‵ (fat fullShare refTy l₇ 0 (vptr l₅ 0))
+          ∷ ‵ (fat fullShare arrayTy l₄ 0 v) ∷ ‵ (fat fullShare word l₃ 0 (vint w64 step)) ∷ ‵ (fat fullShare matrixTy l₂ 0 vm)
+          ∷ ‵ (fat fullShare word l₁ 0 (vint w64 n)) ∷ ‵ (froom Res′.mir l₀ 0) ∷ Dies
 
       abbrev After : ℕ → GName → Val → List Record → List (Item 𝓤)
       After ν γ u zs =
@@ -238,12 +253,14 @@ module _ {M : Type 1} (𝓤 : URA M) (H : Heap 𝓤) (A : Atoms 𝓤) (W : Given
           → ent 𝓤 (⋆ 𝓤 H A (After ν γ u zs)) (Wp 𝓤 H C Λ En mirs.t-5 (atReturn 𝓤 H En Post))
       gives ν γ r u zs is-u say =
           qed W (After ν γ u zs) ∵ exec ! C Λ En mirs.t-5 (atRet En Post) $
-          lft-end ! tt $ use3 W (later (‵ (Arr (mem Rec.the-row) (length xs) .lies zs l₅ 0))) (slice-back 𝓤 H A W Rec.the-row (ν ∷ []) γ zs (length xs) l₅ 0) $ await ! tt $
+          lft-end ! tt $
+          use3 W (later (‵ (Arr (mem Rec.the-row) (length xs) .lies zs l₅ 0))) (slice-back 𝓤 H A W Rec.the-row (ν ∷ []) γ zs (length xs) l₅ 0) $ await ! tt $
           use1 W (given (Is Row zs (val zs ∷ [])) (‵ (fat fullShare arrayTy l₅ 0 (val zs)))) (gathers 𝓤 H A W l₅ zs (length xs) long) $ learn ! (λ is-z.
           -- [_5 0; the token; what is lent; _6 3; _9 4; _8 5; _7 6; _4 7; _3 8; _2 9; _1 10; _0 11; that each dies 12 ..]
           assigns ! (of-opd ! (load ! (from ! (stop !)) (look ! 0 refl))) (from ! (stop !)) (init ! 4 refl (typed zs (val zs) is-z)) $
-          assigns ! (agg ! (and-then ! (load ! (from ! (stop !)) (look ! 3 refl)) (and-then ! (load ! (from ! (stop !)) (look ! 4 refl)) (no-more !)))) (from ! (stop !))
-          (init ! 11 refl (StructLaws.lawful Res.the-type Res′.the-laws 𝓤 H A W .typed (record { answer = r; row = zs }) _ (is-both r zs u (val zs) is-u is-z) .0)) $
+          assigns ! (agg ! (and-then ! (load ! (from ! (stop !)) (look ! 3 refl)) (and-then ! (load ! (from ! (stop !)) (look ! 4 refl)) (no-more !))))
+          (from ! (stop !))
+          (init ! 11 refl (StructLaws.lawful Res.the-type Res′.the-laws 𝓤 H A W .typed (recorded r zs) _ (is-both r zs u (val zs) is-u is-z) .0)) $
           returns ! (look ! 11 refl) $ forget ! 0 refl $ forget ! 3 refl $ forget ! 4 refl $ forget ! 5 refl $ forget ! 6 refl $ forget ! 7 refl $
           forget ! 8 refl $ forget ! 9 refl $ forget ! 10 refl $ forget ! 11 refl $
           keep ! (11 ∷ 12 ∷ 10 ∷ 13 ∷ 9 ∷ 14 ∷ 8 ∷ 15 ∷ 7 ∷ 16 ∷ 0 ∷ 17 ∷ 3 ∷ 18 ∷ 6 ∷ 19 ∷ 5 ∷ 20 ∷ 4 ∷ 21 ∷ 1 ∷ 2 ∷ []) $
@@ -262,10 +279,11 @@ module _ {M : Type 1} (𝓤 : URA M) (H : Heap 𝓤) (A : Atoms 𝓤) (W : Given
           qed W Ready ∵ exec ! C Λ En mirs.t-4 (atRet En Post) $
           lft-new ! tt (λ ν. move ! (3 ∷ []) $
           use1 W (later (some (λ (γ : GName). ‵ (MutSlice (named 1) (ν ∷ []) Rec.the-row .own (x l₅ γ) (sliceVal (l₅, 0) (length xs) ∷ [])) ⊛
-          ‵ (flent (ν ∷ []) (Held Rec.the-row (length xs) l₅ 0 γ))))) (lends-slice 𝓤 H A W Rec.the-row (named 1) (ν ∷ []) xs l₅ 0 room) $ await ! tt $ pick ! (λ γ. split ! $
+          ‵ (flent (ν ∷ []) (Held Rec.the-row (length xs) l₅ 0 γ))))) (lends-slice 𝓤 H A W Rec.the-row (named 1) (ν ∷ []) xs l₅ 0 room) $
+          await ! tt $ pick ! (λ γ. split ! $
           -- [the slice; the lender's part; ν's token; the token; what is lent 4; _6; ..]
-          move ! (4 ∷ []) $ use1 W (‵ Lent ⊛ ‵ Lent) (shr-slice-copy 𝓤 H A W (named 0) κ₀ f64 .twice xm (vm ∷ [])) $ split ! $ move ! (4 ∷ 5 ∷ 0 ∷ 2 ∷ []) $ join ! $
-          use3 W (raw (Stepped 𝓤 H A mem′ run .pre (to-step l₅ ν γ))) (asks-step l₅ ν γ) $
+          move ! (4 ∷ []) $ use1 W (‵ Lent ⊛ ‵ Lent) (shr-slice-copy 𝓤 H A W (named 0) κ₀ f64 .twice xm (vm ∷ [])) $ split ! $
+          move ! (4 ∷ 5 ∷ 0 ∷ 2 ∷ []) $ join ! $ use3 W (raw (Stepped 𝓤 H A mem′ run .pre (to-step l₅ ν γ))) (asks-step l₅ ν γ) $
           -- [what the callee asks for; what is lent; the lender's part; _6 3; _9 4; _8 5; _7 6; _4 7; _3 8; _2 9; _1 10; ..]
           calls-at ! fm (Stepped 𝓤 H A mem′ run) known (to-step l₅ ν γ)
           (and-then ! (load ! (from ! (stop !)) (look ! 10 refl)) (and-then ! (load ! (from ! (stop !)) (look ! 9 refl))
@@ -273,8 +291,8 @@ module _ {M : Type 1} (𝓤 : URA M) (H : Heap 𝓤) (A : Atoms 𝓤) (W : Given
           use1 W (later (some (λ (r : Answer). ((‵ (flft κ₀ q₀) ⊛ (‵ (flft (ν ∷ []) fullShare) ⊛ ‵ ftrue)) ⊛ ‵ (Ans.the-row .own r (u ∷ []))) ⊛
           raw (ensured 𝓤 H A of-step.ended (of-step.clauses 𝓤 H A mem′ run) (κ₀, (ν ∷ [], tt)) (args l₅ γ) tt r)))) (id⊢ 𝓤 _) $ await ! tt $ pick ! (λ r.
           split ! $ move ! (1 ∷ []) $
-          use1 W (some (λ (ws : Lasts). ‵ (lasts of-step.ended (κ₀, (ν ∷ [], tt)) (args l₅ γ) ws) ⊛ raw (fact 𝓤 (Says r (ws .1 .1 .1 .0))))) (id⊢ 𝓤 _) $ pick ! (λ ws.
-          split ! $ move ! (1 ∷ []) $ heard ! (Says r (ws .1 .1 .1 .0)) (λ say.
+          use1 W (some (λ (ws : Lasts). ‵ (lasts of-step.ended (κ₀, (ν ∷ [], tt)) (args l₅ γ) ws) ⊛ raw (fact 𝓤 (Says r (ws .1 .1 .1 .0))))) (id⊢ 𝓤 _) $
+          pick ! (λ ws. split ! $ move ! (1 ∷ []) $ heard ! (Says r (ws .1 .1 .1 .0)) (λ say.
           fsplit ! $ drop ! $ fsplit ! $ drop ! $ fsplit ! $ drop ! $ fsplit ! $ fsplit ! $ move ! (1 ∷ []) $ feqL ! (λ _.
           -- [the last list; true; the tokens and the answer; what is lent; the lender's part; _6; ..]
           move ! (2 ∷ []) $ split ! $ move ! (1 ∷ []) $ facts ! Ans.the-row (Is Ans.the-row) (shows 𝓤 H A Ans.the-row) r (u ∷ []) (λ is.
@@ -286,9 +304,10 @@ module _ {M : Type 1} (𝓤 : URA M) (H : Heap 𝓤) (A : Atoms 𝓤) (W : Given
       -- once the parameters are stored; _i stands at 2 · (9 - i)
       abbrev Entry : List (Item 𝓤)
       Entry =
-          ‵ (froom arrayTy l₉ 0) ∷ ‵ (fdies arrayTy l₉) ∷ ‵ (froom rowTy l₈ 0) ∷ ‵ (fdies rowTy l₈) ∷ ‵ (froom refTy l₇ 0) ∷ ‵ (fdies refTy l₇) ∷ ‵ (froom Ans′.mir l₆ 0)
-          ∷ ‵ (fdies Ans′.mir l₆) ∷ ‵ (froom arrayTy l₅ 0) ∷ ‵ (fdies arrayTy l₅) ∷ ‵ (fat fullShare arrayTy l₄ 0 v) ∷ ‵ (fdies arrayTy l₄)
-          ∷ ‵ (fat fullShare word l₃ 0 (vint w64 step)) ∷ ‵ (fdies word l₃) ∷ ‵ (fat fullShare matrixTy l₂ 0 vm) ∷ ‵ (fdies matrixTy l₂)
+          ‵ (froom arrayTy l₉ 0) ∷ ‵ (fdies arrayTy l₉) ∷ ‵ (froom rowTy l₈ 0) ∷ ‵ (fdies rowTy l₈) ∷ ‵ (froom refTy l₇ 0) ∷ ‵ (fdies refTy l₇)
+          ∷ ‵ (froom Ans′.mir l₆ 0) ∷ ‵ (fdies Ans′.mir l₆) ∷ ‵ (froom arrayTy l₅ 0) ∷ ‵ (fdies arrayTy l₅)
+          ∷ ‵ (fat fullShare arrayTy l₄ 0 v) ∷ ‵ (fdies arrayTy l₄) ∷ ‵ (fat fullShare word l₃ 0 (vint w64 step)) ∷ ‵ (fdies word l₃)
+          ∷ ‵ (fat fullShare matrixTy l₂ 0 vm) ∷ ‵ (fdies matrixTy l₂)
           ∷ ‵ (fat fullShare word l₁ 0 (vint w64 n)) ∷ ‵ (fdies word l₁) ∷ ‵ (froom Res′.mir l₀ 0) ∷ ‵ (fdies Res′.mir l₀) ∷ Tok
           ∷ ‵ (owns (usize ∷ ShrSlice (named 0) κ₀ f64 ∷ usize ∷ Row ∷ []) a vals) ∷ []
 

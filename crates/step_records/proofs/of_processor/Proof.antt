@@ -1,6 +1,6 @@
 use mathlib.Core.Path.{ap, _∙_}
 use lib.ListN.{length-map}
-use Rattle.step_records.proofs.Absent.{no-processor}
+use Rattle.step_records.proofs.AbsentProcessor.{no-processor}
 use Rattle.step_records.specs.Records.{recordOf, recordAt}
 use borrow.Author.Needs.{needs}
 use Rattle.step_records.proofs.of_processor.Statement.{statement}
@@ -36,10 +36,10 @@ of-parameters-requires-2 c κs = search needs
 
 returns-2 : tie.Need-returns-2
 returns-2 c =
-    let s = c .before .before .before .before .before .before in
-    let g = s .good .1 .1 .0 .1 .1 in
+    let start = c .before .before .before .before .before .before in
+    let g = start .good .1 .1 .0 .1 .1 in
     c .of-parameters2 .ensures ∙ ap recordOf (c .before .parameters2 .ensures)
-    ∙ no-processor _ _ (s .args .registers) _ (simp length-map at (g .0 .1 .0 .1)) (simp length-map at (g .1 .0 .1 .0 .1)) (c .before .before .if1 .left)
+    ∙ no-processor _ _ (start .args .registers) _ (simp length-map at (g .0 .1 .0 .1)) (simp length-map at (g .1 .0 .1 .0 .1)) (c .before .before .if1 .left)
 
 pub of-processor-spec : {M : Type 1} → statement M
 of-processor-spec =

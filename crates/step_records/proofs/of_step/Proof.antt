@@ -1,4 +1,4 @@
--- `records::of_step` meets its contract: a walk of its MIR by hand, since the borrow checker covers no slice of structs. Assumes nothing.
+-- `step_records::of_step` meets its contract: a walk of its MIR by hand, since the borrow checker covers no slice of structs. Assumes nothing.
 use mathlib.Core.Path.{_≡_, refl, sym, _∙_, ap, subst}
 use Prim.Native.Nat.{ℕ, zero, suc, _+_, _*_, _<_, _≤_, _^_}
 use native.Mathlib.Nat.{add-zero, add-suc, zero-add, lt-suc-self}
@@ -21,8 +21,10 @@ use prog.Wp.{Heap, Out, Env, afterSeq, afterBlock, afterTurn, Calls, Loops, Wp, 
 use ghost.Atoms.{Atoms, sem}
 use contract.Monad.{Fun, fact}
 use contract.Running.{givenOf, tables, tablesOf}
-use types.Kit.{Given, Item, ‵, raw, _⊛_, some, later, ⋆, anyQ, atRet, _$_, _∵_, !, qed, by, move, keep, drop, use0, use1, use2, split, join, pick, rewrite, fsplit, fjoin, suffices, frame, await, done}
-use types.Run.{look, init, store, store-raw, forget, stop, hop, fld, from, load, lit, of-opd, bin, and-then, no-more, assigns, assigns-last, land, stays, leaves-loop, returns, enter, alloc1, alloc0, params1, pass1, pass0, free1, free0, exec}
+use types.Kit.{Given, Item, ‵, raw, _⊛_, some, later, ⋆, anyQ, atRet, _$_, _∵_, !, qed, by}
+use types.Kit.{move, keep, drop, use0, use1, use2, split, join, pick, rewrite, fsplit, fjoin, suffices, frame, await, done}
+use types.Run.{look, init, store, store-raw, forget, stop, hop, fld, from, load, lit, of-opd, bin, and-then, no-more}
+use types.Run.{assigns, assigns-last, land, stays, leaves-loop, returns, exec, enter, alloc1, alloc0, params1, pass1, pass0, free1, free0}
 use types.Part.{whole, sub, look-in}
 use sound.WpLaws.{FmC, fmOf, WpFn-mono}
 use sound.Loop.{loop-rule}
@@ -31,7 +33,7 @@ use denote.Shadow.{pureI}
 use denote.Laws.{Is, shows}
 use denote.Plain.{uint-makes, uint-vals, uint-tells, uint-lawful}
 use denote.Builtin.{usize, f64}
-use denote.Memory.{pointee}
+use denote.Memory.{pointee, mem as memory}
 use denote.Ref.{RefT, now}
 use denote.Slice.{sliceTy, sliceVal, ShrSlice, MutSlice, Room, heres, codedHoleys, at-slice, slice-vals, shr-slice-tells, mut-slice-tells, shr-slice-copy}
 use denote.Lend.{Held}
@@ -46,7 +48,8 @@ use denote.Triple.Statement.{Contract, Triple}
 use denote.Triple.Call.{calls-at}
 use denote.Triple.Clauses.{ensured, lasts}
 use denote.Triple.Table.{entered, cited}
-use denote.Triple.Walked.{says, Stays, stay-none, stay-none-slice, stay-slice, walkOf, goes-none, goes-none-slice, goes-slice, Walks, ends-at, walked, walk-meets}
+use denote.Triple.Walked.{says, Stays, stay-none, stay-none-slice, stay-slice, goes-none, goes-none-slice, goes-slice}
+use denote.Triple.Walked.{walkOf, Walks, ends-at, walked, walk-meets}
 use denote.Exit.{yes}
 use borrow.Author.Tests.{lt-ltb, le-ltb}
 use Rattle.refusal.specs.Answers.{answered}
@@ -63,7 +66,7 @@ use Rattle.step_records.specs.Records.{recordAt, beforeRecords, written}
 use Rattle.step_records.specs.declared.Record.{Record}
 use Rattle.step_records.proofs.Record as Rec
 use Rattle.step_records.proofs.Record.Laws as Rec′
-use Rattle.step_records.proofs.Rows.{written-fits, outcome}
+use Rattle.step_records.proofs.WrittenRows.{written-fits, outcome}
 use Rattle.step_records.proofs.verdict as verdict
 use Rattle.step_records.proofs.verdict.Symbol as verdict-def
 use Rattle.step_records.proofs.verdict.Symbol.{name as #verdict}
@@ -119,6 +122,10 @@ matrixTy = sliceTy (tyRef (named 0) imm (tyFloat binary64))
 abbrev rowTy : Ty
 rowTy = sliceTy (tyRef (named 1) mut (pointee (Rec.the-row .written)))
 
+-- how many bytes a record has
+abbrev recordBytes : ℕ
+recordBytes = memory Rec.the-row .size
+
 -- A call: the matrix xm, and a row at b and o that holds ys.
 module _ {M : Type 1} (𝓤 : URA M) (H : Heap 𝓤) (A : Atoms 𝓤) (W : Given 𝓤 H A) (mem : Memory → SProp 𝓤) (run : Routine → Fun 𝓤)
     (κ₀ κ₁ : Lft) (q₀ q₁ : Share) (xm : RefT (List Float)) (b o : ℕ) (γ : GName) (ys : List Record) (n step : ℕ)
@@ -142,6 +149,10 @@ module _ {M : Type 1} (𝓤 : URA M) (H : Heap 𝓤) (A : Atoms 𝓤) (W : Given
   abbrev vals : List Val × (List Val × (List Val × (List Val × Unit {0})))
   vals = (vint w64 n ∷ [], (vm ∷ [], (vint w64 step ∷ [], (vr ∷ [], tt))))
 
+  -- what is passed
+  abbrev passed : List Val
+  passed = vint w64 n ∷ vm ∷ vint w64 step ∷ vr ∷ []
+
   abbrev regs : Registers
   regs = orNone n (registersAt n step)
 
@@ -164,6 +175,12 @@ module _ {M : Type 1} (𝓤 : URA M) (H : Heap 𝓤) (A : Atoms 𝓤) (W : Given
 
   abbrev Tok : Item 𝓤
   Tok = ‵ (flft κ₀ q₀) ⊛ ‵ ftrue
+
+  abbrev Tokens : Item 𝓤
+  Tokens = ‵ (flft κ₀ q₀) ⊛ (‵ (flft κ₁ q₁) ⊛ ‵ ftrue)
+
+  abbrev Params : Item 𝓤
+  Params = ‵ (owns (usize ∷ ShrSlice (named 0) κ₀ f64 ∷ usize ∷ MutSlice (named 1) κ₁ Rec.the-row ∷ []) a vals)
 
   abbrev Lent : Fml
   Lent = ShrSlice (named 0) κ₀ f64 .own xm (vm ∷ [])
@@ -275,8 +292,9 @@ module _ {M : Type 1} (𝓤 : URA M) (H : Heap 𝓤) (A : Atoms 𝓤) (W : Given
             ∷ ‵ (fat fullShare rowTy l₄ 0 vr) ∷ ‵ (fat fullShare Ans′.mir l₅ 0 w) ∷ ‵ (fat fullShare word l₆ 0 (vint w64 m)) ∷ ‵ (fat fullShare Reg′.mir l₇ 0 g)
             ∷ ‵ (froom word l₉ 0) ∷ ‵ (froom Ans′.mir l₀ 0) ∷ ‵ (fobor κ₁ q₁ (Held Rec.the-row (length ys) b o γ))
             ∷ ‵ (fobs γ (codedHoleys Rec.the-row .code (heres Rec.the-row ys))) ∷ ‵ (fauth γ (codedHoleys Rec.the-row .code (heres Rec.the-row ys)))
-            ∷ ‵ (fdies Ans′.mir l₀) ∷ ‵ (fdies word l₁) ∷ ‵ (fdies matrixTy l₂) ∷ ‵ (fdies word l₃) ∷ ‵ (fdies rowTy l₄) ∷ ‵ (fdies Ans′.mir l₅) ∷ ‵ (fdies word l₆)
-            ∷ ‵ (fdies Reg′.mir l₇) ∷ ‵ (fdies word l₈) ∷ ‵ (fdies word l₉) ∷ ‵ (fdies tyBool l₁₀) ∷ ‵ (fdies Rec′.mir l₁₁) ∷ ‵ (fdies word l₁₂) ∷ ‵ (fdies tyPtr l₁₃) ∷ []
+            ∷ ‵ (fdies Ans′.mir l₀) ∷ ‵ (fdies word l₁) ∷ ‵ (fdies matrixTy l₂) ∷ ‵ (fdies word l₃) ∷ ‵ (fdies rowTy l₄) ∷ ‵ (fdies Ans′.mir l₅)
+            ∷ ‵ (fdies word l₆) ∷ ‵ (fdies Reg′.mir l₇) ∷ ‵ (fdies word l₈) ∷ ‵ (fdies word l₉) ∷ ‵ (fdies tyBool l₁₀) ∷ ‵ (fdies Rec′.mir l₁₁)
+            ∷ ‵ (fdies word l₁₂) ∷ ‵ (fdies tyPtr l₁₃) ∷ []
 
         -- after k turns
         abbrev Upto : ℕ → List (Item 𝓤)
@@ -300,7 +318,8 @@ module _ {M : Type 1} (𝓤 : URA M) (H : Heap 𝓤) (A : Atoms 𝓤) (W : Given
         more k X small next =
             qed W (Upto k) ∵ exec ! C Λ En mirs.turn-1 (anyQ (afterTurn 𝓤 H X Left)) $
             -- [row 0; k 1; _10 2; _11 3; _12 4; _13 5; the token 6; what is lent 7; _1 8; _2 9; _3 10; _4 11; _5 12; _6 13; _7 14; ..]
-            assigns ! (bin ! (load ! (from ! (stop !)) (look ! 1 refl)) (load ! (from ! (stop !)) (look ! 13 refl)) tt) (from ! (stop !)) (init ! 2 refl (tt, tt)) $
+            assigns ! (bin ! (load ! (from ! (stop !)) (look ! 1 refl)) (load ! (from ! (stop !)) (look ! 13 refl)) tt)
+            (from ! (stop !)) (init ! 2 refl (tt, tt)) $
             rewrite ! 2 (λ (t : Bool). ‵ (fat fullShare tyBool l₁₀ 0 (vbool t))) (lt-ltb k m small) refl $
             stays ! (load ! (from ! (stop !)) (look ! 2 refl)) $
             move ! (7 ∷ []) $ use1 W (‵ Lent ⊛ ‵ Lent) (shr-slice-copy 𝓤 H A W (named 0) κ₀ f64 .twice xm (vm ∷ [])) $ split ! $
@@ -320,7 +339,7 @@ module _ {M : Type 1} (𝓤 : URA M) (H : Heap 𝓤) (A : Atoms 𝓤) (W : Given
             (from ! (stop !)) (init ! 7 refl (tt, record { fits = offset-fits })) $
             assigns ! (bin ! (load ! (from ! (fld ! refl (stop !))) (look-in ! 12 (sub ! 0 refl (whole !)))) (load ! (from ! (stop !)) (look ! 7 refl)) tt)
             (from ! (stop !)) (init ! 8 refl (tt, tt)) $
-            rewrite ! 8 (λ (p : ℕ). ‵ (fat fullShare tyPtr l₁₃ 0 (vptr b p))) (sym (place-is 24 o k)) refl $
+            rewrite ! 8 (λ (p : ℕ). ‵ (fat fullShare tyPtr l₁₃ 0 (vptr b p))) (sym (place-is recordBytes o k)) refl $
             move ! (3 ∷ []) $ elem-out ! Rec.the-row (Is Rec.the-row) (shows 𝓤 H A Rec.the-row) (StructLaws.vals Rec.the-type Rec′.the-laws)
             (StructLaws.tells Rec.the-type Rec′.the-laws) fullShare (zs k) k (rec 0) b o inside (λ _.
             -- [the element; what it owns; the others; the record 3; the token; what is lent; k 6; _10 7; _11 8; _12 9; _13 10; ..]
@@ -342,13 +361,13 @@ module _ {M : Type 1} (𝓤 : URA M) (H : Heap 𝓤) (A : Atoms 𝓤) (W : Given
             in-row : k < length ys
             in-row = omega (arith, all-fit)
 
-            bytes : length ys * 24 < 2 ^ 63
+            bytes : length ys * recordBytes < 2 ^ 63
             bytes = room .1
 
             k-fits : k < 2 ^ 64
             k-fits = omega (arith, bytes, in-row)
 
-            offset-fits : k * 24 < 2 ^ 64
+            offset-fits : k * recordBytes < 2 ^ 64
             offset-fits = omega (arith, bytes, in-row)
 
             next-fits : k + 1 < 2 ^ 64
@@ -362,7 +381,8 @@ module _ {M : Type 1} (𝓤 : URA M) (H : Heap 𝓤) (A : Atoms 𝓤) (W : Given
         unfolding afterTurn
         ends X =
             qed W (Upto m) ∵ exec ! C Λ En mirs.turn-1 (anyQ (afterTurn 𝓤 H X Left)) $
-            assigns ! (bin ! (load ! (from ! (stop !)) (look ! 1 refl)) (load ! (from ! (stop !)) (look ! 13 refl)) tt) (from ! (stop !)) (init ! 2 refl (tt, tt)) $
+            assigns ! (bin ! (load ! (from ! (stop !)) (look ! 1 refl)) (load ! (from ! (stop !)) (look ! 13 refl)) tt)
+            (from ! (stop !)) (init ! 2 refl (tt, tt)) $
             rewrite ! 2 (λ (t : Bool). ‵ (fat fullShare tyBool l₁₀ 0 (vbool t))) (le-ltb m m (omega arith)) refl $
             leaves-loop ! (load ! (from ! (stop !)) (look ! 2 refl)) $ exec ! C Λ En mirs.t-7 (atRet En Post) $
             move ! (0 ∷ 17 ∷ 18 ∷ 19 ∷ []) $ closes-slice ! tt Rec.the-row ys (zs m) (length-over m rec ys) b o $
@@ -374,8 +394,8 @@ module _ {M : Type 1} (𝓤 : URA M) (H : Heap 𝓤) (A : Atoms 𝓤) (W : Given
             forget ! 14 refl $ forget ! 15 refl $ forget ! 16 refl $ forget ! 18 refl $
             keep ! (18 ∷ 19 ∷ 10 ∷ 20 ∷ 11 ∷ 21 ∷ 12 ∷ 22 ∷ 13 ∷ 23 ∷ 14 ∷ 24 ∷ 15 ∷ 25 ∷ 16 ∷ 26
             ∷ 3 ∷ 27 ∷ 17 ∷ 28 ∷ 4 ∷ 29 ∷ 5 ∷ 30 ∷ 6 ∷ 31 ∷ 7 ∷ 32 ∷ 0 ∷ 1 ∷ 2 ∷ 8 ∷ 9 ∷ []) $
-            free1 ! $ free1 ! $ free1 ! $ free1 ! $ free1 ! $ free1 ! $ free1 ! $ free1 ! $ free1 ! $ free1 ! $ free1 ! $ free1 ! $ free1 ! $ free1 ! $ free0 ! $
-            by ! (exits v w is-v say)
+            free1 ! $ free1 ! $ free1 ! $ free1 ! $ free1 ! $ free1 ! $ free1 ! $ free1 ! $ free1 ! $ free1 ! $ free1 ! $ free1 ! $ free1 ! $ free1 ! $
+            free0 ! $ by ! (exits v w is-v say)
 
         below : (t k : ℕ) → t + suc k ≡ m → ent 𝓤 (⋆ 𝓤 H A (Upto (suc k))) (Below (suc t))
         below t k e =
@@ -406,10 +426,21 @@ module _ {M : Type 1} (𝓤 : URA M) (H : Heap 𝓤) (A : Atoms 𝓤) (W : Given
           Tok ∷ ‵ Lent ∷ ‵ (row Rec.the-row fullShare ys b o) ∷ ‵ (fobor κ₁ q₁ (Held Rec.the-row (length ys) b o γ))
           ∷ ‵ (fobs γ (codedHoleys Rec.the-row .code (heres Rec.the-row ys))) ∷ ‵ (fauth γ (codedHoleys Rec.the-row .code (heres Rec.the-row ys)))
           ∷ ‵ (froom tyPtr l₁₃ 0) ∷ ‵ (fdies tyPtr l₁₃) ∷ ‵ (froom word l₁₂ 0) ∷ ‵ (fdies word l₁₂) ∷ ‵ (froom Rec′.mir l₁₁ 0) ∷ ‵ (fdies Rec′.mir l₁₁)
-          ∷ ‵ (froom tyBool l₁₀ 0) ∷ ‵ (fdies tyBool l₁₀) ∷ ‵ (fat fullShare word l₉ 0 (vint w64 (length ys))) ∷ ‵ (fdies word l₉) ∷ ‵ (froom word l₈ 0) ∷ ‵ (fdies word l₈)
-          ∷ c₇ ∷ ‵ (fdies Reg′.mir l₇) ∷ c₆ ∷ ‵ (fdies word l₆) ∷ c₅ ∷ ‵ (fdies Ans′.mir l₅) ∷ ‵ (fat fullShare rowTy l₄ 0 vr) ∷ ‵ (fdies rowTy l₄)
-          ∷ ‵ (fat fullShare word l₃ 0 (vint w64 step)) ∷ ‵ (fdies word l₃) ∷ ‵ (fat fullShare matrixTy l₂ 0 vm) ∷ ‵ (fdies matrixTy l₂)
-          ∷ ‵ (fat fullShare word l₁ 0 (vint w64 n)) ∷ ‵ (fdies word l₁) ∷ ‵ (froom Ans′.mir l₀ 0) ∷ ‵ (fdies Ans′.mir l₀) ∷ []
+          ∷ ‵ (froom tyBool l₁₀ 0) ∷ ‵ (fdies tyBool l₁₀) ∷ ‵ (fat fullShare word l₉ 0 (vint w64 (length ys))) ∷ ‵ (fdies word l₉)
+          ∷ ‵ (froom word l₈ 0) ∷ ‵ (fdies word l₈) ∷ c₇ ∷ ‵ (fdies Reg′.mir l₇) ∷ c₆ ∷ ‵ (fdies word l₆) ∷ c₅ ∷ ‵ (fdies Ans′.mir l₅)
+          ∷ ‵ (fat fullShare rowTy l₄ 0 vr) ∷ ‵ (fdies rowTy l₄) ∷ ‵ (fat fullShare word l₃ 0 (vint w64 step)) ∷ ‵ (fdies word l₃)
+          ∷ ‵ (fat fullShare matrixTy l₂ 0 vm) ∷ ‵ (fdies matrixTy l₂) ∷ ‵ (fat fullShare word l₁ 0 (vint w64 n)) ∷ ‵ (fdies word l₁)
+          ∷ ‵ (froom Ans′.mir l₀ 0) ∷ ‵ (fdies Ans′.mir l₀) ∷ []
+
+      -- no answer, no count, no registers so far
+      abbrev Unjudged : Item 𝓤
+      Unjudged = ‵ (froom Ans′.mir l₅ 0)
+
+      abbrev Uncounted : Item 𝓤
+      Uncounted = ‵ (froom word l₆ 0)
+
+      abbrev Unlisted : Item 𝓤
+      Unlisted = ‵ (froom Reg′.mir l₇ 0)
 
       abbrev Judge : Val → Item 𝓤
       Judge w = ‵ (fat fullShare Ans′.mir l₅ 0 w)
@@ -427,9 +458,9 @@ module _ {M : Type 1} (𝓤 : URA M) (H : Heap 𝓤) (A : Atoms 𝓤) (W : Given
             ∷ 33 ∷ 31 ∷ 29 ∷ 27 ∷ 25 ∷ 23 ∷ 21 ∷ 19 ∷ 17 ∷ 15 ∷ 13 ∷ 11 ∷ 9 ∷ 7 ∷ []) $
             by ! (loops v w is-v say g is-g)
 
-        lists : ent 𝓤 (⋆ 𝓤 H A (Before (Judge w) (Count v) (‵ (froom Reg′.mir l₇ 0)))) (Wp 𝓤 H C Λ En mirs.t-4 (atReturn 𝓤 H En Post))
+        lists : ent 𝓤 (⋆ 𝓤 H A (Before (Judge w) (Count v) Unlisted)) (Wp 𝓤 H C Λ En mirs.t-4 (atReturn 𝓤 H En Post))
         lists =
-            qed W (Before (Judge w) (Count v) (‵ (froom Reg′.mir l₇ 0))) ∵ exec ! C Λ En mirs.t-4 (atRet En Post) $
+            qed W (Before (Judge w) (Count v) Unlisted) ∵ exec ! C Λ En mirs.t-4 (atRet En Post) $
             use0 W (raw (Listed 𝓤 H A mem run .pre to-registers)) asks-registers $
             calls-at ! fm (Listed 𝓤 H A mem run) known-registers to-registers
             (and-then ! (load ! (from ! (stop !)) (look ! 31 refl)) (and-then ! (load ! (from ! (stop !)) (look ! 27 refl)) (no-more !))) (λ u.
@@ -440,9 +471,9 @@ module _ {M : Type 1} (𝓤 : URA M) (H : Heap 𝓤) (A : Atoms 𝓤) (W : Given
             land ! (from ! (stop !)) (init ! 18 refl (StructLaws.lawful Reg.the-type Reg′.the-laws 𝓤 H A W .typed r _ is .0)) $
             by ! (starts u (subst (λ (q : Registers). Is Reg.the-row q (u ∷ [])) e is))))))
 
-        counts : ent 𝓤 (⋆ 𝓤 H A (Before (Judge w) (‵ (froom word l₆ 0)) (‵ (froom Reg′.mir l₇ 0)))) (Wp 𝓤 H C Λ En mirs.t-3 (atReturn 𝓤 H En Post))
+        counts : ent 𝓤 (⋆ 𝓤 H A (Before (Judge w) Uncounted Unlisted)) (Wp 𝓤 H C Λ En mirs.t-3 (atReturn 𝓤 H En Post))
         counts =
-            qed W (Before (Judge w) (‵ (froom word l₆ 0)) (‵ (froom Reg′.mir l₇ 0))) ∵ exec ! C Λ En mirs.t-3 (atRet En Post) $
+            qed W (Before (Judge w) Uncounted Unlisted) ∵ exec ! C Λ En mirs.t-3 (atRet En Post) $
             use0 W (raw (Counted 𝓤 H A mem run .pre (to-count v w))) (asks-count v w is-v) $
             calls-at ! fm (Counted 𝓤 H A mem run) known-count (to-count v w)
             (and-then ! (load ! (from ! (stop !)) (look ! 31 refl)) (and-then ! (load ! (from ! (stop !)) (look ! 23 refl)) (no-more !))) (λ u.
@@ -453,9 +484,9 @@ module _ {M : Type 1} (𝓤 : URA M) (H : Heap 𝓤) (A : Atoms 𝓤) (W : Given
             land ! (from ! (stop !)) (init ! 20 refl (uint-lawful 𝓤 H A W w64 .typed r _ is .0)) $
             rewrite ! 20 (λ (c : Val). ‵ (fat fullShare word l₆ 0 c)) (ap only (is .0) ∙ ap (vint w64) e) refl $ by ! lists))))
 
-      judges : ent 𝓤 (⋆ 𝓤 H A (Before (‵ (froom Ans′.mir l₅ 0)) (‵ (froom word l₆ 0)) (‵ (froom Reg′.mir l₇ 0)))) (Wp 𝓤 H C Λ En mirs.t-2 (atReturn 𝓤 H En Post))
+      judges : ent 𝓤 (⋆ 𝓤 H A (Before Unjudged Uncounted Unlisted)) (Wp 𝓤 H C Λ En mirs.t-2 (atReturn 𝓤 H En Post))
       judges =
-          qed W (Before (‵ (froom Ans′.mir l₅ 0)) (‵ (froom word l₆ 0)) (‵ (froom Reg′.mir l₇ 0))) ∵ exec ! C Λ En mirs.t-2 (atRet En Post) $
+          qed W (Before Unjudged Uncounted Unlisted) ∵ exec ! C Λ En mirs.t-2 (atRet En Post) $
           move ! (1 ∷ []) $ use1 W (‵ Lent ⊛ ‵ Lent) (shr-slice-copy 𝓤 H A W (named 0) κ₀ f64 .twice xm (vm ∷ [])) $ split ! $
           move ! (2 ∷ 0 ∷ []) $ use2 W (raw (Judged 𝓤 H A mem run .pre to-verdict)) asks-verdict $
           calls-at ! fm (Judged 𝓤 H A mem run) known-verdict to-verdict
@@ -475,8 +506,7 @@ module _ {M : Type 1} (𝓤 : URA M) (H : Heap 𝓤) (A : Atoms 𝓤) (W : Given
           ∷ ‵ (froom Reg′.mir l₇ 0) ∷ ‵ (fdies Reg′.mir l₇) ∷ ‵ (froom word l₆ 0) ∷ ‵ (fdies word l₆) ∷ ‵ (froom Ans′.mir l₅ 0) ∷ ‵ (fdies Ans′.mir l₅)
           ∷ ‵ (fat fullShare rowTy l₄ 0 vr) ∷ ‵ (fdies rowTy l₄) ∷ ‵ (fat fullShare word l₃ 0 (vint w64 step)) ∷ ‵ (fdies word l₃)
           ∷ ‵ (fat fullShare matrixTy l₂ 0 vm) ∷ ‵ (fdies matrixTy l₂) ∷ ‵ (fat fullShare word l₁ 0 (vint w64 n)) ∷ ‵ (fdies word l₁)
-          ∷ ‵ (froom Ans′.mir l₀ 0) ∷ ‵ (fdies Ans′.mir l₀) ∷ (‵ (flft κ₀ q₀) ⊛ (‵ (flft κ₁ q₁) ⊛ ‵ ftrue))
-          ∷ ‵ (owns (usize ∷ ShrSlice (named 0) κ₀ f64 ∷ usize ∷ MutSlice (named 1) κ₁ Rec.the-row ∷ []) a vals) ∷ []
+          ∷ ‵ (froom Ans′.mir l₀ 0) ∷ ‵ (fdies Ans′.mir l₀) ∷ Tokens ∷ Params ∷ []
 
       -- the length of the row is read, and the borrow is opened
       opens : ent 𝓤 (⋆ 𝓤 H A Entry) (Wp 𝓤 H C Λ En mirs.t-1 (atReturn 𝓤 H En Post))
@@ -484,7 +514,8 @@ module _ {M : Type 1} (𝓤 : URA M) (H : Heap 𝓤) (A : Atoms 𝓤) (W : Given
           qed W Entry ∵ exec ! C Λ En mirs.t-1 (atRet En Post) $
           assigns ! (of-opd ! (load ! (from ! (fld ! refl (stop !))) (look-in ! 18 (sub ! 1 refl (whole !)))))
           (from ! (stop !)) (init ! 8 refl (tt, record { fits = room .0 })) $
-          move ! (29 ∷ []) $ fsplit ! $ drop ! $ fsplit ! $ move ! (1 ∷ []) $ fsplit ! $ drop ! $ fsplit ! $ move ! (1 ∷ []) $ drop ! $ fsplit ! $ drop ! $ fsplit ! $
+          move ! (29 ∷ []) $ fsplit ! $ drop ! $ fsplit ! $ move ! (1 ∷ []) $ fsplit ! $ drop ! $ fsplit ! $ move ! (1 ∷ []) $ drop ! $
+          fsplit ! $ drop ! $ fsplit ! $
           -- [what is told of the row; its borrow; what is lent; _13 3; .. the tokens 31]
           move ! (31 ∷ []) $ split ! $ move ! (1 ∷ []) $ split ! $ move ! (3 ∷ 4 ∷ 0 ∷ []) $ opens-slice ! tt Rec.the-row ys b o $
           move ! (5 ∷ 4 ∷ []) $ join ! $ move ! (0 ∷ 5 ∷ []) $ by ! judges
@@ -505,17 +536,17 @@ module _ {M : Type 1} (𝓤 : URA M) (H : Heap 𝓤) (A : Atoms 𝓤) (W : Given
         → ((l₀ l₁ l₂ l₃ l₄ l₅ l₆ l₇ l₈ l₉ l₁₀ l₁₁ l₁₂ l₁₃ : ℕ)
         → ent 𝓤 (⋆ 𝓤 H A (Entry l₀ l₁ l₂ l₃ l₄ l₅ l₆ l₇ l₈ l₉ l₁₀ l₁₁ l₁₂ l₁₃))
         (Wp 𝓤 H C Λ (En l₀ l₁ l₂ l₃ l₄ l₅ l₆ l₇ l₈ l₉ l₁₀ l₁₁ l₁₂ l₁₃) body (atReturn 𝓤 H (En l₀ l₁ l₂ l₃ l₄ l₅ l₆ l₇ l₈ l₉ l₁₀ l₁₁ l₁₂ l₁₃) Post)))
-        → ent 𝓤 (onEntry 𝓤 H A f.signature (κ₀, (κ₁, tt)) (q₀, (q₁, tt)) a vals) (WpFn 𝓤 H C Λ (with-body body) (vint w64 n ∷ vm ∷ vint w64 step ∷ vr ∷ []) Post)
+        → ent 𝓤 (onEntry 𝓤 H A f.signature (κ₀, (κ₁, tt)) (q₀, (q₁, tt)) a vals) (WpFn 𝓤 H C Λ (with-body body) passed Post)
     enters body next =
-        qed W ((‵ (flft κ₀ q₀) ⊛ (‵ (flft κ₁ q₁) ⊛ ‵ ftrue)) ∷ ‵ (owns (usize ∷ ShrSlice (named 0) κ₀ f64 ∷ usize ∷ MutSlice (named 1) κ₁ Rec.the-row ∷ []) a vals) ∷ []) ∵
-        enter ! C Λ (with-body body) (vint w64 n ∷ vm ∷ vint w64 step ∷ vr ∷ []) _ $
+        qed W (Tokens ∷ Params ∷ []) ∵
+        enter ! C Λ (with-body body) passed _ $
         alloc1 ! (λ l₀. alloc1 ! (λ l₁. alloc1 ! (λ l₂. alloc1 ! (λ l₃. alloc1 ! (λ l₄. alloc1 ! (λ l₅. alloc1 ! (λ l₆. alloc1 ! (λ l₇. alloc1 ! (λ l₈.
         alloc1 ! (λ l₉. alloc1 ! (λ l₁₀. alloc1 ! (λ l₁₁. alloc1 ! (λ l₁₂. alloc1 ! (λ l₁₃. alloc0 ! $ params1 ! $
         pass1 ! (init ! 24 refl (tt, record { fits = n-fits })) $ pass1 ! (init ! 22 refl (tt, (tt, (record { fits = matrix-room .0 }, tt)))) $
         pass1 ! (init ! 20 refl (tt, record { fits = step-fits })) $ pass1 ! (init ! 18 refl (tt, (tt, (record { fits = room .0 }, tt)))) $ pass0 ! $
         by ! (next l₀ l₁ l₂ l₃ l₄ l₅ l₆ l₇ l₈ l₉ l₁₀ l₁₁ l₁₂ l₁₃)))))))))))))))
 
-    walk : ent 𝓤 (onEntry 𝓤 H A f.signature (κ₀, (κ₁, tt)) (q₀, (q₁, tt)) a vals) (WpFn 𝓤 H C Λ code.function (vint w64 n ∷ vm ∷ vint w64 step ∷ vr ∷ []) Post)
+    walk : ent 𝓤 (onEntry 𝓤 H A f.signature (κ₀, (κ₁, tt)) (q₀, (q₁, tt)) a vals) (WpFn 𝓤 H C Λ code.function passed Post)
     walk = enters mirs.t-1 opens
 
 module _ {M : Type 1} (𝓤 : URA M) (H : Heap 𝓤) (A : Atoms 𝓤) (W : Given 𝓤 H A) (mem : Memory → SProp 𝓤) (run : Routine → Fun 𝓤) (𝓣 : Tables 𝓤 H)
@@ -550,6 +581,7 @@ of-step-spec 𝓤 H 𝓜 𝓖 𝓡 =
     (meets 𝓤 H (𝓖 .A) (givenOf 𝓤 H 𝓜 𝓖) (𝓜 .mem) (𝓡 .run) (tablesOf 𝓤 H 𝓜 (tables 𝓤 H 𝓜 𝓡 code.env))
     (cited 𝓤 H (Judged 𝓤 H (𝓖 .A) (𝓜 .mem) (𝓡 .run)) 𝓜 𝓡 code.env #verdict verdict-def.routine code.calls-step-records·verdict (verdict-thm.met 𝓤 H 𝓜 𝓖 𝓡))
     (cited 𝓤 H (Counted 𝓤 H (𝓖 .A) (𝓜 .mem) (𝓡 .run)) 𝓜 𝓡 code.env #count count-def.routine code.calls-step-records·count (count-thm.met 𝓤 H 𝓜 𝓖 𝓡))
-    (cited 𝓤 H (Listed 𝓤 H (𝓖 .A) (𝓜 .mem) (𝓡 .run)) 𝓜 𝓡 code.env #registers registers-def.routine code.calls-step-records·registers (registers-thm.met 𝓤 H 𝓜 𝓖 𝓡))
+    (cited 𝓤 H (Listed 𝓤 H (𝓖 .A) (𝓜 .mem) (𝓡 .run)) 𝓜 𝓡 code.env #registers registers-def.routine code.calls-step-records·registers
+    (registers-thm.met 𝓤 H 𝓜 𝓖 𝓡))
     (cited 𝓤 H (Computed 𝓤 H (𝓖 .A) (𝓜 .mem) (𝓡 .run)) 𝓜 𝓡 code.env #of-processor of-processor-def.routine code.calls-step-records·of-processor
     (of-processor-thm.met 𝓤 H 𝓜 𝓖 𝓡)))

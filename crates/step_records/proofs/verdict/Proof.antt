@@ -3,7 +3,7 @@ use mathlib.Core.Bool.{true}
 use borrow.Author.Tests.{not-true, not-false}
 use Rattle.refusal.specs.Answers.{answered}
 use Rattle.sizes.specs.Sizes.{isOrder}
-use Rattle.step_records.proofs.Refused.{refused-1, by-room, by-entries}
+use Rattle.step_records.proofs.RecordRefusals.{refused-1, by-room, by-entries}
 use borrow.Author.Needs.{needs}
 use Rattle.step_records.proofs.verdict.Statement.{statement}
 use Rattle.step_records.proofs.verdict.Tie as tie

@@ -6,6 +6,10 @@ use borrow.Author.Needs.{needs}
 use Rattle.root.proofs.whole.remainder.Statement.{statement}
 use Rattle.root.proofs.whole.remainder.Tie as tie
 
+-- the start, from past the second test
+abbrev start-of : tie.Else2 → tie.Start
+start-of c = c .before .before .before .before
+
 mul-wrapping-sub-u64 : tie.Need-mul-wrapping-sub-u64
 mul-wrapping-sub-u64 c = let b = split-le (c .args .q) (c .pre .1) in omega arith
 
@@ -43,10 +47,10 @@ add-wrapping-sub-u64-2 : tie.Need-add-wrapping-sub-u64-2
 add-wrapping-sub-u64-2 c = search needs
 
 mul-wrapping-sub-u64-7 : tie.Need-mul-wrapping-sub-u64-7
-mul-wrapping-sub-u64-7 c = let at-start = c .before .before .before .before in let b = split-le (at-start .args .q) (at-start .pre .1) in omega arith
+mul-wrapping-sub-u64-7 c = let b = split-le (start-of c .args .q) (start-of c .pre .1) in omega arith
 
 add-wrapping-sub-u64-3 : tie.Need-add-wrapping-sub-u64-3
-add-wrapping-sub-u64-3 c = let at-start = c .before .before .before .before in let b = split-le (at-start .args .q) (at-start .pre .1) in omega arith
+add-wrapping-sub-u64-3 c = let b = split-le (start-of c .args .q) (start-of c .pre .1) in omega arith
 
 wrapping-sub-u64-requires-3 : tie.Need-wrapping-sub-u64-requires-3
 wrapping-sub-u64-requires-3 c κs = search needs

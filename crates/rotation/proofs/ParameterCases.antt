@@ -8,7 +8,7 @@ use Rattle.root.specs.Sqrt.{sqrtOf}
 use Rattle.rotation.specs.declared.Parameters.{Parameters}
 use Rattle.rotation.specs.declared.Parameters.the-variants.{Still, Turn}
 use Rattle.rotation.specs.declared.Angle.{Angle}
-use Rattle.rotation.specs.Rotation.{rootOf, signum, tangentOf, cosineOf, angleOf, ofAngle, quotient, tangent, ofTangent, ofPair, sent}
+use Rattle.rotation.specs.Rotation.{rootOf, signum, tangentOf, cosineOf, angleOf, ofAngle, quotient, tangentOfPair, ofTangent, ofPair, sent}
 
 module _ (x : Angle) where
   pub still-at : eq (x .tangent) plusZero ≡ true → Still ≡ ofAngle x
@@ -24,15 +24,15 @@ unfolding ofTangent ofAngle ofBits
 still-zero = refl
 
 module _ (a d b : Float) where
-  pub zero-tangent : eq b plusZero ≡ true → plusZero ≡ tangent a d b
-  unfolding tangent
+  pub zero-tangent : eq b plusZero ≡ true → plusZero ≡ tangentOfPair a d b
+  unfolding tangentOfPair
   zero-tangent h = ap (λ (z : Bool). cond z plusZero (tangentOf (quotient a d b))) (sym h ∙ equal-zero b)
 
-  pub other-tangent : (t : Float) → eq b plusZero ≡ false → t ≡ tangentOf (quotient a d b) → t ≡ tangent a d b
-  unfolding tangent
+  pub other-tangent : (t : Float) → eq b plusZero ≡ false → t ≡ tangentOf (quotient a d b) → t ≡ tangentOfPair a d b
+  unfolding tangentOfPair
   other-tangent t h e = e ∙ ap (λ (z : Bool). cond z plusZero (tangentOf (quotient a d b))) (sym h ∙ equal-zero b)
 
-  pub by-tangent : {t : Float} → t ≡ tangent a d b → ofTangent t ≡ ofPair a d b
+  pub by-tangent : {t : Float} → t ≡ tangentOfPair a d b → ofTangent t ≡ ofPair a d b
   unfolding ofPair
   by-tangent e = ap ofTangent e
 
@@ -53,7 +53,7 @@ received t = go (isZero t) refl
 
 pub received-pair : (a d b : Float) → ofTangent (sent (ofPair a d b)) ≡ ofPair a d b
 unfolding ofPair
-received-pair a d b = received (tangent a d b)
+received-pair a d b = received (tangentOfPair a d b)
 
 -- ---- A tangent that isn't a number counts as a turn with three of them.
 pub cosine-nan : cosineOf nan ≡ nan

@@ -2,7 +2,7 @@
 use Prim.Native.Nat.{ℕ}
 use lib.Ieee.{Float}
 use Rattle.rotation.specs.declared.Parameters.{Parameters}
-use Rattle.matrix.proofs.Same.{Line, Same}
+use Rattle.matrix.proofs.SameEntries.{Line, Same}
 use Rattle.matrix_turns.specs.Turns.{rowTurn, columnTurn, columnTurnAll}
 
 module _ (n : ℕ) (P : Parameters) (p q : ℕ) (hp : Line n p) (hq : Line n q) where

@@ -8,8 +8,8 @@ use Rattle.float64.proofs.Operands.{BothFinite, sum-operands, difference-operan
 use Rattle.root.specs.Sqrt.{sqrtOf}
 use Rattle.rotation.specs.declared.Parameters.{Parameters}
 use Rattle.rotation.specs.declared.Parameters.the-variants.{Still, Turn}
-use Rattle.rotation.specs.Rotation.{rootOf, signum, tangentOf, quotient, tangent, ofAngle, ofTangent, ofPair, diagonalOf, turnOf}
-use Rattle.rotation.proofs.Cases.{tangent-nan}
+use Rattle.rotation.specs.Rotation.{rootOf, signum, tangentOf, quotient, tangentOfPair, ofAngle, ofTangent, ofPair, diagonalOf, turnOf}
+use Rattle.rotation.proofs.ParameterCases.{tangent-nan}
 
 -- ---- a turn of two values
 pub turn-kept : (P : Parameters) (x y : Float) → finite (turnOf P x y .left) ≡ true → finite (turnOf P x y .right) ≡ true → BothFinite x y
@@ -46,7 +46,7 @@ by-infinity (inf s) t = rw tangent-nan
 by-infinity (fin s m e) t = tangent-zero _
 
 pub still-kept : (a d b : Float) → ofPair a d b ≡ Still → finite b ≡ true
-unfolding ofPair tangent quotient mul ofBits finite
+unfolding ofPair tangentOfPair quotient mul ofBits finite
 still-kept a d nan e = absurd (true≢false (sym (ap isStill e) ∙ turns _ (by-nan (sub binary64 d a))))
 still-kept a d (inf t) e = absurd (true≢false (sym (ap isStill e) ∙ turns _ (by-infinity (sub binary64 d a) _)))
 still-kept a d (fin s m k) e = refl

@@ -1,9 +1,9 @@
 use mathlib.Core.Path.{_∙_}
 use borrow.Author.Needs.{needs}
-use Rattle.rotation.specs.Rotation.{tangent}
-use Rattle.matrix_turns.proofs.Two.{from-three}
-use Rattle.matrix_turns.proofs.tangent.Statement.{statement}
-use Rattle.matrix_turns.proofs.tangent.Tie as tie
+use Rattle.rotation.specs.Rotation.{tangentOfPair}
+use Rattle.matrix_turns.proofs.LinePairs.{from-three}
+use Rattle.matrix_turns.proofs.tangent_at.Statement.{statement}
+use Rattle.matrix_turns.proofs.tangent_at.Tie as tie
 
 entry-requires : tie.Need-entry-requires
 entry-requires c κs = search needs
@@ -20,8 +20,8 @@ tangent-of-pair-requires c κs = search needs
 returns : tie.Need-returns
 returns c =
     let s = c .before in
-    c .tangent-of-pair .ensures ∙ from-three tangent (s .before .before .entry .ensures) (s .before .entry2 .ensures) (s .entry3 .ensures)
+    c .tangent-of-pair .ensures ∙ from-three tangentOfPair (s .before .before .entry .ensures) (s .before .entry2 .ensures) (s .entry3 .ensures)
 
-pub tangent-spec : {M : Type 1} → statement M
-tangent-spec =
+pub tangent-at-spec : {M : Type 1} → statement M
+tangent-at-spec =
     tie.close (tie.spec entry-requires entry-requires-2 entry-requires-3 tangent-of-pair-requires returns)

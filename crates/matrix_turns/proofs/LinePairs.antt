@@ -10,8 +10,8 @@ use lib.ListN.{length}
 use lib.Ieee.{Float}
 use Rattle.rotation.specs.Rotation.{ofPair}
 use Rattle.matrix.specs.Matrix.{at, flat, isPlace, entryOf}
-use Rattle.matrix.proofs.Within.{are-place, place-is, entry-at}
-use Rattle.matrix.proofs.Same.{Line}
+use Rattle.matrix.proofs.EntryPlaces.{are-place, place-is, entry-at}
+use Rattle.matrix.proofs.SameEntries.{Line}
 use Rattle.matrix_turns.specs.Turns.{parametersOf, twoLines, onLines}
 
 pub record Two (n p q d : ℕ) : Type 0 where

@@ -16,7 +16,7 @@ use Rattle.ordering.specs.Pairs.{noRegisters, orNone, registersAt}
 use Rattle.matrix.specs.Entries.{entriesOf}
 use Rattle.step_records.specs.declared.Record.{Record}
 use Rattle.step_records.specs.Records.{recordAt, beforeRecords, rowOutcome, recordsOf, written}
-use Rattle.step_records.proofs.Refused.{by-parts}
+use Rattle.step_records.proofs.RecordRefusals.{by-parts}
 
 -- Nothing is written to a row that is too short.
 room-left : (n room : ℕ) (b : Bool) (e : Answered Unit) (short : Bool) → ltb room (processorsOf n) ≡ short

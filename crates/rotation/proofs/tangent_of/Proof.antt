@@ -1,7 +1,7 @@
 use Rattle.rotation.specs.Rotation.{tangentOf}
 use borrow.Author.Needs.{needs}
-use Rattle.rotation.proofs.tangent.Statement.{statement}
-use Rattle.rotation.proofs.tangent.Tie as tie
+use Rattle.rotation.proofs.tangent_of.Statement.{statement}
+use Rattle.rotation.proofs.tangent_of.Tie as tie
 
 sign-requires : tie.Need-sign-requires
 sign-requires c κs = search needs
@@ -16,5 +16,5 @@ returns : tie.Need-returns
 unfolding tangentOf
 returns c = cc
 
-pub tangent-spec : {M : Type 1} → statement M
-tangent-spec = tie.close (tie.spec sign-requires magnitude-requires root-or-nan-requires returns)
+pub tangent-of-spec : {M : Type 1} → statement M
+tangent-of-spec = tie.close (tie.spec sign-requires magnitude-requires root-or-nan-requires returns)

@@ -17,8 +17,8 @@ use Rattle.float64.proofs.Patterns.{odd-units}
 use Rattle.float64.proofs.Order.{Magnitude, odd-magnitude, le-of-units, units-of-le}
 use Rattle.root.specs.Sqrt.{rootUnits, sqrtOf}
 use Rattle.root.proofs.Scales.{digitsOf, digits53, root-units-at}
-use Rattle.root.proofs.Cases.{sqrt-positive}
-use Rattle.root.proofs.Rooted.{Rooted, rooted-at, rooted-mono, rooted-ge, rooted-exact, nearest-above, nearest-below}
+use Rattle.root.proofs.RootCases.{sqrt-positive}
+use Rattle.root.proofs.RootUnits.{Rooted, rooted-at, rooted-mono, rooted-ge, rooted-exact, nearest-above, nearest-below}
 
 -- x is a value of binary64, finite and above zero, and r is its root.
 pub record RootOf (x r : Float) : Type 0 where
