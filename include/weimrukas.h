@@ -1,8 +1,9 @@
 /*
- * Weimrukas: eigenvalues and eigenvectors of symmetric matrices of coded barley lines by the Jacobi method in the ordering of
- * Brent and Luk, as plain sweeps or by a systolic array of tiles. Both give the same bits.
+ * Weimrukas: eigenvalues and eigenvectors of symmetric matrices of coded barley lines by the Jacobi method in the
+ * ordering of Brent and Luk, as plain sweeps or by a systolic array of tiles. Both give the same bits.
  *
- * `rt staticlib capi` proves the library and writes it for x86-64: link target/staticlib/libcapi.a.
+ * `rt staticlib capi` proves the library and writes it for x86-64: link target/staticlib/libcapi.a. `tools/install`
+ * installs it as libweimrukas.
  *
  * Answers. Where nothing else is said a function answers 0, or the number of a refusal in document 01's table:
  *
@@ -16,27 +17,42 @@
  *      8  end of a run: an entry is no longer finite
  *      9  square root: not a number, or below zero
  *
- * Where several apply, the first is answered that stands in the function's own list below. 5 and 6 set *row and *column, from 1, to
- * the first such entry in row order. No other answer sets them.
+ * Where several apply, the first is answered that stands in the function's own list below. 5 and 6 set *row and
+ * *column, from 1, to the first such entry in row order. No other answer sets them. A function that refuses leaves
+ * everything lent as it was, unless its own comment says otherwise.
  *
- * Memory. A slice is a pointer and the number of its values, not of its bytes. What a function may write does not overlap anything else
- * that it is lent. A null pointer, also for a slice of no values, a length that is not that of the memory, and an overlap are the
- * caller's fault; any other argument, whatever its value, is answered. Nothing is allocated or kept, and no function calls any but
- * memcpy, memmove and memset; threads may call them at the same time. 256 KiB of stack are enough.
- *
- * A function that refuses leaves everything lent as it was, unless its own comment says otherwise.
+ * Memory. A slice is a pointer and the number of its values, not of its bytes. Nothing that a function may write need
+ * be set before the call, but for the words of a tick. These are the caller's fault: a null pointer, also for a slice
+ * of no values; a length that is not that of the memory; and what a function may write overlapping anything else that
+ * it is lent, which gives wrong results. Any other argument, whatever its value, is answered. Nothing is allocated or
+ * kept, and no function calls any but memcpy, memmove and memset; threads may call them at the same time. 256 KiB of
+ * stack are enough.
  *
  * A matrix is n * n doubles, row by row. A double that is not a number is always given back as 7FF8000000000000.
+ *
+ * Floating point. All that is said here holds in the default floating-point environment only: rounding to nearest,
+ * subnormal values kept, no exception trapped. In another one a call may answer otherwise or leave other bits, and does
+ * not tell. A program that is linked with -ffast-math or -Ofast, or loads a shared library that is, may have subnormal
+ * values taken as zero everywhere from its start: weimrukas_root(2^-1060) then answers 0 with 2^-1060 as its root, and
+ * a run turns no pair of such entries. With subnormal results alone set to zero such a run may answer 8. After
+ * fesetround(FE_UPWARD) runs give other bits. weimrukas_environment_is_default tells.
  */
 #ifndef WEIMRUKAS_H
 #define WEIMRUKAS_H
 
+#include <float.h>
 #include <stddef.h>
 #include <stdint.h>
 
+/* On a pointer to what a function may write. */
 #ifdef __cplusplus
+#define WEIMRUKAS_RESTRICT
 extern "C" {
+#else
+#define WEIMRUKAS_RESTRICT restrict
 #endif
+
+#define WEIMRUKAS_VERSION "0.2.0"
 
 #define WEIMRUKAS_MOST_LINES 32 /* the largest order */
 #define WEIMRUKAS_MOST_SWEEPS 16
@@ -46,63 +62,96 @@ extern "C" {
 #define WEIMRUKAS_SHEET_LENGTH(n) (2 + (n) + 4 * (n) * ((n) + 1))
 #define WEIMRUKAS_TEXT_LENGTH(n) (15 + (n) * (22 + 17 * (n)))
 
+/*
+ * 1 if the calling thread rounds to nearest and keeps subnormal values, as results and as operands; otherwise 0. Each
+ * operation is on volatile values, so none is left to the compiler, with -ffast-math neither; but with -mfpmath=387 it
+ * looks at other registers than the library's. Whether an exception is trapped it does not tell.
+ */
+static inline int weimrukas_environment_is_default(void) {
+    volatile double one = 1.0, little = DBL_EPSILON / 4, least = DBL_MIN, half = 0.5;
+    volatile double above = one + little, below = one - little;
+    volatile double subnormal = least * half, twice = subnormal + subnormal;
+    return above == one && below == one && twice == least;
+}
+
 /* Sets *root to the f64 nearest to the exact square root of x. 9. */
-uint8_t weimrukas_root(double x, double *root);
+uint8_t weimrukas_root(double x, double *WEIMRUKAS_RESTRICT root);
 
 /*
- * The parameters of a pair with the left line p and the right line q, from a = a_pp, d = a_qq and b = a_pq: *turn is 1 and *t, *c
- * and *s are tangent, cosine and sine; or the pair is still, *turn is 0 and they are +0, 1 and +0.
+ * The parameters of a pair with the left line p and the right line q, from a = a_pp, d = a_qq and b = a_pq: *turn is 1
+ * and *t, *c and *s are tangent, cosine and sine; or the pair is still, *turn is 0 and they are +0, 1 and +0.
  */
-void weimrukas_parameters(double a, double d, double b, uint8_t *turn, double *t, double *c, double *s);
+void weimrukas_parameters(double a, double d, double b, uint8_t *WEIMRUKAS_RESTRICT turn, double *WEIMRUKAS_RESTRICT t,
+                          double *WEIMRUKAS_RESTRICT c, double *WEIMRUKAS_RESTRICT s);
 
 /*
- * The list of pairs of order n in a step, from 0: left[k - 1] and right[k - 1] become the registers of processor k, and 0 above processor
- * n / 2. 1, which sets all to 0; 7 where left or right has fewer than n / 2 values.
+ * The list of pairs of order n in a step, from 0: left[k - 1] and right[k - 1] become the registers of processor k, and
+ * 0 above processor n / 2. 1, which sets all to 0; 7 where left or right has fewer than n / 2 values.
  */
-uint8_t weimrukas_pairs(size_t n, size_t step, size_t *left, size_t left_length, size_t *right, size_t right_length);
+uint8_t weimrukas_pairs(size_t n, size_t step, size_t *WEIMRUKAS_RESTRICT left, size_t left_length,
+                        size_t *WEIMRUKAS_RESTRICT right, size_t right_length);
 
 /*
- * The parameters of the n / 2 pairs of a step, from 0, found from the matrix as lent: t, c and s of processor k become records[3 k - 3],
- * [3 k - 2] and [3 k - 1]; still is +0, 1, +0. What follows stays. 1, 3, 5, 6, 7.
+ * The parameters of the n / 2 pairs of a step, from 0, found from the matrix as lent: t, c and s of processor k become
+ * records[3 k - 3], [3 k - 2] and [3 k - 1]; still is +0, 1, +0. What follows stays. 1, 3, 5, 6, 7.
  */
-uint8_t weimrukas_records(size_t n, const double *matrix, size_t matrix_length, size_t step, double *records, size_t records_length, size_t *row,
-                          size_t *column);
+uint8_t weimrukas_records(size_t n, const double *matrix, size_t matrix_length, size_t step,
+                          double *WEIMRUKAS_RESTRICT records, size_t records_length, size_t *WEIMRUKAS_RESTRICT row,
+                          size_t *WEIMRUKAS_RESTRICT column);
 
 /*
- * The plain run of a number of sweeps: result becomes the last matrix, vectors the eigenvectors, a column each. 1, 2, 3, 5, 6; 8, which
- * fills both with +0.
+ * The plain run of a number of sweeps: result becomes the last matrix, vectors the eigenvectors, a column each. 1, 2,
+ * 3, 5, 6; 8, which fills both with +0.
  */
-uint8_t weimrukas_plain_run(size_t n, size_t sweeps, const double *matrix, size_t matrix_length, double *result, size_t result_length,
-                            double *vectors, size_t vectors_length, size_t *row, size_t *column);
+uint8_t weimrukas_plain_run(size_t n, size_t sweeps, const double *matrix, size_t matrix_length,
+                            double *WEIMRUKAS_RESTRICT result, size_t result_length, double *WEIMRUKAS_RESTRICT vectors,
+                            size_t vectors_length, size_t *WEIMRUKAS_RESTRICT row, size_t *WEIMRUKAS_RESTRICT column);
 
-/* The same by the array; *ticks becomes the number of ticks that it made. It gives the same bits and the same answers. */
-uint8_t weimrukas_array_run(size_t n, size_t sweeps, const double *matrix, size_t matrix_length, double *result, size_t result_length,
-                            double *vectors, size_t vectors_length, size_t *ticks, size_t *row, size_t *column);
+/* The same by the array; *ticks becomes the number of ticks that it made. It gives the same bits and answers. */
+uint8_t weimrukas_array_run(size_t n, size_t sweeps, const double *matrix, size_t matrix_length,
+                            double *WEIMRUKAS_RESTRICT result, size_t result_length, double *WEIMRUKAS_RESTRICT vectors,
+                            size_t vectors_length, size_t *WEIMRUKAS_RESTRICT ticks, size_t *WEIMRUKAS_RESTRICT row,
+                            size_t *WEIMRUKAS_RESTRICT column);
 
 /*
- * Takes a sheet apart: *n and *sweeps, n codes, and the whole matrix. The caller lends as many codes and values as the order asks for, which is
- * the sheet's first byte. 3 for fewer than 2 bytes; 1, 2, 3, 4, 5.
+ * Takes a sheet apart: *n and *sweeps, n codes, and the whole matrix. The caller lends as many codes and values as the
+ * order asks for, which is the sheet's first byte. 3 for fewer than 2 bytes; 1, 2, 3, 4, 5.
  */
-uint8_t weimrukas_read_sheet(const uint8_t *sheet, size_t sheet_length, uint8_t *codes, size_t codes_length, double *matrix,
-                             size_t matrix_length, size_t *n, size_t *sweeps, size_t *row, size_t *column);
+uint8_t weimrukas_read_sheet(const uint8_t *sheet, size_t sheet_length, uint8_t *WEIMRUKAS_RESTRICT codes,
+                             size_t codes_length, double *WEIMRUKAS_RESTRICT matrix, size_t matrix_length,
+                             size_t *WEIMRUKAS_RESTRICT n, size_t *WEIMRUKAS_RESTRICT sweeps,
+                             size_t *WEIMRUKAS_RESTRICT row, size_t *WEIMRUKAS_RESTRICT column);
 
 /* Puts a sheet of WEIMRUKAS_SHEET_LENGTH(n) bytes together. Lent bytes beyond them stay. 1, 2, 3, 4, 5, 6, 7. */
-uint8_t weimrukas_write_sheet(size_t n, size_t sweeps, const uint8_t *codes, size_t codes_length, const double *matrix, size_t matrix_length,
-                              uint8_t *sheet, size_t sheet_length, size_t *row, size_t *column);
+uint8_t weimrukas_write_sheet(size_t n, size_t sweeps, const uint8_t *codes, size_t codes_length, const double *matrix,
+                              size_t matrix_length, uint8_t *WEIMRUKAS_RESTRICT sheet, size_t sheet_length,
+                              size_t *WEIMRUKAS_RESTRICT row, size_t *WEIMRUKAS_RESTRICT column);
 
 /*
- * Reads a sheet, runs the array and puts the printed sheet into text, as ASCII without a final zero; *length becomes the number of its bytes.
- * The rest of text stays. 3 for fewer than 2 bytes, 1, 2, 3, 4, 5, all of the sheet; 7 for a text shorter than WEIMRUKAS_TEXT_LENGTH(n); 8.
- * A refusal other than 7 puts its line, `refused` and the number, into a text of at least 13 bytes. Where nothing is put, *length is 0.
+ * Reads a sheet, runs the array and puts the printed sheet into text, as ASCII without a final zero; *length becomes
+ * the number of its bytes. The rest of text stays. 3 for fewer than 2 bytes, 1, 2, 3, 4, 5, all of the sheet; 7 for a
+ * text shorter than WEIMRUKAS_TEXT_LENGTH(n); 8. A refusal changes nothing of text and sets *length to 0.
  */
-uint8_t weimrukas_list(const uint8_t *sheet, size_t sheet_length, uint8_t *text, size_t text_length, size_t *length, size_t *row, size_t *column);
+uint8_t weimrukas_list(const uint8_t *sheet, size_t sheet_length, uint8_t *WEIMRUKAS_RESTRICT text, size_t text_length,
+                       size_t *WEIMRUKAS_RESTRICT length, size_t *WEIMRUKAS_RESTRICT row,
+                       size_t *WEIMRUKAS_RESTRICT column);
 
 /*
  * The array by hand. Its record is WEIMRUKAS_ARRAY_WORDS words: n, sweeps and the number of the next tick, and then
- * WEIMRUKAS_MOST_PROCESSORS rows of as many tiles, each of WEIMRUKAS_TILE_WORDS: the cells of the matrix (alpha, beta, gamma, delta: row
- * by row) and of the eigenvectors, the matrix lines and the vector lines by the same corners, the tangents that it sends along its row and
- * its column, all as bits of doubles, and 1 where it is marked, otherwise 0. A record that a caller wrote may hold any words: each pattern of
- * no number counts as 7FF8000000000000, each mark but 0 as 1, and a tick that is made writes all words anew in that form.
+ * WEIMRUKAS_MOST_PROCESSORS rows of as many tiles, of which the first n / 2 of the first n / 2 rows are in use. A tile
+ * has WEIMRUKAS_TILE_WORDS: the cells of the matrix (alpha, beta, gamma, delta: row by row) and of the eigenvectors,
+ * the wires of the matrix and of the eigenvectors by the same corners, the tangents that it sends along its row and its
+ * column, all as bits of doubles, and its mark.
+ *
+ * The mark of a tile in use is 1 if one of its cells was not finite after some tick, and stays so; otherwise it is 0.
+ * Where a tile is marked at the end, the whole run by one call answers 8. Otherwise entry (r, c) of the results, both
+ * from 1, stands at the end with processor (r - 1) / 2, register (r - 1) % 2 by rows and processor (c - 1) / 2,
+ * register (c - 1) % 2 by columns, processors from 0: that of the matrix is the cell
+ * words[WEIMRUKAS_TILE((r - 1) / 2, (c - 1) / 2) + 2 * ((r - 1) % 2) + (c - 1) % 2], that of the eigenvectors 4 words
+ * further.
+ *
+ * A record that a caller wrote may hold any words: each pattern of no number counts as 7FF8000000000000, each mark but
+ * 0 as 1, and a tick that is made writes all words anew in that form.
  */
 #define WEIMRUKAS_TILE_WORDS 19
 #define WEIMRUKAS_ARRAY_WORDS (3 + WEIMRUKAS_MOST_PROCESSORS * WEIMRUKAS_MOST_PROCESSORS * WEIMRUKAS_TILE_WORDS)
@@ -110,15 +159,22 @@ uint8_t weimrukas_list(const uint8_t *sheet, size_t sheet_length, uint8_t *text,
 /* Where the tile in row i and column j, both from 0, begins. */
 #define WEIMRUKAS_TILE(i, j) (3 + (WEIMRUKAS_MOST_PROCESSORS * (i) + (j)) * WEIMRUKAS_TILE_WORDS)
 
-/* The array before its first tick. 1, 2, 3, 5, 6, each of which sets all words to 0 where there are WEIMRUKAS_ARRAY_WORDS of them. */
-uint8_t weimrukas_array_start(size_t n, size_t sweeps, const double *matrix, size_t matrix_length, uint64_t *words, size_t words_length,
-                              size_t *row, size_t *column);
+/*
+ * The array before its first tick. 1, 2, 3, 5, 6, each of which sets all words to 0 where there are
+ * WEIMRUKAS_ARRAY_WORDS of them.
+ */
+uint8_t weimrukas_array_start(size_t n, size_t sweeps, const double *matrix, size_t matrix_length,
+                              uint64_t *WEIMRUKAS_RESTRICT words, size_t words_length, size_t *WEIMRUKAS_RESTRICT row,
+                              size_t *WEIMRUKAS_RESTRICT column);
 
 /*
- * One tick: *made becomes 1. After the last tick, 3 sweeps (n - 1) + n / 2 in all, the array has stopped: the words stay and *made becomes 0.
- * 3 for other than WEIMRUKAS_ARRAY_WORDS words; 1, 2, by the record's n and sweeps.
+ * One tick: *made becomes 1. After the last tick, 3 sweeps (n - 1) + n / 2 in all, the array has stopped: the words
+ * stay and *made becomes 0. 3 for other than WEIMRUKAS_ARRAY_WORDS words; 1, 2, by the record's n and sweeps; each sets
+ * *made to 0.
  */
-uint8_t weimrukas_array_tick(uint64_t *words, size_t words_length, uint8_t *made);
+uint8_t weimrukas_array_tick(uint64_t *WEIMRUKAS_RESTRICT words, size_t words_length, uint8_t *WEIMRUKAS_RESTRICT made);
+
+#undef WEIMRUKAS_RESTRICT
 
 #ifdef __cplusplus
 }

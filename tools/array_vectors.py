@@ -1,8 +1,6 @@
 #!/usr/bin/env python3
 """Writes crates/test_runs/stdin and crates/test_runs/stdout: whole runs of the array, runs by hand, single
-ticks of wild records and runs by plain sweeps, and what comes of them by document 01, "The array". Run it as
-
-    python3 tools/array_vectors.py
+ticks of wild records and runs by plain sweeps, and what comes of them by document 01, "The array".
 
 The tiles, the wires and the ticks follow the documents: document 01, "The array"; document 000, the
 connections and Algorithm Interchange; document 003, Program 3. Tiles, rows and columns are counted from 1
@@ -16,16 +14,17 @@ A case begins with a word for its kind.
    the refusal of the start, if it is refused, then what the last tick answered (0 made, 1 stopped,
    2 refused, 3 there was none), and of the last record n, the sweeps, the tick and the N by N tiles, row by
    row.
-2, a tick of a wild record: n, the sweeps, the tick, and the word that every cell and line of all tiles
+2, a tick of a wild record: n, the sweeps, the tick, and the word that every cell and wire of all tiles
    holds. The answer is that of the tick, followed by its number if it is refused, and of the record given
    back n, the sweeps, the tick and the tiles P_11, P_12, P_21 and P_16,16.
 3, a run by plain sweeps: n, the sweeps, the lengths of the matrix and of both results, the word that these are
    filled with, and the matrix. The answer is the refusal, if it is refused, and both results.
 
-Of a tile these are printed: the cells α β γ δ of the matrix and of the vectors, the lines that leave by
-α β γ δ with values of the matrix and of the vectors, the parameter lines along the row and along the
+Of a tile these are printed: the cells α β γ δ of the matrix and of the vectors, the wires that leave by
+α β γ δ with values of the matrix and of the vectors, the parameter wires along the row and along the
 column, and the mark.
 """
+import argparse
 import functools
 import math
 import pathlib
@@ -604,6 +603,7 @@ def all_lines(rng):
 
 
 def main():
+    argparse.ArgumentParser(description=__doc__.split("\n\n")[0], epilog="It takes no arguments.").parse_args()
     rng = random.Random(1985)
     check_wires()
     check_runs(rng, 3)

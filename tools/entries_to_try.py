@@ -2,6 +2,7 @@
 """Writes crates/test_entries/stdout: what the calls of document 01, "Entries to try", answer and leave, by the models of
 the other files here. What document 01 itself says of an entry is asserted.
 """
+import argparse
 import pathlib
 import sys
 
@@ -118,6 +119,7 @@ def all_lines():
 
 
 def main():
+    argparse.ArgumentParser(description=__doc__.split("\n\n")[0], epilog="It takes no arguments.").parse_args()
     unchanged = plain.outcome_of(plain.case_of(*RUNS[0][:3]))
     assert unchanged.result == RUNS[0][2] and unchanged.vectors == [plain.ONE, plain.ZERO, plain.ZERO, plain.ONE]
     folder = pathlib.Path(__file__).resolve().parent.parent / "crates" / "test_entries"

@@ -224,7 +224,8 @@ def write_samples(folder, seed):
 
 
 def main():
-    options = argparse.ArgumentParser(description="Prints the sheet on standard input.")
+    told = "Prints the sheet on standard input as document 01's listing program does, by the plain run in Python."
+    options = argparse.ArgumentParser(description=told)
     options.add_argument("--samples", metavar="FOLDER", type=pathlib.Path, help="write samples instead")
     options.add_argument("--seed", metavar="NUMBER", type=int, default=1979, help="the seed of the samples")
     given = options.parse_args()

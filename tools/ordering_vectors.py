@@ -5,6 +5,7 @@ the list of pairs is by document 01, "Pairs and their movement".
 The registers are moved one by one, until they stand as at first. The lists of later steps repeat
 those.
 """
+import argparse
 import itertools
 import pathlib
 
@@ -117,6 +118,7 @@ def answer_of(n, step):
 
 
 def main():
+    argparse.ArgumentParser(description=__doc__.split("\n\n")[0], epilog="It takes no arguments.").parse_args()
     for n, step, listed in EXAMPLES:
         assert pairs(n, step) == listed, (n, step)
     for n in ROUND_TRIPS:

@@ -1,9 +1,11 @@
 """Orders, sweeps and matrices, and what the plain run makes of them by document 01, "One rotation",
-"Pairs and their movement" and "Refused, by place". array_vectors.py writes them to files.
+"Pairs and their movement" and "Refused, by place". array_vectors.py writes them to files; run alone, this file only
+makes and checks them, and prints how many there are.
 
 The arithmetic is that of Python's float, which is binary64 rounded to nearest. No operation here is
 fused with another, and none divides by zero.
 """
+import argparse
 import collections
 import math
 import random
@@ -657,3 +659,12 @@ def all_lines():
     print(f"{len(cases)} plain runs")
     for (case, outcome), fill in zip(cases, finite_patterns(rng)):
         yield lines_of(head(case, fill) + case.matrix), answer_of(case, fill, outcome)
+
+
+def main():
+    argparse.ArgumentParser(description=__doc__.split("\n\n")[0], epilog="It takes no arguments.").parse_args()
+    list(all_lines())
+
+
+if __name__ == "__main__":
+    main()

@@ -5,6 +5,7 @@ the step by document 01, "One rotation", last paragraph, and "Refused, by place"
 Matrices of all kinds and the parameters of a pair come from plain_vectors.py. The pair of a processor is found
 here by its own rule: the lines stand on a ring of n - 1 registers, beside line 1, and move by one place a step.
 """
+import argparse
 import math
 import pathlib
 import random
@@ -92,6 +93,7 @@ def cases(rng):
 
 
 def main():
+    argparse.ArgumentParser(description=__doc__.split("\n\n")[0], epilog="It takes no arguments.").parse_args()
     folder = pathlib.Path(__file__).resolve().parent.parent / "crates" / "test_records"
     rng = random.Random(8)
     given, answers, count = [], [], 0

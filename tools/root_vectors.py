@@ -4,6 +4,7 @@ what the square root of each is by document 01, "Square root".
 
 The roots are worked out here with whole numbers alone. math.sqrt is only held against them.
 """
+import argparse
 import math
 import pathlib
 import random
@@ -188,6 +189,7 @@ def check(pattern, root):
 
 
 def main():
+    argparse.ArgumentParser(description=__doc__.split("\n\n")[0], epilog="It takes no arguments.").parse_args()
     for pattern, root in EXAMPLES:
         assert square_root(pattern) == root, f"{pattern:016X}"
     lines, answers = [], []

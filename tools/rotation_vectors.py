@@ -6,6 +6,7 @@ document 01, "One rotation".
 The operations are worked out here with whole numbers alone. Python's own are only held against
 them.
 """
+import argparse
 import itertools
 import math
 import pathlib
@@ -309,6 +310,7 @@ def check(pair, answer):
 
 
 def main():
+    argparse.ArgumentParser(description=__doc__.split("\n\n")[0], epilog="It takes no arguments.").parse_args()
     for pair, answer in EXAMPLES:
         assert parameters(pair) == answer, pair
     still = "still\n"

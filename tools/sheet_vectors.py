@@ -1,8 +1,6 @@
 #!/usr/bin/env python3
 """Writes crates/test_sheets/stdin and crates/test_sheets/stdout: sheets to be read and matrices to be
-written as sheets, and what comes of them by document 01, "A sheet" and "Refused, by place". Run it as
-
-    python3 tools/sheet_vectors.py
+written as sheets, and what comes of them by document 01, "A sheet" and "Refused, by place".
 
 All input, and all output but refusals, is words of 16 hexadecimal digits in capital letters, one to a line.
 Values are their patterns, one to a word. Bytes are packed eight to a word, the first in the highest byte,
@@ -24,6 +22,7 @@ line "column", each with a space and the figure in decimal.
 
 Patterns are judged as whole numbers, and nothing is worked out with values.
 """
+import argparse
 import collections
 import itertools
 import pathlib
@@ -666,6 +665,7 @@ def all_lines(rng):
 
 
 def main():
+    argparse.ArgumentParser(description=__doc__.split("\n\n")[0], epilog="It takes no arguments.").parse_args()
     check_examples()
     made = all_lines(random.Random(1981))
     crate = pathlib.Path(__file__).resolve().parent.parent / "crates" / "test_sheets"

@@ -5,6 +5,7 @@ specs/Toy.antt, worked out here and computed there by the definitions of the cra
 The model follows the documents and not those definitions: document 01, "Pairs and their movement", "Plain run" and "The array"; document
 000, the connections and Algorithm Interchange; document 003, Program 3. Processors, rows and columns are counted from 1 as there.
 """
+import argparse
 import pathlib
 
 ALPHA, BETA, GAMMA, DELTA = "αβγδ"
@@ -601,6 +602,7 @@ def imports(names):
 
 
 def main():
+    argparse.ArgumentParser(description=__doc__.split("\n\n")[0], epilog="It takes no arguments.").parse_args()
     check_model()
     theorems = Theorems()
     registers_theorems(theorems)

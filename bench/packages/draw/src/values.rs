@@ -1,0 +1,98 @@
+//! Draws of f64 values.
+use crate::Random;
+
+const SIGN: u64 = 1 << 63;
+/// One in the exponent's lowest bit.
+const POWER: u64 = 1 << 52;
+/// The exponent of infinities and of patterns that are not numbers.
+const TOP: u64 = 0x7FF * POWER;
+
+/// Kinds of entries that a matrix may have.
+pub const ENTRY_KINDS: usize = 10;
+
+impl Random {
+    /// A value from -1 to 1.
+    pub fn unit(&mut self) -> f64 {
+        (self.word() >> 11) as f64 / POWER as f64 - 1.0
+    }
+
+    /// Any of the 2^64 patterns; those that are rare among them more often.
+    pub fn pattern(&mut self) -> f64 {
+        let sign = self.word() & SIGN;
+        let bits = match self.below(8) {
+            0..=2 => self.word(),
+            3 => self.not_finite().to_bits(),
+            4 => 0,
+            5 => self.word() % POWER,
+            6 => {
+                let power = self.word() % SIGN / POWER * POWER;
+                self.near(power)
+            }
+            _ => (self.below(1 << 16) as f64).to_bits(),
+        };
+        f64::from_bits(bits ^ sign)
+    }
+
+    /// An infinity, or a pattern of any sign and payload that is not a number.
+    pub fn not_finite(&mut self) -> f64 {
+        let sign = self.word() & SIGN;
+        let bits = match self.below(4) {
+            0 => TOP,
+            1 => TOP + 1,
+            2 => TOP + POWER / 2,
+            _ => TOP + (1 + self.word() % (POWER - 1)),
+        };
+        f64::from_bits(bits | sign)
+    }
+
+    pub fn finite(&mut self) -> f64 {
+        loop {
+            let x = self.pattern();
+            if x.is_finite() {
+                return x;
+            }
+        }
+    }
+
+    /// A pattern at most three from the given one.
+    fn near(&mut self, bits: u64) -> u64 {
+        bits.wrapping_add(self.below(7) as u64).wrapping_sub(3)
+    }
+
+    /// At most three patterns from the square of an f64. Among them are those whose roots are nearest to a tie.
+    pub fn near_square(&mut self) -> f64 {
+        let y = 1.0 + self.unit().abs();
+        let scale = 2f64.powi(self.below(2040) as i32 - 1020);
+        f64::from_bits(self.near((y * y * scale).to_bits()))
+    }
+
+    /// An entry of one of `ENTRY_KINDS` kinds. Three are ordinary; the others are huge, as large as can be, any finite
+    /// pattern, tiny, a few times the smallest, small whole numbers, or zeros with a few of those.
+    pub fn entry(&mut self, kind: usize) -> f64 {
+        match kind {
+            0..=2 => self.unit(),
+            3 => self.unit() * 2f64.powi(1019),
+            4 => f64::MAX.copysign(self.unit()),
+            5 => self.finite(),
+            6 => self.unit() * 2f64.powi(-520) * 2f64.powi(-520),
+            7 => f64::from_bits(self.below(8) as u64).copysign(self.unit()),
+            8 => (self.below(4) as f64).copysign(self.unit()),
+            _ => ((self.below(17) / 16) as f64).copysign(self.unit()),
+        }
+    }
+
+    /// What a lent row of values holds beforehand: any patterns.
+    pub fn filled(&mut self, length: usize) -> Vec<f64> {
+        (0..length).map(|_| f64::from_bits(self.word())).collect()
+    }
+
+    /// Entries a_pp, a_qq and a_pq of a pair.
+    pub fn pair(&mut self) -> [f64; 3] {
+        let (kind, scale) = (self.below(ENTRY_KINDS), self.below(200) as i32 - 100);
+        match self.below(3) {
+            0 => [0; 3].map(|_| self.pattern()),
+            1 => [0, 0, scale].map(|scale| self.unit() * 2f64.powi(scale)),
+            _ => [0; 3].map(|_| self.entry(kind)),
+        }
+    }
+}

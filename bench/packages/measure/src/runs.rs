@@ -1,0 +1,81 @@
+//! The plain run and the array's whole run, by order and by sweeps.
+use crate::orders::{self, Call};
+use crate::rounds::{fastest, round, shown};
+use draw::{Lent, Random};
+
+use reference::array;
+use reference::plain::{self, Tested};
+use reference::sizes::MOST_LINES;
+
+pub const SWEEPS: usize = 8;
+
+pub fn measure_orders(random: &mut Random) {
+    let names = ["plain", "array"].map(|run| format!("{run} run, {SWEEPS} sweeps"));
+    let calls: [Call<Lent>; 4] = [
+        library_plain,
+        reference_plain,
+        library_array,
+        reference_array,
+    ];
+    let names = names.each_ref().map(String::as_str);
+    orders::measure(names, calls, |n| drawn(n, SWEEPS, random));
+}
+
+/// How the library's time grows with the sweeps at the largest order.
+pub fn measure_sweeps(random: &mut Random) {
+    let n = MOST_LINES;
+    println!(
+        "| n | sweeps | plain run | times 1 sweep | array run | times 1 sweep | array / plain |"
+    );
+    println!("|---|---|---|---|---|---|---|");
+    let mut first = None;
+    for sweeps in [1, 2, 4, 8, 16] {
+        let all = drawn(n, sweeps, random);
+        let times = fastest([round(&all, library_plain), round(&all, library_array)]);
+        let [one_plain, one_array] = *first.get_or_insert(times);
+        let [plain, array] = times;
+        println!(
+            "| {n} | {sweeps} | {} | {:.2} | {} | {:.2} | {:.2} |",
+            shown(plain),
+            plain / one_plain,
+            shown(array),
+            array / one_array,
+            array / plain
+        );
+    }
+}
+
+/// The matrices of a round: fewer of a larger order, so that a round is short.
+fn drawn(n: usize, sweeps: usize, random: &mut Random) -> Vec<Lent> {
+    let draw = |_| Lent::drawn(n, sweeps, random, Random::unit);
+    (0..MOST_LINES * MOST_LINES / (n * n)).map(draw).collect()
+}
+
+fn library_plain(lent: &mut Lent) -> bool {
+    let (result, vectors) = (&mut lent.result, &mut lent.vectors);
+    weimrukas::plain_run(lent.n, lent.sweeps, &lent.matrix, result, vectors).is_ok()
+}
+
+/// It tests for refusal 8 at the end only, as the library does.
+fn reference_plain(lent: &mut Lent) -> bool {
+    let (result, vectors) = (&mut lent.result, &mut lent.vectors);
+    plain::run(
+        lent.n,
+        lent.sweeps,
+        &lent.matrix,
+        result,
+        vectors,
+        Tested::End,
+    )
+    .is_ok()
+}
+
+fn library_array(lent: &mut Lent) -> bool {
+    let (result, vectors) = (&mut lent.result, &mut lent.vectors);
+    weimrukas::array_run(lent.n, lent.sweeps, &lent.matrix, result, vectors).is_ok()
+}
+
+fn reference_array(lent: &mut Lent) -> bool {
+    let (result, vectors) = (&mut lent.result, &mut lent.vectors);
+    array::run(lent.n, lent.sweeps, &lent.matrix, result, vectors).is_ok()
+}

@@ -1,0 +1,41 @@
+//! Reading and writing sheets.
+use crate::orders::{self, Call};
+use crate::runs::SWEEPS;
+use draw::{Contents, Lent, Random};
+
+use reference::sheet;
+
+const SHEETS: usize = 64;
+
+pub fn measure(random: &mut Random) {
+    let calls: [Call<Contents>; 4] = [library_read, reference_read, library_write, reference_write];
+    orders::measure(["read sheet", "write sheet"], calls, |n| {
+        (0..SHEETS).map(|_| drawn(n, random)).collect()
+    });
+}
+
+/// Contents, and their sheet.
+fn drawn(n: usize, random: &mut Random) -> Contents {
+    let lent = Lent::drawn(n, SWEEPS, random, Random::unit);
+    let mut contents = Contents::of_run(lent, random);
+    assert!(reference_write(&mut contents), "the contents are valid");
+    contents
+}
+
+fn library_read(lent: &mut Contents) -> bool {
+    weimrukas::read_sheet(&lent.sheet, &mut lent.codes, &mut lent.matrix).is_ok()
+}
+
+fn reference_read(lent: &mut Contents) -> bool {
+    sheet::read(&lent.sheet, &mut lent.codes, &mut lent.matrix).is_ok()
+}
+
+fn library_write(lent: &mut Contents) -> bool {
+    let (codes, matrix) = (&lent.codes, &lent.matrix);
+    weimrukas::write_sheet(lent.n, lent.sweeps, codes, matrix, &mut lent.sheet).is_ok()
+}
+
+fn reference_write(lent: &mut Contents) -> bool {
+    let (codes, matrix) = (&lent.codes, &lent.matrix);
+    sheet::write(lent.n, lent.sweeps, codes, matrix, &mut lent.sheet).is_ok()
+}

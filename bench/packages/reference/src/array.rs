@@ -1,0 +1,169 @@
+//! The array and its whole run (document 01, "The array"), with the processor's square root.
+use crate::checks;
+use crate::sizes::{self, MOST_TILES};
+use crate::tile::{Cell, Tile};
+use crate::Refusal;
+
+/// The tiles in use, row by row, as many rows as columns; the number of steps, and that of the next tick.
+pub struct Array {
+    pub side: usize,
+    pub steps: usize,
+    pub tick: usize,
+    pub tiles: Vec<Tile>,
+}
+
+/// What a tile does in a tick. The first rotation reads no cells, and stopping is reading without rotating.
+#[derive(Clone, Copy)]
+enum Action {
+    Nothing,
+    First,
+    Rotate,
+    Phase1,
+    Phase2,
+    Stop,
+}
+
+/// What the tiles at each distance from the diagonal do.
+type Actions = [Action; MOST_TILES];
+
+/// Runs the sweeps, leaves the last matrix and the eigenvectors in the two results, and answers how many ticks were
+/// made.
+pub fn run(
+    n: usize,
+    sweeps: usize,
+    matrix: &[f64],
+    result: &mut [f64],
+    vectors: &mut [f64],
+) -> Result<usize, Refusal> {
+    checks::run(n, sweeps, matrix, result.len(), vectors.len())?;
+    let mut array = Array::of_matrix(n, sweeps, matrix);
+    for _ in 0..sizes::ticks(n, sweeps) {
+        array.make_tick();
+    }
+    if array.tiles.iter().any(|tile| tile.marked) {
+        result.fill(0.0);
+        vectors.fill(0.0);
+        return Err(Refusal::of(8));
+    }
+    array.write_cells(result, vectors);
+    Ok(array.tick)
+}
+
+impl Array {
+    pub fn of_matrix(n: usize, sweeps: usize, matrix: &[f64]) -> Array {
+        let side = n / 2;
+        let mut tiles = vec![Tile::default(); side * side];
+        for (k, &entry) in matrix.iter().enumerate() {
+            let (i, j) = (k / n, k % n);
+            let vector = if i == j { 1.0 } else { 0.0 };
+            tiles[i / 2 * side + j / 2].cells[i % 2][j % 2] = Cell { entry, vector };
+        }
+        Array {
+            side,
+            steps: sweeps * (n - 1),
+            tick: 0,
+            tiles,
+        }
+    }
+
+    fn write_cells(&self, result: &mut [f64], vectors: &mut [f64]) {
+        let n = 2 * self.side;
+        for k in 0..n * n {
+            let (i, j) = (k / n, k % n);
+            let cell = self.tiles[i / 2 * self.side + j / 2].cells[i % 2][j % 2];
+            (result[k], vectors[k]) = (cell.entry, cell.vector);
+        }
+    }
+
+    /// Makes a tick. Tiles are marked where their cells may have changed.
+    pub fn make_tick(&mut self) {
+        let actions = self.actions();
+        self.read_wires(actions);
+        self.work(actions);
+        self.tick += 1;
+    }
+
+    fn actions(&self) -> Actions {
+        let last = 3 * self.steps;
+        std::array::from_fn(|away| match self.tick.checked_sub(away) {
+            Some(since) if since < last => match since % 3 {
+                0 if since == 0 => Action::First,
+                0 => Action::Rotate,
+                1 => Action::Phase1,
+                _ => Action::Phase2,
+            },
+            Some(since) if since == last && last > 0 => Action::Stop,
+            _ => Action::Nothing,
+        })
+    }
+
+    /// All tiles read before any tile sets the wires of its corners.
+    fn read_wires(&mut self, actions: Actions) {
+        for i in 0..self.side {
+            for j in 0..self.side {
+                match actions[i.abs_diff(j)] {
+                    Action::First => self.read_tangents(i, j),
+                    Action::Rotate => {
+                        self.read_tangents(i, j);
+                        self.read_cells(i, j);
+                    }
+                    Action::Stop => self.read_cells(i, j),
+                    Action::Nothing | Action::Phase1 | Action::Phase2 => {}
+                }
+            }
+        }
+    }
+
+    fn work(&mut self, actions: Actions) {
+        let last = self.side - 1;
+        for (i, row) in self.tiles.chunks_exact_mut(self.side).enumerate() {
+            for (j, tile) in row.iter_mut().enumerate() {
+                match actions[i.abs_diff(j)] {
+                    Action::First | Action::Rotate => {
+                        tile.rotate(i, j);
+                        tile.mark();
+                        tile.set_wires_in_phase_0(i, j);
+                    }
+                    Action::Phase1 => tile.set_wires_in_phase_1(i, j, last),
+                    Action::Phase2 => tile.set_wires_in_phase_2(i, j, last),
+                    Action::Stop => tile.mark(),
+                    Action::Nothing => {}
+                }
+            }
+        }
+    }
+
+    /// Off the diagonal a tile passes on what it reads. Those that read it in turn are a tick behind.
+    fn read_tangents(&mut self, i: usize, j: usize) {
+        if i != j {
+            let nearer = |i: usize, j: usize| if i < j { j - 1 } else { j + 1 };
+            let row = self.tile(i, nearer(i, j)).row;
+            let column = self.tile(nearer(j, i), j).column;
+            let tile = &mut self.tiles[i * self.side + j];
+            (tile.row, tile.column) = (row, column);
+        }
+    }
+
+    /// The wires come from the neighbours' facing corners. At an edge a row or column is its own neighbour.
+    fn read_cells(&mut self, i: usize, j: usize) {
+        let last = self.side - 1;
+        let (above, lower) = if i == 0 { (0, 0) } else { (i - 1, 1) };
+        let (below, upper) = if i == last { (i, 1) } else { (i + 1, 0) };
+        let (before, right) = if j == 0 { (0, 0) } else { (j - 1, 1) };
+        let (after, left) = if j == last { (j, 1) } else { (j + 1, 0) };
+        self.tiles[i * self.side + j].cells = [
+            [
+                self.tile(above, before).wires[lower][right],
+                self.tile(above, after).wires[lower][left],
+            ],
+            [
+                self.tile(below, before).wires[upper][right],
+                self.tile(below, after).wires[upper][left],
+            ],
+        ];
+    }
+
+    fn tile(&self, i: usize, j: usize) -> &Tile {
+        &self.tiles[i * self.side + j]
+    }
+}

@@ -1,0 +1,62 @@
+//! What is tested before a call does anything (document 01, "Refused, by place").
+use crate::sizes::{MOST_LINES, MOST_SWEEPS};
+use crate::Refusal;
+
+pub fn order(n: usize) -> Result<(), Refusal> {
+    accepted_if(n.is_multiple_of(2) && (2..=MOST_LINES).contains(&n), 1)
+}
+
+pub fn sweeps(sweeps: usize) -> Result<(), Refusal> {
+    accepted_if(sweeps <= MOST_SWEEPS, 2)
+}
+
+/// Each length that was found beside the one that is asked for.
+pub fn lengths(pairs: &[(usize, usize)]) -> Result<(), Refusal> {
+    accepted_if(pairs.iter().all(|(found, asked)| found == asked), 3)
+}
+
+pub fn codes(codes: &[u8]) -> Result<(), Refusal> {
+    let is_bad = |(k, code): (usize, &u8)| *code == 0 || codes[..k].contains(code);
+    accepted_if(!codes.iter().enumerate().any(is_bad), 4)
+}
+
+/// All entries are tested for 5 before any for 6.
+pub fn entries(n: usize, matrix: &[f64]) -> Result<(), Refusal> {
+    if let Some(k) = matrix.iter().position(|x| !x.is_finite()) {
+        return Err(Refusal::at(5, k / n + 1, k % n + 1));
+    }
+    let bits = |i: usize, j: usize| matrix[i * n + j].to_bits();
+    for i in 0..n {
+        if let Some(j) = (i + 1..n).find(|&j| bits(i, j) != bits(j, i)) {
+            return Err(Refusal::at(6, i + 1, j + 1));
+        }
+    }
+    Ok(())
+}
+
+/// A lent buffer that may be longer than is asked for.
+pub fn room(found: usize, asked: usize) -> Result<(), Refusal> {
+    accepted_if(found >= asked, 7)
+}
+
+/// A run of either kind, by the lengths of its results.
+pub fn run(
+    n: usize,
+    sweeps: usize,
+    matrix: &[f64],
+    result: usize,
+    vectors: usize,
+) -> Result<(), Refusal> {
+    order(n)?;
+    self::sweeps(sweeps)?;
+    lengths(&[(matrix.len(), n * n), (result, n * n), (vectors, n * n)])?;
+    entries(n, matrix)
+}
+
+fn accepted_if(condition: bool, number: u8) -> Result<(), Refusal> {
+    if condition {
+        Ok(())
+    } else {
+        Err(Refusal::of(number))
+    }
+}

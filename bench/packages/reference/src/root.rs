@@ -1,0 +1,45 @@
+//! The square root by whole numbers (document 01, "Square root").
+use crate::Refusal;
+
+/// The first of the 53 digits of a value, which its pattern leaves out.
+const HIDDEN: u64 = 1 << 52;
+
+/// The f64 nearest to the exact root.
+pub fn nearest(x: f64) -> Result<f64, Refusal> {
+    if x.is_nan() || x < 0.0 {
+        return Err(Refusal::of(9));
+    }
+    if x == 0.0 || x.is_infinite() {
+        return Ok(x);
+    }
+    let (digits, exponent) = taken_apart(x);
+    let odd = exponent.rem_euclid(2);
+    let square = (digits as u128) << (52 + odd);
+    Ok(put_together(
+        nearest_whole(square),
+        (exponent - odd - 52) / 2,
+    ))
+}
+
+/// A finite value above zero as 53 digits and the exponent of the power of two that they are multiplied by.
+fn taken_apart(x: f64) -> (u64, i32) {
+    let (exponent, fraction) = ((x.to_bits() >> 52) as i32, x.to_bits() % HIDDEN);
+    if exponent > 0 {
+        return (HIDDEN + fraction, exponent - 1075);
+    }
+    let missing = HIDDEN.leading_zeros().abs_diff(fraction.leading_zeros());
+    (fraction << missing, -1074 - missing as i32)
+}
+
+/// The inverse, for an exponent of a normal value.
+fn put_together(digits: u64, exponent: i32) -> f64 {
+    f64::from_bits((((exponent + 1075) as u64) << 52) + (digits - HIDDEN))
+}
+
+/// The whole number nearest to the root of a square of 105 or 106 digits: r or r + 1, as the square of r + 1/2 is above
+/// or below. It is never equal.
+fn nearest_whole(square: u128) -> u64 {
+    let r = square.isqrt();
+    let above = (2 * r + 1).pow(2) < 4 * square;
+    r as u64 + above as u64
+}

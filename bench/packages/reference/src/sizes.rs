@@ -1,0 +1,32 @@
+//! The sizes that the header and document 01 fix.
+
+/// The largest order.
+pub const MOST_LINES: usize = 32;
+pub const MOST_SWEEPS: usize = 16;
+
+/// Tiles in a row and in a column of an array's record.
+pub const MOST_TILES: usize = MOST_LINES / 2;
+/// Words before the first tile: the order, the sweeps and the number of the next tick.
+pub const HEAD_WORDS: usize = 3;
+pub const TILE_WORDS: usize = 19;
+pub const ARRAY_WORDS: usize = HEAD_WORDS + MOST_TILES * MOST_TILES * TILE_WORDS;
+
+/// The length of a sheet of order n.
+pub const fn sheet_length(n: usize) -> usize {
+    2 + n + 4 * n * (n + 1)
+}
+
+/// Bytes that are enough for the listing of a sheet of order n.
+pub const fn text_length(n: usize) -> usize {
+    15 + n * (22 + 17 * n)
+}
+
+/// Where the tile in row i and column j, both from 0, begins in the words of an array.
+pub const fn tile(i: usize, j: usize) -> usize {
+    HEAD_WORDS + (MOST_TILES * i + j) * TILE_WORDS
+}
+
+/// The number of ticks of a run.
+pub const fn ticks(n: usize, sweeps: usize) -> usize {
+    3 * sweeps * (n - 1) + n / 2
+}

@@ -1,0 +1,129 @@
+//! One tile: its rotation, its wires, its mark (document 01, "The array"). Rows and columns of tiles are counted from
+//! 0.
+use crate::rotation::{of_tangent, parameters, Turn};
+
+/// An entry of the matrix and the like entry of the eigenvectors, which move together.
+#[derive(Clone, Copy, Default)]
+pub struct Cell {
+    pub entry: f64,
+    pub vector: f64,
+}
+
+/// A value for each corner α β / γ δ, by its row and its column.
+pub type Corners = [[Cell; 2]; 2];
+
+/// Beside its cells a tile holds its outgoing wires: one by each corner, and those that pass a tangent along its row
+/// and its column.
+#[derive(Clone, Copy, Default)]
+pub struct Tile {
+    pub cells: Corners,
+    pub wires: Corners,
+    pub row: f64,
+    pub column: f64,
+    pub marked: bool,
+}
+
+impl Tile {
+    /// Off the diagonal the tile turns by the tangents that its parameter wires hold.
+    pub fn rotate(&mut self, i: usize, j: usize) {
+        if i == j {
+            self.rotate_on_diagonal();
+        } else {
+            self.rotate_off_diagonal(i < j);
+        }
+    }
+
+    fn rotate_on_diagonal(&mut self) {
+        let [[a, b], [_, d]] = self.cells.map(|row| row.map(|cell| cell.entry));
+        let turn = parameters(a, d, b);
+        let (t, a, d) = match turn {
+            Some(Turn { t, .. }) => (t, a - t * b, d + t * b),
+            None => (0.0, a, d),
+        };
+        self.turn_columns(turn);
+        let [[alpha, beta], [gamma, delta]] = &mut self.cells;
+        (alpha.entry, beta.entry) = (a, 0.0);
+        (gamma.entry, delta.entry) = (0.0, d);
+        (self.row, self.column) = (t, t);
+    }
+
+    /// Above the diagonal the rows are turned first, below it the columns.
+    fn rotate_off_diagonal(&mut self, above: bool) {
+        let rows = of_tangent(self.row);
+        let columns = of_tangent(self.column);
+        if above {
+            self.turn_rows(rows);
+            self.turn_columns(columns);
+        } else {
+            self.turn_columns(columns);
+            self.turn_rows(rows);
+        }
+    }
+
+    /// The row turn, which the eigenvectors do not get.
+    fn turn_rows(&mut self, turn: Option<Turn>) {
+        if let Some(turn) = turn {
+            let [upper, lower] = &mut self.cells;
+            for (x, y) in upper.iter_mut().zip(lower) {
+                (x.entry, y.entry) = turn.of(x.entry, y.entry);
+            }
+        }
+    }
+
+    fn turn_columns(&mut self, turn: Option<Turn>) {
+        if let Some(turn) = turn {
+            for [x, y] in &mut self.cells {
+                (x.entry, y.entry) = turn.of(x.entry, y.entry);
+                (x.vector, y.vector) = turn.of(x.vector, y.vector);
+            }
+        }
+    }
+
+    /// Marks the tile if a cell is not finite.
+    pub fn mark(&mut self) {
+        let [[a, b], [c, d]] = self.cells;
+        let finite = |cell: Cell| cell.entry.is_finite() & cell.vector.is_finite();
+        self.marked |= !(finite(a) & finite(b) & finite(c) & finite(d));
+    }
+
+    // Which wire is set in which phase: document 003, Program 3.
+
+    pub fn set_wires_in_phase_0(&mut self, i: usize, j: usize) {
+        if i > j {
+            self.wires[0][1] = self.leaving(i, j, 0, 1);
+        }
+        if i < j {
+            self.wires[1][0] = self.leaving(i, j, 1, 0);
+        }
+    }
+
+    pub fn set_wires_in_phase_1(&mut self, i: usize, j: usize, last: usize) {
+        if i == 0 || j == 0 {
+            self.wires[0][0] = self.leaving(i, j, 0, 0);
+        }
+        if i == last || j == last {
+            self.wires[1][1] = self.leaving(i, j, 1, 1);
+        }
+    }
+
+    pub fn set_wires_in_phase_2(&mut self, i: usize, j: usize, last: usize) {
+        if i > 0 && j > 0 {
+            self.wires[0][0] = self.leaving(i, j, 0, 0);
+        }
+        if i <= j {
+            self.wires[0][1] = self.leaving(i, j, 0, 1);
+        }
+        if i >= j {
+            self.wires[1][0] = self.leaving(i, j, 1, 0);
+        }
+        if i < last && j < last {
+            self.wires[1][1] = self.leaving(i, j, 1, 1);
+        }
+    }
+
+    /// The cell that leaves by a corner: it crosses to the other row, except in the first row of tiles, and to the
+    /// other column, except in the first column (document 000, Algorithm Interchange).
+    fn leaving(&self, i: usize, j: usize, row: usize, column: usize) -> Cell {
+        self.cells[row ^ (i > 0) as usize][column ^ (j > 0) as usize]
+    }
+}

@@ -1,0 +1,79 @@
+//! The eigenvalues of four coded lines: by plain sweeps, by the array in one call, and by the array tick by tick. It
+//! prints what the example in C prints.
+use weimrukas::{Array, Refusal};
+
+const N: usize = 4;
+const SWEEPS: usize = 8;
+const CODES: [u8; N] = [7, 19, 42, 201];
+
+type Matrix = [f64; N * N];
+
+#[rustfmt::skip]
+const MATRIX: Matrix = [
+    4.00,  1.00, 0.50,  0.25,
+    1.00,  3.00, 0.75, -0.50,
+    0.50,  0.75, 2.00,  1.25,
+    0.25, -0.50, 1.25,  5.00,
+];
+
+fn main() -> Result<(), Refusal> {
+    let (mut result, mut vectors) = ([0.0; N * N], [0.0; N * N]);
+    weimrukas::plain_run(N, SWEEPS, &MATRIX, &mut result, &mut vectors)?;
+    run(&result, &vectors)?;
+    run_by_hand(&result)?;
+    use_sheet()?;
+    let mut matrix = MATRIX;
+    matrix[N + 2] = f64::NAN;
+    if let Err(refusal) = weimrukas::plain_run(N, SWEEPS, &matrix, &mut result, &mut vectors) {
+        println!("{refusal}");
+    }
+    Ok(())
+}
+
+fn run(plain_result: &Matrix, plain_vectors: &Matrix) -> Result<(), Refusal> {
+    let (mut result, mut vectors) = ([0.0; N * N], [0.0; N * N]);
+    let ticks = weimrukas::array_run(N, SWEEPS, &MATRIX, &mut result, &mut vectors)?;
+    let differ = |x: &Matrix, y: &Matrix| x.map(f64::to_bits) != y.map(f64::to_bits);
+    let bits = if differ(&result, plain_result) || differ(&vectors, plain_vectors) {
+        "other bits than"
+    } else {
+        "the same bits as"
+    };
+    println!("{ticks} ticks of the array: {bits} by plain sweeps");
+    for (k, code) in CODES.iter().enumerate() {
+        let column = vectors.iter().skip(k).step_by(N);
+        let vector: String = column.map(|x| format!(" {x:.6}")).collect();
+        let eigenvalue = result[k * N + k];
+        println!("line {code}: eigenvalue {eigenvalue:.6}, eigenvector{vector}");
+    }
+    Ok(())
+}
+
+fn run_by_hand(result: &Matrix) -> Result<(), Refusal> {
+    let mut array = Array::start(N, SWEEPS, &MATRIX)?;
+    while array.tick()? {}
+    let cell =
+        |i: usize, j: usize| array.words()[weimrukas::tile(i / 2, j / 2) + i % 2 * 2 + j % 2];
+    let is_same = |&k: &usize| cell(k / N, k % N) == result[k].to_bits();
+    let same = (0..N * N).filter(is_same).count();
+    let (ticks, all) = (array.words()[2], N * N);
+    println!("{ticks} ticks by hand: {same} of {all} cells have the same bits");
+    Ok(())
+}
+
+fn use_sheet() -> Result<(), Refusal> {
+    let (mut sheet, mut text) = (
+        [0; weimrukas::sheet_length(N)],
+        [0; weimrukas::text_length(N)],
+    );
+    let (mut codes, mut matrix) = ([0; N], [0.0; N * N]);
+    weimrukas::write_sheet(N, SWEEPS, &CODES, &MATRIX, &mut sheet)?;
+    let (n, sweeps) = weimrukas::read_sheet(&sheet, &mut codes, &mut matrix)?;
+    print!("sheet of {} bytes: ", sheet.len());
+    println!("order {n}, {sweeps} sweeps, first code {}", codes[0]);
+    let length = weimrukas::list(&sheet, &mut text)?;
+    let print = String::from_utf8_lossy(&text[..length]);
+    let first = print.lines().next().unwrap_or_default();
+    println!("listing of {length} bytes: {first}");
+    Ok(())
+}

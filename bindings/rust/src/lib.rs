@@ -1,0 +1,137 @@
+//! The functions of `weimrukas.h` for Rust: eigenvalues and eigenvectors of symmetric matrices of coded barley lines,
+//! by plain sweeps or by an array of tiles. What each function asks for and answers, the order of its refusals and what
+//! a refused call leaves is said in the header. As everywhere in Rust, the floating-point environment is the default.
+//!
+//! ```
+//! let (mut result, mut vectors) = ([0.0; 4], [0.0; 4]);
+//! weimrukas::plain_run(2, 1, &[1.0; 4], &mut result, &mut vectors)?;
+//! assert_eq!(result, [0.0, 0.0, 0.0, 2.0]);
+//! # Ok::<(), weimrukas::Refusal>(())
+//! ```
+//!
+//! The build script links the library from the folder that `WEIMRUKAS_LIB_DIR` names.
+#![deny(unsafe_code)]
+
+mod array;
+pub mod calls;
+mod refusal;
+mod sizes;
+
+use calls::Place;
+
+pub use array::Array;
+pub use refusal::Refusal;
+pub use sizes::{
+    sheet_length, text_length, tile, ARRAY_WORDS, MOST_LINES, MOST_PROCESSORS, MOST_SWEEPS,
+    TILE_WORDS,
+};
+
+/// The parameters of a pair.
+#[derive(Clone, Copy, Debug, PartialEq)]
+pub enum Parameters {
+    Still,
+    /// Tangent, cosine and sine.
+    Turn(f64, f64, f64),
+}
+
+/// The f64 nearest to the exact square root of x.
+pub fn root(x: f64) -> Result<f64, Refusal> {
+    let mut root = 0.0;
+    let number = calls::root(x, &mut root);
+    answer(number, Place::default(), root)
+}
+
+/// The parameters of a pair, from a = a_pp, d = a_qq and b = a_pq.
+pub fn parameters(a: f64, d: f64, b: f64) -> Parameters {
+    let (mut turn, mut t, mut c, mut s) = (0, 0.0, 0.0, 0.0);
+    calls::parameters(a, d, b, &mut turn, &mut t, &mut c, &mut s);
+    if turn == 0 {
+        Parameters::Still
+    } else {
+        Parameters::Turn(t, c, s)
+    }
+}
+
+/// Writes the registers of each processor in a step, from 0, into two lent rows.
+pub fn pairs(
+    n: usize,
+    step: usize,
+    left: &mut [usize],
+    right: &mut [usize],
+) -> Result<(), Refusal> {
+    let number = calls::pairs(n, step, left, right);
+    answer(number, Place::default(), ())
+}
+
+/// Writes tangent, cosine and sine of each pair of a step, from 0, into a lent row of three values to a processor.
+pub fn records(n: usize, matrix: &[f64], step: usize, records: &mut [f64]) -> Result<(), Refusal> {
+    let mut place = Place::default();
+    let number = calls::records(n, matrix, step, records, &mut place);
+    answer(number, place, ())
+}
+
+/// Runs the sweeps, and leaves the last matrix and the eigenvectors in the two results.
+pub fn plain_run(
+    n: usize,
+    sweeps: usize,
+    matrix: &[f64],
+    result: &mut [f64],
+    vectors: &mut [f64],
+) -> Result<(), Refusal> {
+    let mut place = Place::default();
+    let number = calls::plain_run(n, sweeps, matrix, result, vectors, &mut place);
+    answer(number, place, ())
+}
+
+/// The same by the array. Answers the number of ticks that it made.
+pub fn array_run(
+    n: usize,
+    sweeps: usize,
+    matrix: &[f64],
+    result: &mut [f64],
+    vectors: &mut [f64],
+) -> Result<usize, Refusal> {
+    let (mut ticks, mut place) = (0, Place::default());
+    let number = calls::array_run(n, sweeps, matrix, result, vectors, &mut ticks, &mut place);
+    answer(number, place, ticks)
+}
+
+/// Reads a sheet into lent codes and a lent matrix, and answers the order and the sweeps.
+pub fn read_sheet(
+    sheet: &[u8],
+    codes: &mut [u8],
+    matrix: &mut [f64],
+) -> Result<(usize, usize), Refusal> {
+    let (mut n, mut sweeps, mut place) = (0, 0, Place::default());
+    let number = calls::read_sheet(sheet, codes, matrix, &mut n, &mut sweeps, &mut place);
+    answer(number, place, (n, sweeps))
+}
+
+/// Writes a sheet into lent bytes.
+pub fn write_sheet(
+    n: usize,
+    sweeps: usize,
+    codes: &[u8],
+    matrix: &[f64],
+    sheet: &mut [u8],
+) -> Result<(), Refusal> {
+    let mut place = Place::default();
+    let number = calls::write_sheet(n, sweeps, codes, matrix, sheet, &mut place);
+    answer(number, place, ())
+}
+
+/// Puts the printed sheet into a lent text, and answers how many bytes it has.
+pub fn list(sheet: &[u8], text: &mut [u8]) -> Result<usize, Refusal> {
+    let (mut length, mut place) = (0, Place::default());
+    let number = calls::list(sheet, text, &mut length, &mut place);
+    answer(number, place, length)
+}
+
+/// An answer by its number. Only 5 and 6 have a place.
+fn answer<T>(number: u8, place: Place, value: T) -> Result<T, Refusal> {
+    match number {
+        0 => Ok(value),
+        5 | 6 => Err(Refusal::at(number, place.row, place.column)),
+        _ => Err(Refusal::of(number)),
+    }
+}

@@ -1,0 +1,85 @@
+/* The eigenvalues of four coded lines: by plain sweeps, by the array in one call, and by the array tick by tick. */
+#include "weimrukas.h"
+
+#include <math.h>
+#include <stdio.h>
+#include <stdlib.h>
+#include <string.h>
+
+enum { N = 4, SWEEPS = 8, ENTRIES = N * N, SHEET = WEIMRUKAS_SHEET_LENGTH(N), TEXT = WEIMRUKAS_TEXT_LENGTH(N) };
+
+static const uint8_t codes[N] = {7, 19, 42, 201};
+static double matrix[ENTRIES] = {
+    4.00,  1.00, 0.50,  0.25,
+    1.00,  3.00, 0.75, -0.50,
+    0.50,  0.75, 2.00,  1.25,
+    0.25, -0.50, 1.25,  5.00,
+};
+static double result[ENTRIES], vectors[ENTRIES];
+static size_t row, column;
+
+/* Ends the program if a call was refused. */
+static void accepted(int number) {
+    if (number != 0) {
+        fprintf(stderr, "refused %d\n", number);
+        exit(1);
+    }
+}
+
+static void run(void) {
+    double array_result[ENTRIES], array_vectors[ENTRIES];
+    size_t ticks = 0;
+    accepted(weimrukas_plain_run(N, SWEEPS, matrix, ENTRIES, result, ENTRIES, vectors, ENTRIES, &row, &column));
+    accepted(weimrukas_array_run(N, SWEEPS, matrix, ENTRIES, array_result, ENTRIES, array_vectors, ENTRIES, &ticks,
+                                 &row, &column));
+    int same = memcmp(result, array_result, sizeof result) == 0 && memcmp(vectors, array_vectors, sizeof vectors) == 0;
+    printf("%zu ticks of the array: %s by plain sweeps\n", ticks, same ? "the same bits as" : "other bits than");
+    for (size_t k = 0; k < N; k++) {
+        printf("line %d: eigenvalue %.6f, eigenvector", codes[k], result[k * N + k]);
+        for (size_t i = 0; i < N; i++) {
+            printf(" %.6f", vectors[i * N + k]);
+        }
+        printf("\n");
+    }
+}
+
+static void run_by_hand(void) {
+    static uint64_t words[WEIMRUKAS_ARRAY_WORDS];
+    uint8_t made = 1;
+    accepted(weimrukas_array_start(N, SWEEPS, matrix, ENTRIES, words, WEIMRUKAS_ARRAY_WORDS, &row, &column));
+    while (made) {
+        accepted(weimrukas_array_tick(words, WEIMRUKAS_ARRAY_WORDS, &made));
+    }
+    int same = 0;
+    for (size_t k = 0; k < ENTRIES; k++) {
+        size_t i = k / N, j = k % N;
+        const uint64_t *cell = words + WEIMRUKAS_TILE(i / 2, j / 2) + i % 2 * 2 + j % 2;
+        same += memcmp(cell, result + k, sizeof *cell) == 0;
+    }
+    printf("%d ticks by hand: %d of %d cells have the same bits\n", (int)words[2], same, ENTRIES);
+}
+
+static void use_sheet(void) {
+    uint8_t sheet[SHEET], read_codes[N], text[TEXT];
+    size_t n = 0, sweeps = 0, length = 0;
+    accepted(weimrukas_write_sheet(N, SWEEPS, codes, N, matrix, ENTRIES, sheet, SHEET, &row, &column));
+    accepted(weimrukas_read_sheet(sheet, SHEET, read_codes, N, matrix, ENTRIES, &n, &sweeps, &row, &column));
+    printf("sheet of %d bytes: order %zu, %zu sweeps, first code %d\n", SHEET, n, sweeps, read_codes[0]);
+    accepted(weimrukas_list(sheet, SHEET, text, TEXT, &length, &row, &column));
+    const uint8_t *end = memchr(text, '\n', length);
+    printf("listing of %zu bytes: %.*s\n", length, (int)(end - text), (const char *)text);
+}
+
+int main(void) {
+    if (!weimrukas_environment_is_default()) {
+        fprintf(stderr, "the floating-point environment is not the default one: the bits would not hold\n");
+        return 1;
+    }
+    run();
+    run_by_hand();
+    use_sheet();
+    matrix[1 * N + 2] = NAN;
+    int number = weimrukas_plain_run(N, SWEEPS, matrix, ENTRIES, result, ENTRIES, vectors, ENTRIES, &row, &column);
+    printf("refused %d at row %zu, column %zu\n", number, row, column);
+    return 0;
+}
