@@ -2,15 +2,13 @@
 use Prim.Native.Nat.{ℕ, zero, suc, _≤_, _<_}
 use mathlib.Core.Path.{_≡_, refl}
 use mathlib.Core.Bool.{Bool, true, false, cond}
-use mathlib.Core.List.{List}
+use mathlib.Core.List.{List, [], _∷_}
 use mathlib.Core.Logic.{inl, inr}
 use native.Mathlib.Omega.{arith}
 use borrow.Author.Tests.{ltb-true, ltb-false}
 use lib.Dec.{ltb}
 use lib.Ieee.{Float, binary64, ofBits}
-use Rattle.refusal.specs.declared.Refusal.{Refusal}
-use Rattle.refusal.specs.declared.Refusal.the-variants.{NotFinite, NotMirrored}
-use Rattle.refusal.specs.Answers.{Answered, given, refused, refusedBy, orElse, first}
+use Rattle.refusal.specs.Answers.{Answered, given, refused, orElse, first}
 use Rattle.float64.specs.Values.{finite, sameBits}
 use Rattle.lists.proofs.Bounded.{up-to}
 use Rattle.matrix.specs.Matrix.{at}
@@ -45,15 +43,15 @@ search (suc n) Fine Bad h = go (search n Fine Bad (λ i l. h i (l .0, omega (ari
     go (bad w) y = bad (record { number = w .number; line = (w .line .0, omega (arith, w .line .1)); is-bad = w .is-bad; fine-before = w .fine-before })
 
 -- ---- rows, and the columns 1 to m r of each row r
-module _ (There : ℕ → ℕ → Type 0) (good : ℕ → ℕ → Bool) (by : ℕ → ℕ → Refusal) where
+module _ (There : ℕ → ℕ → Type 0) (good : ℕ → ℕ → Bool) (number : ℕ) where
   abbrev Passes : ℕ → ℕ → Type 0
   Passes r c = There r c → good r c ≡ true
 
   abbrev Fails : ℕ → ℕ → Answered Unit → Type 0
-  Fails r c t = (There r c) × (good r c ≡ false) × (t ≡ refusedBy (by r c))
+  Fails r c t = (There r c) × (good r c ≡ false) × (t ≡ refused number (r ∷ c ∷ []))
 
   tested : (n : ℕ) (m : ℕ → ℕ) {g : ℕ → ℕ → Answered Unit} → ((r c : ℕ) → There r c → Line n r × Line (m r) c)
-      → ((r c : ℕ) → Line n r → Line (m r) c → Seen (Passes r c) (Fails r c) (g r c)) → Tested There good by (first n (λ r. first (m r) (g r)))
+      → ((r c : ℕ) → Line n r → Line (m r) c → Seen (Passes r c) (Fails r c) (g r c)) → Tested There good number (first n (λ r. first (m r) (g r)))
   tested n m inside h =
       go (search n (λ r. (c : ℕ) → Line (m r) c → Passes r c) (λ r. First (m r) (Passes r) (Fails r)) (λ r l. search (m r) (Passes r) (Fails r) (λ c. h r c l)))
     where
@@ -65,7 +63,7 @@ module _ (There : ℕ → ℕ → Type 0) (good : ℕ → ℕ → Bool) (by : �
       go : {t : Answered Unit}
           → Seen ((r : ℕ) → Line n r → (c : ℕ) → Line (m r) c → Passes r c)
           (First n (λ r. (c : ℕ) → Line (m r) c → Passes r c) (λ r. First (m r) (Passes r) (Fails r))) t
-          → Tested There good by t
+          → Tested There good number t
       go (fine f) = all-good (λ i j y. f i (inside i j y .0) j (inside i j y .1) y)
       go (bad row) =
           let column = row .is-bad in
@@ -73,36 +71,36 @@ module _ (There : ℕ → ℕ → Type 0) (good : ℕ → ℕ → Bool) (by : �
           (first-bad (row .number) (column .number) (record { there = column .is-bad .0; bad = column .is-bad .1; good-before = before row }))
 
   -- one entry, by its test
-  entry : (r c : ℕ) → There r c → (b : Bool) → good r c ≡ b → Seen (Passes r c) (Fails r c) (cond b (given tt) (refusedBy (by r c)))
+  entry : (r c : ℕ) → There r c → (b : Bool) → good r c ≡ b → Seen (Passes r c) (Fails r c) (cond b (given tt) (refused number (r ∷ c ∷ [])))
   entry r c y true e = fine (λ z. e)
   entry r c y false e = bad (y, e, refl)
 
 -- ---- the three tests
-finite-tested : (n : ℕ) (l : List Float) → Tested (InSquare n) (λ r c. finite (at n l r c)) NotFinite (finiteRow n l)
+finite-tested : (n : ℕ) (l : List Float) → Tested (InSquare n) (λ r c. finite (at n l r c)) 5 (finiteRow n l)
 unfolding notFiniteAt finiteRow
 finite-tested n l =
-    tested (InSquare n) (λ r c. finite (at n l r c)) NotFinite n (λ r. n) (λ r c y. ((y .0, y .1), (y .2, y .3)))
-    (λ r c y z. entry (InSquare n) (λ r c. finite (at n l r c)) NotFinite r c (y .0, y .1, z .0, z .1) (finite (at n l r c)) refl)
+    tested (InSquare n) (λ r c. finite (at n l r c)) 5 n (λ r. n) (λ r c y. ((y .0, y .1), (y .2, y .3)))
+    (λ r c y z. entry (InSquare n) (λ r c. finite (at n l r c)) 5 r c (y .0, y .1, z .0, z .1) (finite (at n l r c)) refl)
 
-mirror-tested : (n : ℕ) (l : List Float) → Tested (AboveDiagonal n) (λ r c. sameBits (at n l r c) (at n l c r)) NotMirrored (mirrorRow n l)
+mirror-tested : (n : ℕ) (l : List Float) → Tested (AboveDiagonal n) (λ r c. sameBits (at n l r c) (at n l c r)) 6 (mirrorRow n l)
 unfolding notMirroredAt mirrorRow
-mirror-tested n l = tested (AboveDiagonal n) same NotMirrored n (λ r. n) (λ r c y. ((y .0, omega (arith, y .1, y .2)), (omega (arith, y .1), y .2)))
+mirror-tested n l = tested (AboveDiagonal n) same 6 n (λ r. n) (λ r c y. ((y .0, omega (arith, y .1, y .2)), (omega (arith, y .1), y .2)))
     (λ r c y z. go r c y z (ltb r c) refl)
   where
     same : ℕ → ℕ → Bool
     same r c = sameBits (at n l r c) (at n l c r)
 
     go : (r c : ℕ) → Line n r → Line n c → (a : Bool) → ltb r c ≡ a
-        → Seen (Passes (AboveDiagonal n) same NotMirrored r c) (Fails (AboveDiagonal n) same NotMirrored r c)
-        (cond a (cond (same r c) (given tt) (refusedBy (NotMirrored r c))) (given tt))
-    go r c y z true e = entry (AboveDiagonal n) same NotMirrored r c (y .0, ltb-true r c e, z .1) (same r c) refl
+        → Seen (Passes (AboveDiagonal n) same 6 r c) (Fails (AboveDiagonal n) same 6 r c)
+        (cond a (cond (same r c) (given tt) (refused 6 (r ∷ c ∷ []))) (given tt))
+    go r c y z true e = entry (AboveDiagonal n) same 6 r c (y .0, ltb-true r c e, z .1) (same r c) refl
     go r c y z false e = fine (λ x. absurd (omega (arith, ltb-false r c e, x .1)))
 
-stored-tested : (b : List ℕ) → Tested (InTriangle (orderIn b)) (λ r c. finite (ofBits binary64 (patternIn b r c))) NotFinite (storedRow b)
+stored-tested : (b : List ℕ) → Tested (InTriangle (orderIn b)) (λ r c. finite (ofBits binary64 (patternIn b r c))) 5 (storedRow b)
 unfolding notFiniteIn storedRow
 stored-tested b =
-    tested (InTriangle (orderIn b)) (λ r c. finite (ofBits binary64 (patternIn b r c))) NotFinite (orderIn b) (λ r. r) (λ r c y. ((y .0, y .1), (y .2, y .3)))
-    (λ r c y z. entry (InTriangle (orderIn b)) (λ r c. finite (ofBits binary64 (patternIn b r c))) NotFinite r c (y .0, y .1, z .0, z .1)
+    tested (InTriangle (orderIn b)) (λ r c. finite (ofBits binary64 (patternIn b r c))) 5 (orderIn b) (λ r. r) (λ r c y. ((y .0, y .1), (y .2, y .3)))
+    (λ r c y z. entry (InTriangle (orderIn b)) (λ r c. finite (ofBits binary64 (patternIn b r c))) 5 r c (y .0, y .1, z .0, z .1)
     (finite (ofBits binary64 (patternIn b r c))) refl)
 
 pub entries-tested : EntriesAreTested

@@ -3,7 +3,7 @@ use Prim.Native.Nat.{ℕ}
 use mathlib.Core.Path.{_≡_, refl, sym, ap, _∙_}
 use mathlib.Core.Bool.{Bool, true, false, cond}
 use mathlib.Core.List.{List, [], _∷_, _++_}
-use lib.Dec.{ltb}
+use lib.Dec.{eqb, ltb}
 use lib.ListN.{length}
 use lib.Ieee.{Float}
 use Rattle.refusal.specs.declared.Refusal.the-variants.{Spoiled}
@@ -19,10 +19,10 @@ use Rattle.step_records.specs.Records.{beforeRecords, rowOutcome, recordsOf}
 use Rattle.tile_schedule.specs.Answers.{made, stopped, progressOf}
 use Rattle.array.specs.Runs.{startAnswer}
 use Rattle.array_agreement.proofs.Agreement.{whole-agrees}
-use Rattle.sheet.specs.Format.{orderIn, sweepsIn}
-use Rattle.sheet_reader.specs.Reader.{readAnswer, readOutcome, contentOf, readOf}
+use Rattle.sheet.specs.Format.{sheetLength, orderIn, sweepsIn}
+use Rattle.sheet_reader.specs.Reader.{sheetAnswer, readAnswer, readOutcome, contentOf, readOf}
 use Rattle.sheet_writer.specs.Writer.{writeAnswer, writeOutcome, writeOf}
-use Rattle.claims.specs.Refusals.{PlainRunAnswers, WholeRunAnswers, RecordsAnswer, ReaderAnswers, WriterAnswers}
+use Rattle.claims.specs.Refusals.{sheetTable, PlainRunAnswers, WholeRunAnswers, RecordsAnswer, ReaderAnswers, WriterAnswers}
 
 -- ---- runs
 ran-table : (n sweeps : ℕ) (l : List Float) → ranOf n sweeps l .answer ≡ table (row (spoiled n (stepsOf n sweeps) (startOf n l)) Spoiled ∷ [])
@@ -62,10 +62,14 @@ records-answer (given tt) new old = refl
 records-answer (refused k values) new old = refl
 
 pub records-table : RecordsAnswer
-unfolding recordsOf
+unfolding recordsOf beforeRecords
 records-table n l step ys = records-answer (beforeRecords n l (length ys)) _ ys
 
 -- ---- sheets
+pub sheet-table : (b : List ℕ) → sheetAnswer b ≡ sheetTable b (eqb (length b) (sheetLength (orderIn b)))
+unfolding sheetAnswer
+sheet-table b = refl
+
 reader-answer : (b : List ℕ) (a : Answered Unit) (c : List ℕ) (m : List Float)
     → unlessRefused a (contentOf b) (λ x. readOutcome x c m) .answer ≡ giving (orderIn b, sweepsIn b) a
 unfolding contentOf
@@ -73,7 +77,7 @@ reader-answer b (given x) c m = refl
 reader-answer b (refused k values) c m = refl
 
 pub reader-table : ReaderAnswers
-unfolding readOf
+unfolding readOf readAnswer
 reader-table b c m = reader-answer b (readAnswer b (length c) (length m)) c m
 
 writer-answer : (a : Answered Unit) (new old : List ℕ) → unlessRefused a (writeOutcome (given tt) new) (λ x. writeOutcome x old) .answer ≡ a
@@ -81,5 +85,5 @@ writer-answer (given tt) new old = refl
 writer-answer (refused k values) new old = refl
 
 pub writer-table : WriterAnswers
-unfolding writeOf
+unfolding writeOf writeAnswer
 writer-table n sweeps codes l b = writer-answer (writeAnswer n sweeps codes l (length b)) _ b

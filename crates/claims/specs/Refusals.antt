@@ -1,29 +1,29 @@
--- Demand 1 (document 00; document 01, "Refused, by place"): what each call answers, and what it leaves where it refuses. The order of the
--- tests is that of document 01's table, which applies from top to bottom. Definitions only.
+-- Demand 1 (document 00; document 01, "Refused, by place"): what each call answers, and what it leaves where it refuses. The
+-- order of the tests is that of document 01's table, which applies from top to bottom. What `isOrder` accepts and the limits
+-- are on the page `Sizes`. Definitions only.
 use Prim.Native.Nat.{ℕ, _*_, _≤_, _<_}
 use mathlib.Core.Path.{_≡_}
-use mathlib.Core.Bool.{Bool, true, false, cond}
-use mathlib.Core.List.{List, [], _∷_, _++_}
+use mathlib.Core.Bool.{Bool, true, false, not, cond, _&&_}
+use mathlib.Core.List.{List, [], _∷_}
 use mathlib.Core.Logic.{_⊎_}
-use lib.Dec.{ltb}
+use lib.Dec.{eqb, ltb}
 use lib.ListN.{length, drop}
 use lib.Ieee.{Float, nan, binary64, eq, lt, ofBits}
 use Rattle.float64.specs.Values.{plusZero, finite, sameBits}
-use Rattle.refusal.specs.declared.Refusal.{Refusal}
-use Rattle.refusal.specs.declared.Refusal.the-variants.{NotFinite, NotMirrored, Spoiled, NoRoot}
-use Rattle.refusal.specs.Answers.{Answered, given, refused, refusedBy, answered, giving, row, table}
+use Rattle.refusal.specs.declared.Refusal.the-variants.{Order, Sweeps, Length, Code, NotFinite, NotMirrored, TooShort, Spoiled, NoRoot}
+use Rattle.refusal.specs.Answers.{Answered, given, refused, refusedBy, answered, giving, table}
 use Rattle.root.specs.Sqrt.{sqrtOf}
-use Rattle.sizes.specs.Sizes.{isOrder, processorsOf, stepsOf, ticksOf, orderRow, sweepsRow}
+use Rattle.sizes.specs.Sizes.{isOrder, processorsOf, stepsOf, ticksOf}
 use Rattle.ordering.specs.declared.PairList.{PairList}
 use Rattle.ordering.specs.Pairs.{noRegisters, Lists}
 use Rattle.matrix.specs.Matrix.{at}
 use Rattle.matrix.specs.Entries.{finiteRow, mirrorRow}
 use Rattle.runs.specs.State.{startOf, zeros}
-use Rattle.runs.specs.Outcome.{Outcome, runRows}
+use Rattle.runs.specs.Outcome.{Outcome}
 use Rattle.plain_run.specs.State.{spoiled}
 use Rattle.plain_run.specs.Run.{runOf}
 use Rattle.step_records.specs.declared.Record.{Record}
-use Rattle.step_records.specs.Records.{beforeRecords, recordsOf}
+use Rattle.step_records.specs.Records.{recordsOf}
 use Rattle.array.specs.declared.Array.{Array}
 use Rattle.array.specs.declared.Started.{Started}
 use Rattle.array.specs.declared.Ticked.{Ticked}
@@ -32,9 +32,31 @@ use Rattle.tile_schedule.specs.Answers.{made, stopped, progressAnswered}
 use Rattle.array.specs.Runs.{noArray, Starts}
 use Rattle.array_run.specs.Whole.{wholeOf}
 use Rattle.sheet.specs.Format.{sheetLength, orderIn, sweepsIn, patternIn}
+use Rattle.sheet.specs.Codes.{badCodes}
 use Rattle.sheet_reader.specs.Reader.{storedRow, sheetAnswer, readAnswer, readOf}
-use Rattle.sheet_writer.specs.Writer.{writeAnswer, writeOf}
+use Rattle.sheet_writer.specs.Writer.{writeOf}
 use Rattle.claims.specs.Histories.{Binary64}
+
+-- ---- the numbers of the cases, and a row of a table
+-- 5 and 6 carry a row and a column; the others return the number alone.
+pub record NumbersAsTabled : Type 0 where
+  pub order-1 : refusedBy {A = Unit} Order ≡ refused 1 []
+  pub sweeps-2 : refusedBy {A = Unit} Sweeps ≡ refused 2 []
+  pub length-3 : refusedBy {A = Unit} Length ≡ refused 3 []
+  pub code-4 : refusedBy {A = Unit} Code ≡ refused 4 []
+  pub not-finite-5 : (r c : ℕ) → refusedBy {A = Unit} (NotFinite r c) ≡ refused 5 (r ∷ c ∷ [])
+  pub not-mirrored-6 : (r c : ℕ) → refusedBy {A = Unit} (NotMirrored r c) ≡ refused 6 (r ∷ c ∷ [])
+  pub too-short-7 : refusedBy {A = Unit} TooShort ≡ refused 7 []
+  pub spoiled-8 : refusedBy {A = Unit} Spoiled ≡ refused 8 []
+  pub no-root-9 : refusedBy {A = Unit} NoRoot ≡ refused 9 []
+
+-- The number k under a condition. A table answers by its first row that refuses.
+abbrev pub when : Bool → ℕ → Answered Unit
+when b k = cond b (refused k []) (given tt)
+
+-- A length is that of a matrix of order n.
+abbrev pub square : ℕ → ℕ → Bool
+square n k = eqb k (n * n)
 
 -- ---- the first entry in row order
 -- The place in row i and column j stands before that in row r and column c.
@@ -48,9 +70,9 @@ pub record FirstBad (There : ℕ → ℕ → Type 0) (good : ℕ → ℕ → Boo
   pub good-before : (i j : ℕ) → There i j → Before i j r c → good i j ≡ true
 
 -- All entries pass, or the refusal carries the row and the column of the first that does not.
-pub data Tested (There : ℕ → ℕ → Type 0) (good : ℕ → ℕ → Bool) (by : ℕ → ℕ → Refusal) : Answered Unit → Type 0 where
-  all-good : ((i j : ℕ) → There i j → good i j ≡ true) → Tested There good by (given tt)
-  first-bad : (r c : ℕ) → FirstBad There good r c → Tested There good by (refusedBy (by r c))
+pub data Tested (There : ℕ → ℕ → Type 0) (good : ℕ → ℕ → Bool) (number : ℕ) : Answered Unit → Type 0 where
+  all-good : ((i j : ℕ) → There i j → good i j ≡ true) → Tested There good number (given tt)
+  first-bad : (r c : ℕ) → FirstBad There good r c → Tested There good number (refused number (r ∷ c ∷ []))
 
 -- The places of a matrix, those above its diagonal, and those of a sheet's entries.
 abbrev pub InSquare : ℕ → ℕ → ℕ → Type 0
@@ -62,35 +84,52 @@ AboveDiagonal n r c = (1 ≤ r) × (r < c) × (c ≤ n)
 abbrev pub InTriangle : ℕ → ℕ → ℕ → Type 0
 InTriangle n r c = (1 ≤ r) × (r ≤ n) × (1 ≤ c) × (c ≤ r)
 
--- 5 is for an entry that is not finite, in a sheet for one that it stores, and 6 for one that differs from its mirror in bits.
+-- The rows of a table for entries. 5 is for an entry that is not finite, in a sheet for one that it stores, and 6 for one
+-- that differs from its mirror in bits.
 pub record EntriesAreTested : Type 0 where
-  pub not-finite : (n : ℕ) (l : List Float) → Tested (InSquare n) (λ r c. finite (at n l r c)) NotFinite (finiteRow n l)
-  pub not-mirrored : (n : ℕ) (l : List Float) → Tested (AboveDiagonal n) (λ r c. sameBits (at n l r c) (at n l c r)) NotMirrored (mirrorRow n l)
-  pub stored-not-finite : (b : List ℕ) → Tested (InTriangle (orderIn b)) (λ r c. finite (ofBits binary64 (patternIn b r c))) NotFinite (storedRow b)
+  pub not-finite : (n : ℕ) (l : List Float) → Tested (InSquare n) (λ r c. finite (at n l r c)) 5 (finiteRow n l)
+  pub not-mirrored : (n : ℕ) (l : List Float)
+      → Tested (AboveDiagonal n) (λ r c. sameBits (at n l r c) (at n l c r)) 6 (mirrorRow n l)
+  pub stored-not-finite : (b : List ℕ)
+      → Tested (InTriangle (orderIn b)) (λ r c. finite (ofBits binary64 (patternIn b r c))) 5 (storedRow b)
 
 -- ---- square root
 -- Refused by 9: not a number, or below zero. Every other value has a root.
-abbrev pub RootAnswers : Type 0
-RootAnswers =
-    (sqrtOf nan ≡ refusedBy NoRoot) × ((x : Float) → lt x plusZero ≡ true → sqrtOf x ≡ refusedBy NoRoot)
-    × ((x : Float) → eq x x ≡ true → lt x plusZero ≡ false → (r : Float) × (sqrtOf x ≡ given r))
+pub record RootAnswers : Type 0 where
+  pub not-a-number : sqrtOf nan ≡ refused 9 []
+  pub below-zero : (x : Float) → lt x plusZero ≡ true → sqrtOf x ≡ refused 9 []
+  pub others : (x : Float) → eq x x ≡ true → lt x plusZero ≡ false → (r : Float) × (sqrtOf x ≡ given r)
 
 -- ---- list of pairs
 abbrev pub PairsAnswer : Type 0
-PairsAnswer = (n step : ℕ) (r : PairList) → Lists n step r → (answered (r .answer) ≡ table (orderRow n ∷ [])) × (isOrder n ≡ false → r .registers ≡ noRegisters)
+PairsAnswer =
+    (n step : ℕ) (r : PairList) → Lists n step r
+    → (answered (r .answer) ≡ table (when (not (isOrder n)) 1 ∷ []))
+    × (isOrder n ≡ false → r .registers ≡ noRegisters)
 
 -- ---- runs
--- The rows before a run, and 8. lr and lv are the lengths of the two results.
+-- lr and lv are the lengths of the two results.
 abbrev pub runTable : ℕ → ℕ → List Float → ℕ → ℕ → Answered Unit
-runTable n sweeps l lr lv = table (runRows n sweeps l lr lv ++ (row (spoiled n (stepsOf n sweeps) (startOf n l)) Spoiled ∷ []))
+runTable n sweeps l lr lv =
+    table
+    (when (not (isOrder n)) 1
+    ∷ when (ltb 16 sweeps) 2
+    ∷ when (not (square n lr && (square n lv && square n (length l)))) 3
+    ∷ finiteRow n l
+    ∷ mirrorRow n l
+    ∷ when (spoiled n (stepsOf n sweeps) (startOf n l)) 8
+    ∷ [])
 
 abbrev pub PlainRunAnswers : Type 0
-PlainRunAnswers = (n sweeps : ℕ) (l r v : List Float) → runOf n sweeps l r v .answer ≡ runTable n sweeps l (length r) (length v)
+PlainRunAnswers =
+    (n sweeps : ℕ) (l r v : List Float)
+    → runOf n sweeps l r v .answer ≡ runTable n sweeps l (length r) (length v)
 
 -- The array's run is refused as the plain run is, by 8 too.
 abbrev pub WholeRunAnswers : Type 0
 WholeRunAnswers =
-    (n sweeps : ℕ) (l r v : List Float) → Binary64 l → wholeOf n sweeps l r v .answer ≡ giving (ticksOf n sweeps) (runTable n sweeps l (length r) (length v))
+    (n sweeps : ℕ) (l r v : List Float) → Binary64 l
+    → wholeOf n sweeps l r v .answer ≡ giving (ticksOf n sweeps) (runTable n sweeps l (length r) (length v))
 
 -- A refused run leaves both results as they were, but 8 fills them with +0.
 pub record LeavesResults {A : Type 0} (n : ℕ) (o : Outcome A) (r v : List Float) : Type 0 where
@@ -98,13 +137,22 @@ pub record LeavesResults {A : Type 0} (n : ℕ) (o : Outcome A) (r v : List Floa
   pub zeroed : (values : List ℕ) → o .answer ≡ refused 8 values → (o .result ≡ zeros n) × (o .vectors ≡ zeros n)
 
 abbrev pub RunsLeave : Type 0
-RunsLeave = (n sweeps : ℕ) (l r v : List Float) → Binary64 l → LeavesResults n (runOf n sweeps l r v) r v × LeavesResults n (wholeOf n sweeps l r v) r v
+RunsLeave =
+    (n sweeps : ℕ) (l r v : List Float) → Binary64 l
+    → LeavesResults n (runOf n sweeps l r v) r v × LeavesResults n (wholeOf n sweeps l r v) r v
 
 -- ---- array by hand
 -- A refused start gives zeros.
 abbrev pub StartAnswers : Type 0
 StartAnswers =
-    (n sweeps : ℕ) (l : List Float) (s : Started) → Starts n sweeps l s → (answered (s .answer) ≡ table (runRows n sweeps l (length l) (length l)))
+    (n sweeps : ℕ) (l : List Float) (s : Started) → Starts n sweeps l s
+    → (answered (s .answer) ≡ table
+    (when (not (isOrder n)) 1
+    ∷ when (ltb 16 sweeps) 2
+    ∷ when (not (square n (length l) && (square n (length l) && square n (length l)))) 3
+    ∷ finiteRow n l
+    ∷ mirrorRow n l
+    ∷ []))
     × ((k : ℕ) (values : List ℕ) → answered (s .answer) ≡ refused k values → s .array ≡ noArray)
 
 -- A tick tests 1 and 2 only; where it is not made it gives its array back.
@@ -112,13 +160,21 @@ abbrev pub TickAnswers : Type 0
 TickAnswers =
     (x : Array) (r : Ticked) → Ticks x r
     → (progressAnswered (r .answer)
-    ≡ giving (cond (ltb (x .tick) (ticksOf (x .n) (x .sweeps))) made stopped) (table (orderRow (x .n) ∷ sweepsRow (x .sweeps) ∷ [])))
+    ≡ giving (cond (ltb (x .tick) (ticksOf (x .n) (x .sweeps))) made stopped)
+    (table (when (not (isOrder (x .n))) 1 ∷ when (ltb 16 (x .sweeps)) 2 ∷ [])))
     × (¬ (progressAnswered (r .answer) ≡ given made) → r .array ≡ x)
 
 -- ---- records of a step
--- The table is that of step_records/specs/Records.antt.
 abbrev pub RecordsAnswer : Type 0
-RecordsAnswer = (n : ℕ) (l : List Float) (step : ℕ) (ys : List Record) → recordsOf n l step ys .answer ≡ beforeRecords n l (length ys)
+RecordsAnswer =
+    (n : ℕ) (l : List Float) (step : ℕ) (ys : List Record)
+    → recordsOf n l step ys .answer ≡ table
+    (when (not (isOrder n)) 1
+    ∷ when (not (square n (length l))) 3
+    ∷ finiteRow n l
+    ∷ mirrorRow n l
+    ∷ when (ltb (length ys) (processorsOf n)) 7
+    ∷ [])
 
 -- A refusal changes nothing, and a longer row keeps its tail.
 abbrev pub RecordsLeave : Type 0
@@ -128,21 +184,49 @@ RecordsLeave =
     × (drop (processorsOf n) (recordsOf n l step ys .row) ≡ drop (processorsOf n) ys)
 
 -- ---- sheets
--- The tables are those of sheet_reader/specs/Reader.antt and sheet_writer/specs/Writer.antt.
+-- `badCodes b o n`: of the n codes from byte o on, one is zero or used before. long says that all lengths are right.
+abbrev pub sheetTable : List ℕ → Bool → Answered Unit
+sheetTable b long =
+    table
+    (when (ltb (length b) 2) 3
+    ∷ when (not (isOrder (orderIn b))) 1
+    ∷ when (ltb 16 (sweepsIn b)) 2
+    ∷ when (not long) 3
+    ∷ when (badCodes b 2 (orderIn b)) 4
+    ∷ storedRow b
+    ∷ [])
+
 abbrev pub ReaderAnswers : Type 0
-ReaderAnswers = (b c : List ℕ) (m : List Float) → readOf b c m .answer ≡ giving (orderIn b, sweepsIn b) (readAnswer b (length c) (length m))
+ReaderAnswers =
+    (b c : List ℕ) (m : List Float)
+    → readOf b c m .answer ≡ giving (orderIn b, sweepsIn b)
+    (sheetTable b (eqb (length c) (orderIn b) && (square (orderIn b) (length m) && eqb (length b) (sheetLength (orderIn b)))))
 
 -- Lent what the order asks for, a reader refuses a sheet by its bytes alone.
-abbrev pub SheetAnswers : Type 0
-SheetAnswers = (b : List ℕ) → readAnswer b (orderIn b) (orderIn b * orderIn b) ≡ sheetAnswer b
+pub record SheetAnswers : Type 0 where
+  pub by-bytes : (b : List ℕ) → sheetAnswer b ≡ sheetTable b (eqb (length b) (sheetLength (orderIn b)))
+  pub lent-right : (b : List ℕ) → readAnswer b (orderIn b) (orderIn b * orderIn b) ≡ sheetAnswer b
 
 abbrev pub ReaderLeaves : Type 0
 ReaderLeaves =
-    (b c : List ℕ) (m : List Float) (k : ℕ) (values : List ℕ) → readOf b c m .answer ≡ refused k values → (readOf b c m .codes ≡ c) × (readOf b c m .matrix ≡ m)
+    (b c : List ℕ) (m : List Float) (k : ℕ) (values : List ℕ)
+    → readOf b c m .answer ≡ refused k values
+    → (readOf b c m .codes ≡ c) × (readOf b c m .matrix ≡ m)
 
 abbrev pub WriterAnswers : Type 0
-WriterAnswers = (n sweeps : ℕ) (codes : List ℕ) (l : List Float) (b : List ℕ) → writeOf n sweeps codes l b .answer ≡ writeAnswer n sweeps codes l (length b)
+WriterAnswers =
+    (n sweeps : ℕ) (codes : List ℕ) (l : List Float) (b : List ℕ)
+    → writeOf n sweeps codes l b .answer ≡ table
+    (when (not (isOrder n)) 1
+    ∷ when (ltb 16 sweeps) 2
+    ∷ when (not (eqb (length codes) n && square n (length l))) 3
+    ∷ when (badCodes codes 0 n) 4
+    ∷ finiteRow n l
+    ∷ mirrorRow n l
+    ∷ when (ltb (length b) (sheetLength n)) 7
+    ∷ [])
 
+-- A refusal changes nothing, and longer bytes keep their tail.
 abbrev pub WriterLeaves : Type 0
 WriterLeaves =
     (n sweeps : ℕ) (codes : List ℕ) (l : List Float) (b : List ℕ)
@@ -150,6 +234,7 @@ WriterLeaves =
     × (drop (sheetLength n) (writeOf n sweeps codes l b .bytes) ≡ drop (sheetLength n) b)
 
 pub record RefusedAsTabled : Type 0 where
+  pub numbers-as-tabled : NumbersAsTabled
   pub entries-are-tested : EntriesAreTested
   pub root-answers : RootAnswers
   pub pairs-answer : PairsAnswer
