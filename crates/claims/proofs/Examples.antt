@@ -27,4 +27,34 @@ pub examples-hold : All examples
 unfolding sqrtOf ofBits toBits finite tabulate any slot cameFrom intoLast prior lineAt inOrderAt inOrder column registersOf registersAt isOrder
     at flat first notFiniteAt notMirroredAt finiteRow mirrorRow turnedAt rowTurn columnTurn columnTurnAll ofAngle ofTangent tangentOfPair ofPair
     identity place pairBlock matrixBlock pairTurned pairRotated pairsRotated after notFinite spoiled beforeRun startOf ranOf runOf
-examples-hold = (refl, (refl, (refl, (refl, (refl, (refl, (refl, (refl, (refl, (refl, (λ r v e f. rw (e, f), tt)))))))))))
+examples-hold = (
+  refl,
+  (
+    refl,
+    (
+      refl,
+      (
+        refl,
+        (
+          refl,
+          (
+            refl,
+            (
+              λ r h. (h .answers, h .lists),
+              (
+                λ r h. (h .answers, h .lists),
+                (
+                  λ r h. (h .answers, h .lists),
+                  (
+                    λ r h. (h .answers, h .lists),
+                    (λ r v e f. rw (e, f), tt),
+                  ),
+                ),
+              ),
+            ),
+          ),
+        ),
+      ),
+    ),
+  ),
+)

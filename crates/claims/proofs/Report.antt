@@ -10,6 +10,6 @@ as-the-report =
     record {
       root-rounds-correctly = root-rounds;
       rotation-is-the-reports =
-          record { turns = rotation.turns; pair = paired; still = rotation.still; sign-of-zero = rotation.sign-of-zero; not-a-number = rotation.not-a-number };
+          record { turns = rotation.turns; pair = paired; still = rotation.still; sign-below = rotation.sign-below; sign-of-zero = rotation.sign-of-zero; sign-above = rotation.sign-above; not-a-number = rotation.not-a-number; nan-bits = rotation.nan-has };
       pairing-is-the-reports = moves;
     }

@@ -3,10 +3,10 @@ use mathlib.Core.Path.{_≡_, refl, sym, ap, _∙_}
 use mathlib.Core.Bool.{true, false, true≢false}
 use native.Mathlib.Omega.{arith}
 use borrow.Author.Tests.{eqb-true, le-ltb}
-use lib.Ieee.{Float, nan, inf, fin, binary64, neg, sub, mul, div}
+use lib.Ieee.{Float, nan, inf, fin, binary64, neg, sub, mul, div, lt, toBits}
 use lib.Ieee.Positive.{above}
-use Rattle.float64.specs.Values.{one, isZero}
-use Rattle.float64.proofs.Zeros.{equal-zero, below-zero}
+use Rattle.float64.specs.Values.{plusZero, one, isZero}
+use Rattle.float64.proofs.Zeros.{equal-zero, above-zero, below-zero}
 use Rattle.rotation.specs.declared.Parameters.the-variants.{Still, Turn}
 use Rattle.rotation.specs.Rotation.{two, signum, tangentOf, cosineOf, quotient, tangentOfPair, ofAngle, ofTangent, ofPair}
 use Rattle.rotation.proofs.ParameterCases.{still-pair, other-pair, turn-nan, tangent-nan}
@@ -34,3 +34,24 @@ zero-not-above (fin false m e) h = refl
 pub sign-of-zero : (ξ : Float) → isZero ξ ≡ true → signum ξ ≡ one
 unfolding signum
 sign-of-zero ξ h = rw (below-zero ξ, zero-not-above ξ h)
+
+pub sign-below : (ξ : Float) → lt ξ plusZero ≡ true → signum ξ ≡ neg one
+unfolding signum
+sign-below ξ h = rw h
+
+-- no value is below and above zero
+not-both : (ξ : Float) → above ξ ≡ true → above (neg ξ) ≡ false
+unfolding neg
+not-both nan h = refl
+not-both (inf true) h = absurd (true≢false (sym h))
+not-both (inf false) h = refl
+not-both (fin true m e) h = absurd (true≢false (sym h))
+not-both (fin false m e) h = refl
+
+pub sign-above : (ξ : Float) → lt plusZero ξ ≡ true → signum ξ ≡ one
+unfolding signum
+sign-above ξ h = rw (below-zero ξ, not-both ξ (sym (above-zero ξ) ∙ h))
+
+pub nan-has : toBits binary64 nan ≡ 0x7ff8_0000_0000_0000
+unfolding toBits
+nan-has = refl

@@ -1,6 +1,6 @@
--- The three demands of document 00 and the examples of document 01. Definitions only.
--- That no call reads or writes outside a buffer, loses bits of an integer or fails to end is what the prover shows of every function, and
--- no call of document 01 has a precondition. What is left of the demands is stated here.
+-- The three demands of document 00 and the examples of document 01. Definitions only. That no call reads or writes
+-- outside a buffer, loses bits of an integer or fails to end is what the prover shows of every function, and no call of
+-- document 01 has a precondition. What is left of the demands is stated here.
 use Rattle.claims.specs.Sizes.{SizesAsStated}
 use Rattle.claims.specs.Refusals.{RefusedAsTabled}
 use Rattle.claims.specs.Report.{AsTheReport}

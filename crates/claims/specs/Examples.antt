@@ -5,9 +5,11 @@ use mathlib.Core.List.{List, [], _∷_}
 use lib.Ieee.{Float, binary64, ofBits}
 use lib.ListN.{length, getD}
 use Rattle.lists.specs.Tabulate.{tabulate}
-use Rattle.refusal.specs.Answers.{given}
+use Rattle.refusal.specs.Answers.{given, answered}
 use Rattle.root.specs.Sqrt.{sqrtOf}
-use Rattle.ordering.specs.Pairs.{registersAt}
+use Rattle.ordering.specs.declared.Registers.{Registers}
+use Rattle.ordering.specs.declared.PairList.{PairList}
+use Rattle.ordering.specs.Pairs.{Lists}
 use Rattle.sizes.specs.Sizes.{mostProcessors}
 use Rattle.runs.specs.Outcome.{outcome}
 use Rattle.plain_run.specs.Run.{runOf}
@@ -25,15 +27,25 @@ abbrev pub values : List ℕ → List Float
 values [] = []
 values (x ∷ xs) = ofBits binary64 x ∷ values xs
 
+-- Pairs as registers, left and right, zeros above the last.
+abbrev pub asRegisters : List (ℕ × ℕ) → Registers
+asRegisters ps =
+    record {
+      left = tabulate mostProcessors (λ k. getD ps k (0, 0) .0);
+      right = tabulate mostProcessors (λ k. getD ps k (0, 0) .1);
+    }
+
 abbrev pub Holds : Example → Type 0
 Holds (root x r) = sqrtOf (ofBits binary64 x) ≡ given (ofBits binary64 r)
-Holds (pairs n step ps) = registersAt n step
-    ≡ record { left = tabulate mostProcessors (λ k. getD ps k (0, 0) .0); right = tabulate mostProcessors (λ k. getD ps k (0, 0) .1) }
+Holds (pairs n step ps) =
+    (r : PairList) → Lists n step r
+    → (answered (r .answer) ≡ given tt) × (r .registers ≡ asRegisters ps)
 Holds (run n sweeps a l e) =
-    (r v : List Float) → length r ≡ n * n → length v ≡ n * n → runOf n sweeps (values a) r v ≡ outcome (given tt) (values l) (values e)
+    (r v : List Float) → length r ≡ n * n → length v ≡ n * n
+    → runOf n sweeps (values a) r v ≡ outcome (given tt) (values l) (values e)
 
--- Roots: 4 (it is 2), -0 (-0), 2, 2 ^ -1074 (2 ^ -537), 1 - 2 ^ -53 (itself), 1 + 2 ^ -52 (1). The run: diagonal 1 and 3, off-diagonal 0, one
--- sweep: unchanged, identity.
+-- Roots: 4 (it is 2), -0 (-0), 2, 2 ^ -1074 (2 ^ -537), 1 - 2 ^ -53 (itself), 1 + 2 ^ -52 (1). The run: diagonal 1 and
+-- 3, off-diagonal 0, one sweep: unchanged, identity.
 abbrev pub examples : List Example
 examples =
     root 0x4010_0000_0000_0000 0x4000_0000_0000_0000

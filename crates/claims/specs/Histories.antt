@@ -1,4 +1,5 @@
--- Demand 3 (document 00; document 01, "The array", "Neighbourhood", "Runs by hand"), one statement for each of its parts. Definitions only.
+-- Demand 3 (document 00; document 01, "The array", "Neighbourhood", "Runs by hand"), one statement for each of its
+-- parts. Definitions only.
 use Prim.Native.Nat.{ℕ, zero, suc, _+_, _-_, _*_, _/_, _%_, _^_, _≤_, _<_}
 use mathlib.Core.Path.{_≡_}
 use mathlib.Core.Bool.{true, false, not, cond}
@@ -33,9 +34,9 @@ abbrev pub Binary64 : List Float → Type 0
 Binary64 l = (k : ℕ) → T (fits binary64 (getD l k nan))
 
 -- ---- one call makes the run
--- Lent alike, the whole run leaves in both results what the plain run leaves, refuses what it refuses by the same number
--- and place, 8 included, and reports 3 K + N ticks where it is not refused. This is for every order, every number of
--- sweeps and every matrix.
+-- Lent alike, the whole run leaves in both results what the plain run leaves, refuses what it refuses by the same
+-- number and place, 8 included, and reports 3 K + N ticks where it is not refused. This is for every order, every
+-- number of sweeps and every matrix.
 abbrev pub WholeRunIsThePlainRun : Type 0
 WholeRunIsThePlainRun =
     (n sweeps : ℕ) (l r v : List Float) → Binary64 l
@@ -66,9 +67,9 @@ pub record CovarianceMatrix (n : ℕ) (l : List Float) : Type 0 where
   pub all-finite : (i j : ℕ) → (1 ≤ i) × (i ≤ n) → (1 ≤ j) × (j ≤ n) → finite (at n l i j) ≡ true
   pub mirrored : (i j : ℕ) → (1 ≤ i) × (i ≤ n) → (1 ≤ j) × (j ≤ n) → at n l i j ≡ at n l j i
 
--- For each even order from 2 to 32, each number of sweeps from 0 to 16 and each such matrix whose plain run stays finite,
--- the count of bits in which the array's final matrix and eigenvectors differ from those of the plain sweeps is zero. r
--- and v are the plain run's results and r′ and v′ the array's, whatever they held.
+-- For each even order from 2 to 32, each number of sweeps from 0 to 16 and each such matrix whose plain run stays
+-- finite, the count of bits in which the array's final matrix and eigenvectors differ from those of the plain sweeps is
+-- zero. r and v are the plain run's results and r′ and v′ the array's, whatever they held.
 abbrev pub NoBitDiffers : Type 0
 NoBitDiffers =
     (n sweeps : ℕ) (l r v r′ v′ : List Float)
@@ -83,9 +84,9 @@ NoBitDiffers =
     × (runOf n sweeps l r v .answer ≡ given tt)
 
 -- ---- a start and then any list of ticks
--- The ticks are listed with the last first. `lastArray` is the record that the last call gave, `answersOf` what the ticks
--- answered, and `counted f k` is f 0 to f (k - 1), the last first.
--- After a refused start every tick is refused by 1 and gives the zeros back.
+-- The ticks are listed with the last first. `lastArray` is the record that the last call gave, `answersOf` what the
+-- ticks answered, and `counted f k` is f 0 to f (k - 1), the last first. After a refused start every tick is refused by
+-- 1 and gives the zeros back.
 pub record RefusedStart (s : Started) (rs : List Ticked) : Type 0 where
   pub each-refused-by-1 : answersOf rs ≡ counted (λ t. refused 1 []) (length rs)
   pub zeros-back : lastArray s rs ≡ noArray
@@ -128,8 +129,8 @@ NoBitDiffersByHand =
     × (differingIn (n * n) (flat n (vectorsIn (lastArray s rs .tiles))) (runOf n sweeps l r v .vectors) ≡ 0)
 
 -- ---- neighbourhood
--- Whatever all other tiles hold, two arrays alike in order, sweeps, tick, one tile and the wires that lead to it are alike
--- in that tile, and so in its outgoing wires, after the tick.
+-- Whatever all other tiles hold, two arrays alike in order, sweeps, tick, one tile and the wires that lead to it are
+-- alike in that tile, and so in its outgoing wires, after the tick.
 abbrev pub Neighbourhood : Type 0
 Neighbourhood =
     (x y : Array) → x .n ≡ y .n → x .sweeps ≡ y .sweeps → x .tick ≡ y .tick

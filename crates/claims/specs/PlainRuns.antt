@@ -25,8 +25,8 @@ use Rattle.claims.specs.Refusals.{InSquare}
 use Rattle.claims.specs.Report.{leftRegister, rightRegister}
 
 -- ---- plain run
--- The pairs of the processors 1 to k in that order, each before the next begins. The left register is p, even if its number is the larger.
--- What one pair does is stated on the page `Report`.
+-- The pairs of the processors 1 to k in that order, each before the next begins. The left register is p, even if its
+-- number is the larger. What one pair does is stated on the page `Report`.
 unfoldable pub processorsTurned : PairList → ℕ → State → State
 processorsTurned list zero X = X
 processorsTurned list (suc k) X =
@@ -57,7 +57,8 @@ pub record NotFiniteAfter (n K : ℕ) (X : State) : Type 0 where
   pub line-row : ℕ
   pub line-column : ℕ
   pub inside : InSquare n line-row line-column
-  pub not-finite : (finite (after n step X .matrix line-row line-column) && finite (after n step X .vectors line-row line-column)) ≡ false
+  pub not-finite : (finite (after n step X .matrix line-row line-column)
+      && finite (after n step X .vectors line-row line-column)) ≡ false
 
 pub record SpoiledMeans : Type 0 where
   pub is-spoiled : (n K : ℕ) (X : State) → NotFiniteAfter n K X → spoiled n K X ≡ true

@@ -1,6 +1,6 @@
--- Demand 1 (document 00; document 01, "Refused, by place"): what each call answers, and what it leaves where it refuses. The
--- order of the tests is that of document 01's table, which applies from top to bottom. What `isOrder` accepts and the limits
--- are on the page `Sizes`. Definitions only.
+-- Demand 1 (document 00; document 01, "Refused, by place"): what each call answers, and what it leaves where it
+-- refuses. The order of the tests is that of document 01's table, which applies from top to bottom. What `isOrder`
+-- accepts and the limits are on the page `Sizes`. Definitions only.
 use Prim.Native.Nat.{ℕ, _*_, _≤_, _<_}
 use mathlib.Core.Path.{_≡_}
 use mathlib.Core.Bool.{Bool, true, false, not, cond, _&&_}
@@ -10,7 +10,8 @@ use lib.Dec.{eqb, ltb}
 use lib.ListN.{length, drop}
 use lib.Ieee.{Float, nan, binary64, eq, lt, ofBits}
 use Rattle.float64.specs.Values.{plusZero, finite, sameBits}
-use Rattle.refusal.specs.declared.Refusal.the-variants.{Order, Sweeps, Length, Code, NotFinite, NotMirrored, TooShort, Spoiled, NoRoot}
+use Rattle.refusal.specs.declared.Refusal.the-variants.{Order, Sweeps, Length, Code, NotFinite, NotMirrored}
+use Rattle.refusal.specs.declared.Refusal.the-variants.{TooShort, Spoiled, NoRoot}
 use Rattle.refusal.specs.Answers.{Answered, given, refused, refusedBy, answered, giving, table}
 use Rattle.root.specs.Sqrt.{sqrtOf}
 use Rattle.sizes.specs.Sizes.{isOrder, processorsOf, stepsOf, ticksOf}
@@ -84,8 +85,8 @@ AboveDiagonal n r c = (1 ≤ r) × (r < c) × (c ≤ n)
 abbrev pub InTriangle : ℕ → ℕ → ℕ → Type 0
 InTriangle n r c = (1 ≤ r) × (r ≤ n) × (1 ≤ c) × (c ≤ r)
 
--- The rows of a table for entries. 5 is for an entry that is not finite, in a sheet for one that it stores, and 6 for one
--- that differs from its mirror in bits.
+-- The rows of a table for entries. 5 is for an entry that is not finite, in a sheet for one that it stores, and 6 for
+-- one that differs from its mirror in bits.
 pub record EntriesAreTested : Type 0 where
   pub not-finite : (n : ℕ) (l : List Float) → Tested (InSquare n) (λ r c. finite (at n l r c)) 5 (finiteRow n l)
   pub not-mirrored : (n : ℕ) (l : List Float)
@@ -200,7 +201,8 @@ abbrev pub ReaderAnswers : Type 0
 ReaderAnswers =
     (b c : List ℕ) (m : List Float)
     → readOf b c m .answer ≡ giving (orderIn b, sweepsIn b)
-    (sheetTable b (eqb (length c) (orderIn b) && (square (orderIn b) (length m) && eqb (length b) (sheetLength (orderIn b)))))
+    (sheetTable b
+    (eqb (length c) (orderIn b) && (square (orderIn b) (length m) && eqb (length b) (sheetLength (orderIn b)))))
 
 -- Lent what the order asks for, a reader refuses a sheet by its bytes alone.
 pub record SheetAnswers : Type 0 where
@@ -230,7 +232,8 @@ WriterAnswers =
 abbrev pub WriterLeaves : Type 0
 WriterLeaves =
     (n sweeps : ℕ) (codes : List ℕ) (l : List Float) (b : List ℕ)
-    → ((k : ℕ) (values : List ℕ) → writeOf n sweeps codes l b .answer ≡ refused k values → writeOf n sweeps codes l b .bytes ≡ b)
+    → ((k : ℕ) (values : List ℕ) → writeOf n sweeps codes l b .answer ≡ refused k values
+    → writeOf n sweeps codes l b .bytes ≡ b)
     × (drop (sheetLength n) (writeOf n sweeps codes l b .bytes) ≡ drop (sheetLength n) b)
 
 pub record RefusedAsTabled : Type 0 where

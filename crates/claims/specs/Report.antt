@@ -1,10 +1,11 @@
--- Demand 2 on numbers (document 00; document 01, "Square root", "One rotation", "Pairs and their movement"). Definitions only.
+-- Demand 2 on numbers (document 00; document 01, "Square root", "One rotation", "Pairs and their movement").
+-- Definitions only.
 use Prim.Native.Nat.{ℕ, suc, _+_, _-_, _*_, _/_, _^_, _≤_, _<_}
 use mathlib.Core.Path.{_≡_}
 use mathlib.Core.Bool.{true, false, cond}
 use lib.Dec.{T}
 use lib.ListN.{getD}
-use lib.Ieee.{Float, nan, inf, binary64, fits, add, sub, mul, div, lt, ofBits}
+use lib.Ieee.{Float, nan, inf, binary64, fits, neg, add, sub, mul, div, lt, ofBits, toBits}
 use Rattle.float64.specs.Values.{plusZero, one, finite, isZero, magnitude}
 use Rattle.float64.specs.Units.{unitsOf}
 use Rattle.refusal.specs.Answers.{given}
@@ -25,11 +26,13 @@ minusZero = ofBits binary64 0x8000_0000_0000_0000
 abbrev pub GivesItself : Float → Type 0
 GivesItself x = sqrtOf x ≡ given x
 
--- Counted in units of 2 ^ -1074 the exact root of x is the root of the whole number unitsOf x * 2 ^ 1074. Whatever other f64 y is taken,
--- the middle of r and y lies beyond that root, on the side of y: so r is nearer to it, and there is no tie.
+-- Counted in units of 2 ^ -1074 the exact root of x is the root of the whole number unitsOf x * 2 ^ 1074. Whatever
+-- other f64 y is taken, the middle of r and y lies beyond that root, on the side of y: so r is nearer to it, and there
+-- is no tie.
 abbrev pub Nearest : Float → Float → Type 0
 Nearest x r =
-    (y : Float) → T (finite y) → T (fits binary64 y) → (unitsOf r < unitsOf y → 4 * (unitsOf x * 2 ^ 1074) < (unitsOf r + unitsOf y) * (unitsOf r + unitsOf y))
+    (y : Float) → T (finite y) → T (fits binary64 y)
+    → (unitsOf r < unitsOf y → 4 * (unitsOf x * 2 ^ 1074) < (unitsOf r + unitsOf y) * (unitsOf r + unitsOf y))
     × (unitsOf y < unitsOf r → (unitsOf r + unitsOf y) * (unitsOf r + unitsOf y) < 4 * (unitsOf x * 2 ^ 1074))
 
 -- r is the answer for x: a finite f64 that is not negative, nearest to the exact root.
@@ -45,7 +48,8 @@ pub record RootRoundsCorrectly : Type 0 where
   pub plus-zero : GivesItself plusZero
   pub minus-zero : GivesItself minusZero
   pub infinity : GivesItself (inf false)
-  pub above-zero : (x : Float) → T (finite x) → T (fits binary64 x) → lt plusZero x ≡ true → (r : Float) × CorrectlyRounded x r
+  pub above-zero : (x : Float) → T (finite x) → T (fits binary64 x) → lt plusZero x ≡ true
+      → (r : Float) × CorrectlyRounded x r
 
 -- ---- rotation
 -- a is a_pp, d is a_qq, b is a_pq.
@@ -79,23 +83,33 @@ pub record MatrixTurned (t c s : Float) (p q : ℕ) (old new : ℕ → ℕ → F
 abbrev pub Cleared : ℕ → ℕ → (ℕ → ℕ → Float) → Type 0
 Cleared p q new = (new p q ≡ plusZero) × (new q p ≡ plusZero)
 
--- What a pair does to the matrix and to the eigenvectors, which get the column turn on all rows. A still pair changes none of these.
+-- What a pair does to the matrix and to the eigenvectors, which get the column turn on all rows. A still pair changes
+-- none of these.
 pub record PairByTheReport (p q : ℕ) (old new : State) : Type 0 where
   pub cleared : Cleared p q (new .matrix)
-  pub matrix-turned : (t c s : Float) → parametersOf p q (old .matrix) ≡ Turn t c s → MatrixTurned t c s p q (old .matrix) (new .matrix)
-  pub vectors-turned : (t c s : Float) → parametersOf p q (old .matrix) ≡ Turn t c s → ColumnsTurned (λ r. Unit) c s p q (old .vectors) (new .vectors)
+  pub matrix-turned : (t c s : Float) → parametersOf p q (old .matrix) ≡ Turn t c s
+      → MatrixTurned t c s p q (old .matrix) (new .matrix)
+  pub vectors-turned : (t c s : Float) → parametersOf p q (old .matrix) ≡ Turn t c s
+      → ColumnsTurned (λ r. Unit) c s p q (old .vectors) (new .vectors)
   pub vectors-kept : (r j : ℕ) → Other p q j → new .vectors r j ≡ old .vectors r j
-  pub still-matrix : parametersOf p q (old .matrix) ≡ Still → (i j : ℕ) → ¬ ((i ≡ p) × (j ≡ q)) → ¬ ((i ≡ q) × (j ≡ p)) → new .matrix i j ≡ old .matrix i j
+  pub still-matrix : parametersOf p q (old .matrix) ≡ Still
+      → (i j : ℕ) → ¬ ((i ≡ p) × (j ≡ q)) → ¬ ((i ≡ q) × (j ≡ p))
+      → new .matrix i j ≡ old .matrix i j
   pub still-vectors : parametersOf p q (old .matrix) ≡ Still → (r j : ℕ) → new .vectors r j ≡ old .vectors r j
 
 pub record RotationIsTheReports : Type 0 where
   pub turns : TurnsByTheReport
   pub pair : (p q : ℕ) → ¬ (p ≡ q) → (X : State) → PairByTheReport p q X (pairRotated p q X)
   pub still : (a d b : Float) → isZero b ≡ true → ofPair a d b ≡ Still
-  -- sign(ξ) is 1 if ξ is zero of either sign
+  -- sign(ξ) is -1 below zero, and 1 if ξ is zero of either sign or above
+  pub sign-below : (ξ : Float) → lt ξ plusZero ≡ true → signum ξ ≡ neg one
   pub sign-of-zero : (ξ : Float) → isZero ξ ≡ true → signum ξ ≡ one
-  -- if ξ isn't a number, neither are t, c and s
-  pub not-a-number : (a d b : Float) → isZero b ≡ false → div binary64 (sub binary64 d a) (mul binary64 two b) ≡ nan → ofPair a d b ≡ Turn nan nan nan
+  pub sign-above : (ξ : Float) → lt plusZero ξ ≡ true → signum ξ ≡ one
+  -- if ξ isn't a number, neither are t, c and s, and what isn't a number has the bits 7FF8000000000000
+  pub not-a-number : (a d b : Float) → isZero b ≡ false
+      → div binary64 (sub binary64 d a) (mul binary64 two b) ≡ nan
+      → ofPair a d b ≡ Turn nan nan nan
+  pub nan-bits : toBits binary64 nan ≡ 0x7ff8_0000_0000_0000
 
 -- ---- pairs
 -- The line in the left and in the right register of processor k, from 1, in a list.
@@ -111,16 +125,22 @@ pub record MovesByTheReport (n : ℕ) (list : ℕ → PairList) : Type 0 where
   pub right-at-first : (k : ℕ) → 1 ≤ k → k ≤ processorsOf n → rightRegister (list 0) k ≡ 2 * k
   pub left-1-stays : (s : ℕ) → leftRegister (list (suc s)) 1 ≡ leftRegister (list s) 1
   pub right-1-to-left-2 : (s : ℕ) → 2 ≤ processorsOf n → leftRegister (list (suc s)) 2 ≡ rightRegister (list s) 1
-  pub left-to-the-next : (s k : ℕ) → 2 ≤ k → k < processorsOf n → leftRegister (list (suc s)) (k + 1) ≡ leftRegister (list s) k
-  pub last-left-to-right : (s : ℕ) → 2 ≤ processorsOf n → rightRegister (list (suc s)) (processorsOf n) ≡ leftRegister (list s) (processorsOf n)
-  pub right-to-the-one-before : (s k : ℕ) → 2 ≤ k → k ≤ processorsOf n → rightRegister (list (suc s)) (k - 1) ≡ rightRegister (list s) k
+  pub left-to-the-next : (s k : ℕ) → 2 ≤ k → k < processorsOf n
+      → leftRegister (list (suc s)) (k + 1) ≡ leftRegister (list s) k
+  pub last-left-to-right : (s : ℕ) → 2 ≤ processorsOf n
+      → rightRegister (list (suc s)) (processorsOf n) ≡ leftRegister (list s) (processorsOf n)
+  pub right-to-the-one-before : (s k : ℕ) → 2 ≤ k → k ≤ processorsOf n
+      → rightRegister (list (suc s)) (k - 1) ≡ rightRegister (list s) k
   pub nothing-moves-for-2 : (s : ℕ) → n ≡ 2 → rightRegister (list (suc s)) 1 ≡ rightRegister (list s) 1
   pub zeros-above : (s k : ℕ) → processorsOf n < k → (leftRegister (list s) k ≡ 0) × (rightRegister (list s) k ≡ 0)
   pub repeats : (s : ℕ) → list (s + sweepSteps n) .registers ≡ list s .registers
   pub each-line-once : (s p : ℕ) → 1 ≤ p → p ≤ n → standsIn (list s .registers) p ≡ 1
 
 abbrev pub PairingIsTheReports : Type 0
-PairingIsTheReports = (n : ℕ) → isOrder n ≡ true → (list : ℕ → PairList) → ((s : ℕ) → Lists n s (list s)) → MovesByTheReport n list
+PairingIsTheReports =
+    (n : ℕ) → isOrder n ≡ true
+    → (list : ℕ → PairList) → ((s : ℕ) → Lists n s (list s))
+    → MovesByTheReport n list
 
 pub record AsTheReport : Type 0 where
   pub root-rounds-correctly : RootRoundsCorrectly

@@ -16,8 +16,9 @@ abbrev pub Bytes : List ℕ → Type 0
 Bytes b = (i : ℕ) → getD b i 0 < 256
 
 -- ---- place by place
--- Sizes first: n, then S, one byte each. Then the line codes 1 to n, one byte each. Then the rows, row i being i entries of
--- the lower triangle up to its diagonal, 8 bytes each, highest byte first. Bytes are counted from 0; q is 0 for the highest.
+-- Sizes first: n, then S, one byte each. Then the line codes 1 to n, one byte each. Then the rows, row i being i
+-- entries of the lower triangle up to its diagonal, 8 bytes each, highest byte first. Bytes are counted from 0; q is 0
+-- for the highest.
 pub record SheetHolds (b : List ℕ) (n sweeps : ℕ) (codes : List ℕ) (l : List Float) : Type 0 where
   pub order : getD b 0 0 ≡ n
   pub sweep-count : getD b 1 0 ≡ sweeps
@@ -33,8 +34,8 @@ WrittenInPlace =
     → writeOf n sweeps codes l b .answer ≡ given tt
     → SheetHolds (writeOf n sweeps codes l b .bytes) n sweeps codes l
 
--- A sheet that is not refused, and the lent codes and the lent matrix after its reading. Above the diagonal stand the mirror
--- bits.
+-- A sheet that is not refused, and the lent codes and the lent matrix after its reading. Above the diagonal stand the
+-- mirror bits.
 abbrev pub ReadInPlace : Type 0
 ReadInPlace =
     (b c : List ℕ) (m : List Float) (n sweeps : ℕ)
@@ -60,7 +61,8 @@ AcceptedIsWrittenAgain =
     → (c : List ℕ) (m : List Float) (n sweeps : ℕ)
     → readOf b c m .answer ≡ given (n, sweeps)
     → (lent : List ℕ) → length b ≤ length lent
-    → writeOf n sweeps (readOf b c m .codes) (readOf b c m .matrix) lent ≡ writeOutcome (given tt) (b ++ drop (length b) lent)
+    → writeOf n sweeps (readOf b c m .codes) (readOf b c m .matrix) lent
+    ≡ writeOutcome (given tt) (b ++ drop (length b) lent)
 
 -- Two contents of a sheet are one.
 pub record SameContent (n n′ sweeps sweeps′ : ℕ) (codes codes′ : List ℕ) (l l′ : List Float) : Type 0 where
