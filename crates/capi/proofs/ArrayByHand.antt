@@ -35,8 +35,8 @@ module _ (i j n sweeps : ℕ) (l : List Float) (w : List ℕ) {s : CAnswer} wher
   start-stored x e h z k = rw (e, z, k, e, h .answers, h .hands-back)
 
 -- ---- a tick
-module _ (m : ℕ) (w : List ℕ) where
-  pub tick-refused-by-3 : {k : ℕ} → eqb (length w) arrayWords ≡ false → k ≡ numberAndValues Length .0 → (k, m, w) ≡ ofTick w m
+module _ (w : List ℕ) where
+  pub tick-refused-by-3 : {k : ℕ} → eqb (length w) arrayWords ≡ false → k ≡ numberAndValues Length .0 → (k, 0, w) ≡ ofTick w
   unfolding ofTick
   tick-refused-by-3 e z = rw (e, z)
 
@@ -44,14 +44,14 @@ module _ (m : ℕ) (w : List ℕ) where
     tells : {a : Answered Tick} → progressAnswered (r .answer) ≡ a → progressOf (arrayIn w .n) (arrayIn w .sweeps) (arrayIn w .tick) ≡ a
     tells {a = a} z = subst (λ (y : Array). progressOf (y .n) (y .sweeps) (y .tick) ≡ a) loaded (sym (h .answers) ∙ z)
 
-    pub tick-made : {w′ : List ℕ} → r .answer ≡ progress.Made → w′ ≡ storedIn (r .array) w → (0, 1, w′) ≡ ofTick w m
+    pub tick-made : {w′ : List ℕ} → r .answer ≡ progress.Made → w′ ≡ storedIn (r .array) w → (0, 1, w′) ≡ ofTick w
     unfolding ofTick storedIn
     tick-made z k = rw (long, tells {a = given made} (rw z), k, long, h .hands-back, sym (h .answers), z, loaded)
 
-    pub tick-stopped : r .answer ≡ progress.Stopped → (0, 0, w) ≡ ofTick w m
+    pub tick-stopped : r .answer ≡ progress.Stopped → (0, 0, w) ≡ ofTick w
     unfolding ofTick
     tick-stopped z = rw (long, tells {a = given stopped} (rw z))
 
-    pub tick-refused : {k : ℕ} (q : Refusal) → r .answer ≡ progress.Refused q → k ≡ numberAndValues q .0 → (k, m, w) ≡ ofTick w m
+    pub tick-refused : {k : ℕ} (q : Refusal) → r .answer ≡ progress.Refused q → k ≡ numberAndValues q .0 → (k, 0, w) ≡ ofTick w
     unfolding ofTick
     tick-refused q z e = rw (long, tells {a = refusedBy q} (rw z), e)

@@ -90,13 +90,13 @@ ofStart n sweeps l w i j =
     cond (eqb (length w) arrayWords) (cAnswerOf (startAnswer n sweeps l) i j, wordsOf (startedOf (startAnswer n sweeps l) n sweeps l))
     (cAnswerOf (beforeRun n sweeps l 0 0) i j, w)
 
--- 1 for a tick that is made and 0 for one that is stopped, by what a tick of the array x answers
-abbrev pub tickedAs : Answered Tick → Array → ℕ → List ℕ → ℕ × ℕ × List ℕ
-tickedAs (given made) x m w = (0, 1, wordsOf (arrayOf (given made) x))
-tickedAs (given stopped) x m w = (0, 0, w)
-tickedAs (refused k values) x m w = (k, m, w)
+-- 1 for a tick that is made and 0 for one that is stopped or refused, by what a tick of the array x answers
+abbrev pub tickedAs : Answered Tick → Array → List ℕ → ℕ × ℕ × List ℕ
+tickedAs (given made) x w = (0, 1, wordsOf (arrayOf (given made) x))
+tickedAs (given stopped) x w = (0, 0, w)
+tickedAs (refused k values) x w = (k, 0, w)
 
-unfoldable pub ofTick : List ℕ → ℕ → ℕ × ℕ × List ℕ
-ofTick w m =
+unfoldable pub ofTick : List ℕ → ℕ × ℕ × List ℕ
+ofTick w =
     let x = arrayIn w in
-    cond (eqb (length w) arrayWords) (tickedAs (progressOf (x .n) (x .sweeps) (x .tick)) x m w) (numberOf Length, m, w)
+    cond (eqb (length w) arrayWords) (tickedAs (progressOf (x .n) (x .sweeps) (x .tick)) x w) (numberOf Length, 0, w)

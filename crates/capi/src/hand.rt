@@ -31,8 +31,9 @@ pub extern "C" fn weimrukas_array_start(
 
 #[no_mangle]
 pub extern "C" fn weimrukas_array_tick(words: &mut [u64], made: &mut u8) -> u8
-    ensures { λ r. ⌜ (r, now (made .exit), now (words .exit)) ≡ ofTick (now (words .entry)) (now (made .entry)) ⌝ }
+    ensures { λ r. ⌜ (r, now (made .exit), now (words .exit)) ≡ ofTick (now (words .entry)) ⌝ }
 {
+    *made = 0;
     if !array_words::is_array(words.len()) {
         return refusal::number(Refusal::Length);
     }
@@ -46,10 +47,7 @@ pub extern "C" fn weimrukas_array_tick(words: &mut [u64], made: &mut u8) -> u8
             *made = 1;
             0
         }
-        Progress::Stopped => {
-            *made = 0;
-            0
-        }
+        Progress::Stopped => 0,
         Progress::Refused(refused) => refusal::number(refused),
     }
 }

@@ -6,6 +6,7 @@ use Rattle.claims.proofs.Report.{as-the-report}
 use Rattle.claims.proofs.Sheets.{sheets-kept}
 use Rattle.claims.proofs.PlainRuns.{plain-runs-as-stated}
 use Rattle.claims.proofs.Tiles.{tiles-as-printed}
+use Rattle.claims.proofs.Listings.{listings-as-stated}
 use Rattle.claims.proofs.Histories.{one-history}
 use Rattle.claims.proofs.Examples.{examples-hold}
 
@@ -18,6 +19,7 @@ demands-met =
       demand-2-runs = plain-runs-as-stated;
       demand-2-tiles = tiles-as-printed;
       demand-2-sheets = sheets-kept;
+      demand-2-listings = listings-as-stated;
       demand-3 = one-history;
       examples-hold = examples-hold;
     }

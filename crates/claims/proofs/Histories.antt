@@ -37,7 +37,7 @@ whole-run : WholeRunIsThePlainRun
 whole-run = agreement.whole-agrees
 
 -- the value that is given
-given-value : {A : Type 0} (x y : A) (a : Answered Unit) → giving x a ≡ given y → y ≡ x
+pub given-value : {A : Type 0} (x y : A) (a : Answered Unit) → giving x a ≡ given y → y ≡ x
 given-value x y (given z) e = sym (ap (λ (b : Answered _). valueOr b x) e)
 given-value x y (refused k values) e = sym (ap (λ (b : Answered _). valueOr b x) e)
 

@@ -14,3 +14,4 @@ pub mod Tiles
 pub mod Demands
 pub mod PairEntries
 pub mod PlainRuns
+pub mod Listings

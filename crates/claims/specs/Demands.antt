@@ -7,6 +7,7 @@ use Rattle.claims.specs.Report.{AsTheReport}
 use Rattle.claims.specs.Sheets.{SheetsKept}
 use Rattle.claims.specs.PlainRuns.{PlainRunsAsStated}
 use Rattle.claims.specs.Tiles.{TilesAsPrinted}
+use Rattle.claims.specs.Listings.{ListingsAsStated}
 use Rattle.claims.specs.Histories.{OneHistory}
 use Rattle.claims.specs.Examples.{All, examples}
 
@@ -17,5 +18,6 @@ pub record Demands : Type 0 where
   pub demand-2-runs : PlainRunsAsStated
   pub demand-2-tiles : TilesAsPrinted
   pub demand-2-sheets : SheetsKept
+  pub demand-2-listings : ListingsAsStated
   pub demand-3 : OneHistory
   pub examples-hold : All examples

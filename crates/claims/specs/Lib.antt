@@ -6,4 +6,5 @@ pub mod Sheets
 pub mod PlainRuns
 pub mod Tiles
 pub mod Histories
+pub mod Listings
 pub mod Examples

@@ -2,15 +2,15 @@
 use Prim.Native.Nat.{ℕ, _*_, _<_, _≤_}
 use mathlib.Core.Path.{_≡_, refl, sym, ap, _∙_}
 use mathlib.Core.Bool.{Bool, true, false, cond}
-use mathlib.Core.List.{List, []}
+use mathlib.Core.List.{List, [], _∷_}
 use native.Mathlib.Omega.{arith}
 use borrow.Author.Tests.{lt-ltb, le-ltb, ltb-false}
 use lib.Dec.{ltb}
 use lib.ListN.{length, List·getD-eq-default}
 use lib.Ieee.{Float}
-use Rattle.refusal.specs.Answers.{Answered, given, refused, refusedBy, giving, valueOr, unlessRefused}
-use Rattle.refusal.specs.Refusal.{numberOf}
+use Rattle.refusal.specs.Answers.{Answered, given, refused, refusedBy, giving, valueOr, unlessRefused, orElse, row, table}
 use Rattle.refusal.specs.declared.Refusal.{Refusal}
+use Rattle.refusal.specs.declared.Refusal.the-variants.{TooShort}
 use Rattle.refusal.proofs.FirstRefusal.{refused-given}
 use Rattle.sizes.specs.Sizes.{isOrder, largestOrder}
 use Rattle.sizes.proofs.Orders.{order-is}
@@ -26,8 +26,9 @@ use Rattle.sheet_reader.specs.declared.Reading.{Reading}
 use Rattle.sheet_reader.specs.declared.Reading.the-variants as reading
 use Rattle.sheet_reader.specs.Reader.{sheetAnswer, readAnswer, ReadOutcome, readOutcome, readingAnswered, contentOf, readOf}
 use Rattle.sheet_reader.proofs.Tables.{lent-right, readable}
-use Rattle.listing_text.specs.Printed.{Printing, printing, printOf, refusedTextLine, refusalOf, roomFor}
-use Rattle.listing.specs.Listing.{ListingOutcome, listed, byRun, roomThenRun, contentListed, listOf}
+use Rattle.listing_text.specs.Printed.{Printing, printing, printOf, roomFor}
+use Rattle.listing_text.proofs.Room.{Within, print-within}
+use Rattle.listing.specs.Listing.{ListingOutcome, listed, listedUnless, listOf}
 
 -- ---- the order
 module _ (b : List ℕ) where
@@ -50,39 +51,42 @@ module _ (b : List ℕ) where
   pub order-there : {n : ℕ} → n ≡ cond (ltb largestOrder (orderIn b)) 0 (orderIn b) → isOrder (orderIn b) ≡ true → n ≡ orderIn b
   order-there e z = e ∙ sym (not-too-large (order-is (orderIn b) z .2))
 
--- ---- the text line of a refusal
-pub refusal-listed : (r : Refusal) (t : List ℕ) {p : Printing} → p ≡ refusalOf r t
-    → listed (refusedBy r) p ≡ listed (refusedBy r) (refusedTextLine (numberOf r) t)
-unfolding refusalOf
-refusal-listed r t e = ap (listed (refusedBy r)) e
-
 -- ---- the run
 module _ (n sweeps : ℕ) (codes t : List ℕ) (o : Outcome ℕ) where
-  pub no-room : length t < roomFor n → listed (refused 7 []) (printing 0 t) ≡ roomThenRun n sweeps codes o t
-  unfolding roomThenRun
-  no-room h = rw (lt-ltb _ _ h)
+  pub no-room : {a : Answered Unit} {k : ℕ} → length t < roomFor n → a ≡ refusedBy TooShort → k ≡ 0
+      → listed a (printing k t) ≡ listedUnless (given tt) n sweeps codes o t
+  unfolding listedUnless
+  no-room h e z = rw (lt-ltb _ _ h, e, z)
 
   module _ (room : roomFor n ≤ length t) (x : Completion) {l e : List Float} where
     pub run-printed : (ticks : ℕ) {p : Printing} → x ≡ completion.Completed ticks → outcome (completionAnswered x) l e ≡ o
-        → p ≡ printOf n sweeps ticks codes l e t → listed (given tt) p ≡ roomThenRun n sweeps codes o t
-    unfolding roomThenRun
-    run-printed ticks z h k = rw (le-ltb _ _ room, k) (ap (λ (y : Outcome ℕ). byRun (y .answer) y n sweeps codes t) (rw z at h))
+        → p ≡ printOf n sweeps ticks codes l e t → listed (given tt) p ≡ listedUnless (given tt) n sweeps codes o t
+    unfolding listedUnless
+    run-printed ticks z h k = rw (le-ltb _ _ room, k, ← h, z)
 
-    pub run-not-printed : (r : Refusal) {y : ListingOutcome} → x ≡ completion.Refused r → outcome (completionAnswered x) l e ≡ o
-        → y ≡ listed (refusedBy r) (refusedTextLine (numberOf r) t) → y ≡ roomThenRun n sweeps codes o t
-    unfolding roomThenRun
-    run-not-printed r z h k = rw (le-ltb _ _ room, k) (ap (λ (y : Outcome ℕ). byRun (y .answer) y n sweeps codes t) (rw z at h))
+    pub run-not-printed : (r : Refusal) {a : Answered Unit} {k : ℕ} → x ≡ completion.Refused r → outcome (completionAnswered x) l e ≡ o
+        → a ≡ refusedBy r → k ≡ 0 → listed a (printing k t) ≡ listedUnless (given tt) n sweeps codes o t
+    unfolding listedUnless
+    run-not-printed r z h e′ k = rw (le-ltb _ _ room, e′, k, ← h, z)
+
+-- a refusal leaves nothing to be seen of what would be printed
+unseen-if-refused : (a : Answered Unit) (k : ℕ) (values : List ℕ) (p q : ListingOutcome) (left : Answered Unit → ListingOutcome)
+    → unlessRefused (orElse a (refused k values)) p left ≡ unlessRefused (orElse a (refused k values)) q left
+unseen-if-refused (given x) k values p q left = refl
+unseen-if-refused (refused j w) k values p q left = refl
 
 -- what the results hold before a run is not seen after it
 module _ (n sweeps : ℕ) (codes t : List ℕ) (l : List Float) where
   unseen : (r v r′ v′ : List Float) (a : Answered Unit) (o : Outcome ℕ)
-      → roomThenRun n sweeps codes (unlessRefused a o (resultsKept r v)) t ≡ roomThenRun n sweeps codes (unlessRefused a o (resultsKept r′ v′)) t
-  unfolding roomThenRun
+      → listedUnless (given tt) n sweeps codes (unlessRefused a o (resultsKept r v)) t
+      ≡ listedUnless (given tt) n sweeps codes (unlessRefused a o (resultsKept r′ v′)) t
+  unfolding listedUnless
   unseen r v r′ v′ (given x) o = refl
-  unseen r v r′ v′ (refused k values) o = refl
+  unseen r v r′ v′ (refused k values) o = unseen-if-refused (row (ltb (length t) (roomFor n)) TooShort) k values _ _ _
 
   pub by-zeros : (r v : List Float) → length r ≡ n * n → length v ≡ n * n
-      → roomThenRun n sweeps codes (wholeOf n sweeps l r v) t ≡ roomThenRun n sweeps codes (wholeOf n sweeps l (zeros n) (zeros n)) t
+      → listedUnless (given tt) n sweeps codes (wholeOf n sweeps l r v) t
+      ≡ listedUnless (given tt) n sweeps codes (wholeOf n sweeps l (zeros n) (zeros n)) t
   unfolding wholeOf zeros
   by-zeros r v e f = rw (flat-length n _, e, f) (unseen r v (zeros n) (zeros n) (beforeRun n sweeps l (n * n) (n * n)) _)
 
@@ -140,20 +144,38 @@ module _ (b : List ℕ) where
 
   -- ---- the listing
   module _ (c : List ℕ) (m : List Float) (t : List ℕ) (fit : Fitting (length c) (length m)) where
-    pub sheet-refused : (x : Reading) (r : Refusal) {y : ListingOutcome} {codes : List ℕ} {l : List Float}
+    pub sheet-refused : (x : Reading) (r : Refusal) {a : Answered Unit} {k : ℕ} {codes : List ℕ} {l : List Float}
         → readOutcome (readingAnswered x) codes l ≡ readOf b c m
-        → x ≡ reading.Refused r → y ≡ listed (refusedBy r) (refusedTextLine (numberOf r) t) → y ≡ listOf b t
-    unfolding listOf
-    sheet-refused x r h z k = rw (← (answers-alike (length c) (length m) fit), was-refused c m x h r z, k)
+        → x ≡ reading.Refused r → a ≡ refusedBy r → k ≡ 0 → listed a (printing k t) ≡ listOf b t
+    unfolding listOf listedUnless
+    sheet-refused x r h z e k = rw (← (answers-alike (length c) (length m) fit), was-refused c m x h r z, e, k)
 
     -- the results have their lengths too
     abbrev pub Results : List Float → List Float → Type 0
     Results r v = isOrder (orderIn b) ≡ true → (length r ≡ orderIn b * orderIn b) × (length v ≡ orderIn b * orderIn b)
 
     pub sheet-listed : (n sweeps : ℕ) {y : ListingOutcome} {codes : List ℕ} {l : List Float} (r v : List Float) → Results r v
-        → readAnswer b (length c) (length m) ≡ given tt → Content n sweeps codes l → y ≡ roomThenRun n sweeps codes (wholeOf n sweeps l r v) t → y ≡ listOf b t
-    unfolding listOf contentListed
+        → readAnswer b (length c) (length m) ≡ given tt → Content n sweeps codes l
+        → y ≡ listedUnless (given tt) n sweeps codes (wholeOf n sweeps l r v) t → y ≡ listOf b t
+    unfolding listOf
     sheet-listed n sweeps {codes = codes} {l = l} r v long e q k =
         let z = readable b (length c) (length m) e .order in
         let same = by-zeros n sweeps codes t l r v (rw (q .as-order) (long z .0)) (rw (q .as-order) (long z .1)) in
         rw (← (answers-alike (length c) (length m) fit), e) (rw (q .as-matrix, q .as-codes, q .as-sweeps, q .as-order) at (k ∙ same))
+
+-- ---- what is printed lies within the lent bytes
+either-within : (a : Answered Unit) (p : Printing) (t : List ℕ) → Within p
+    → let o = unlessRefused a (listed (given tt) p) (λ (x : Answered Unit). listed x (printing 0 t)) in o .count ≤ length (o .bytes)
+either-within (given x) p t h = h
+either-within (refused k values) p t h = omega arith
+
+unless-within : (a : Answered Unit) (n sweeps : ℕ) (codes : List ℕ) (o : Outcome ℕ) (t : List ℕ)
+    → let y = listedUnless a n sweeps codes o t in y .count ≤ length (y .bytes)
+unfolding listedUnless
+unless-within a n sweeps codes o t =
+    either-within (table (a ∷ row (ltb (length t) (roomFor n)) TooShort ∷ giving tt (o .answer) ∷ []))
+    (printOf n sweeps (valueOr (o .answer) 0) codes (o .result) (o .vectors) t) t (print-within _ _ _ _ _ _ _)
+
+pub listing-within : (b t : List ℕ) → let o = listOf b t in o .count ≤ length (o .bytes)
+unfolding listOf
+listing-within b t = unless-within _ _ _ _ _ _

@@ -4,13 +4,12 @@ ghost use mathlib.Core.Bool.{true, cond};
 ghost use Prim.Native.Nat.{_*_, _≤_};
 ghost use lib.Dec.{ltb};
 ghost use lib.ListN.{length};
-ghost use Rattle.refusal.specs.Answers.{refusedBy, answered};
-ghost use Rattle.refusal.specs.Refusal.{numberOf};
+ghost use Rattle.refusal.specs.Answers.{given, refusedBy, answered};
 ghost use Rattle.sizes.specs.Sizes.{isOrder, largestOrder};
 ghost use Rattle.array_run.specs.Whole.{wholeOf};
 ghost use Rattle.sheet.specs.Format.{orderIn};
-ghost use Rattle.listing_text.specs.Printed.{printing, refusedTextLine};
-ghost use Rattle.listing.specs.Listing.{listed, roomThenRun, listOf};
+ghost use Rattle.listing_text.specs.Printed.{printing};
+ghost use Rattle.listing.specs.Listing.{listed, listedUnless, listOf};
 use array_run::Completion;
 use refusal::Answer;
 use refusal::Refusal;
@@ -24,7 +23,8 @@ pub struct Listing {
     pub count: usize,
 }
 
-// Lists a sheet into lent bytes. The buffers have the sizes that the sheet asks for; an order above the largest is refused before any is used.
+// Lists a sheet into lent bytes; a refusal leaves them as they were. The buffers have the sizes that the sheet asks for; an order above the
+// largest is refused before any is used.
 pub fn list(sheet: &[u8], text: &mut [u8]) -> Listing
     ensures { λ r. ⌜ listed (answered (r .answer)) (printing (r .count) (now (text .exit))) ≡ listOf (now (sheet .entry)) (now (text .entry)) ⌝ }
 {
@@ -75,7 +75,7 @@ fn list_in(
 {
     match sheet_reader::read(sheet, codes, matrix) {
         Reading::Read(n, sweeps) => run(n, sweeps, codes, matrix, result, vectors, text),
-        Reading::Refused(refused) => refuse(refused, text),
+        Reading::Refused(refused) => refuse(refused),
     }
 }
 
@@ -91,32 +91,27 @@ fn run(
 ) -> Listing
     requires { ⌜ n ≤ largestOrder ⌝ }
     ensures { λ r. ⌜ listed (answered (r .answer)) (printing (r .count) (now (text .exit)))
-        ≡ roomThenRun n sweeps (now (codes .entry))
+        ≡ listedUnless (given tt) n sweeps (now (codes .entry))
         (wholeOf n sweeps (now (matrix .entry)) (now (result .entry)) (now (vectors .entry))) (now (text .entry)) ⌝ }
 {
     if text.len() < listing_text::room_for(n) {
-        return Listing {
-            answer: Answer::Refused(Refusal::TooShort),
-            count: 0,
-        };
+        return refuse(Refusal::TooShort);
     }
     match array_run::run(n, sweeps, matrix, result, vectors) {
         Completion::Completed(ticks) => Listing {
             answer: Answer::Accepted,
             count: listing_text::print(n, sweeps, ticks, codes, result, vectors, text),
         },
-        Completion::Refused(refused) => refuse(refused, text),
+        Completion::Refused(refused) => refuse(refused),
     }
 }
 
-// The text line of a refusal.
-fn refuse(refused: Refusal, text: &mut [u8]) -> Listing
-    ensures { λ r. ⌜ listed (answered (r .answer)) (printing (r .count) (now (text .exit)))
-        ≡ listed (refusedBy refused) (refusedTextLine (numberOf refused) (now (text .entry))) ⌝ }
+// A refusal, which prints nothing.
+fn refuse(refused: Refusal) -> Listing
+    ensures { λ r. ⌜ (answered (r .answer) ≡ refusedBy refused) × (r .count ≡ 0) ⌝ }
 {
-    let count = listing_text::print_refusal(refused, text);
     Listing {
         answer: Answer::Refused(refused),
-        count: count,
+        count: 0,
     }
 }

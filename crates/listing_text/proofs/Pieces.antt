@@ -8,8 +8,6 @@ use borrow.Author.Tests.{lt-ltb, le-ltb, eq-eqb, ne-eqb, eqb-true, leb-true}
 use lib.Dec.{leb, ltb, eqb}
 use lib.ListN.{length, getD, drop}
 use lib.Ieee.{Float, binary64, toBits}
-use Rattle.refusal.specs.Refusal.{numberOf}
-use Rattle.refusal.specs.declared.Refusal.{Refusal}
 use Rattle.sizes.specs.Sizes.{isOrder}
 use Rattle.matrix.specs.Matrix.{at}
 use Rattle.text.specs.Text.{decimalOf, hexOf, space, newline, Put}
@@ -130,13 +128,13 @@ pub word-put : {l₀ l₁ l₂ l₃ l₄ l₅ l₆ l₇ l₈ : List ℕ} {a b c 
     → Put l₇ h space l₈ i → Put l₀ a refusedWord l₈ i
 word-put p q r s t u v w = put-then p (put-then q (put-then r (put-then s (put-then t (put-then u (put-then v w))))))
 
-module _ (r : Refusal) (b : List ℕ) where
-  pub refusal-not-printed : length b < 13 → printing 0 b ≡ refusalOf r b
+module _ (k : ℕ) (b : List ℕ) where
+  pub refusal-not-printed : length b < 13 → printing 0 b ≡ refusalOf k b
   unfolding refusalOf
   refusal-not-printed h = rw (lt-ltb (length b) 13 h)
 
-  pub refusal-printed : {k : ℕ} {l m o : List ℕ} {d e f : ℕ} → 13 ≤ length b → k ≡ numberOf r → Put b 0 refusedWord l d
-      → Put l d (decimalOf k) m e → Put m e newline o f → printing f o ≡ refusalOf r b
+  pub refusal-printed : {j : ℕ} {l m o : List ℕ} {d e f : ℕ} → 13 ≤ length b → j ≡ k → Put b 0 refusedWord l d
+      → Put l d (decimalOf j) m e → Put m e newline o f → printing f o ≡ refusalOf k b
   unfolding refusalOf
-  refusal-printed {k} {l} {m} {o} {d} {e} {f} h z p q s =
-      rw (le-ltb (length b) 13 h) (whole b (refusedText (numberOf r)) o f (put-then p (put-then (put-as q (ap decimalOf z)) s)))
+  refusal-printed {j} {l} {m} {o} {d} {e} {f} h z p q s =
+      rw (le-ltb (length b) 13 h) (whole b (refusedText k) o f (put-then p (put-then (put-as q (ap decimalOf z)) s)))

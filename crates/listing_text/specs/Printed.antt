@@ -5,8 +5,6 @@ use mathlib.Core.List.{List, [], _∷_, _++_}
 use lib.Dec.{eqb, ltb, leb}
 use lib.ListN.{length, getD, drop}
 use lib.Ieee.{Float, binary64, toBits}
-use Rattle.refusal.specs.Refusal.{numberOf}
-use Rattle.refusal.specs.declared.Refusal.{Refusal}
 use Rattle.sizes.specs.Sizes.{isOrder}
 use Rattle.matrix.specs.Matrix.{at}
 use Rattle.text.specs.Text.{decimalOf, hexOf, space, newline}
@@ -70,8 +68,6 @@ abbrev pub refusedText : ℕ → List ℕ
 refusedText k = refusedWord ++ (decimalOf k ++ newline)
 
 -- The text line of the refusal with the number k, in bytes that are enough for any.
-abbrev pub refusedTextLine : ℕ → List ℕ → Printing
-refusedTextLine k b = cond (ltb (length b) 13) (printing 0 b) (printing (length (refusedText k)) (refusedText k ++ drop (length (refusedText k)) b))
-
-unfoldable pub refusalOf : Refusal → List ℕ → Printing
-refusalOf r b = refusedTextLine (numberOf r) b
+unfoldable pub refusalOf : ℕ → List ℕ → Printing
+refusalOf k b =
+    let s = refusedText k in cond (ltb (length b) 13) (printing 0 b) (printing (length s) (s ++ drop (length s) b))

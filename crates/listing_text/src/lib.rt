@@ -2,6 +2,7 @@
 ghost use mathlib.Core.Path.{_≡_};
 ghost use Prim.Native.Nat.{_+_, _*_, _≤_};
 ghost use lib.ListN.{length};
+ghost use Rattle.refusal.specs.Refusal.{numberOf};
 ghost use Rattle.matrix.specs.Matrix.{at};
 ghost use Rattle.sizes.specs.Sizes.{largestOrder};
 ghost use Rattle.text.specs.Text.{Put};
@@ -44,7 +45,7 @@ pub fn print(
 
 // Prints a refusal into lent bytes, and answers how many they are. Nothing is printed where there may be too little room.
 pub fn print_refusal(refused: Refusal, out: &mut [u8]) -> usize
-    ensures { λ r. ⌜ printing r (now (out .exit)) ≡ refusalOf refused (now (out .entry)) ⌝ }
+    ensures { λ r. ⌜ printing r (now (out .exit)) ≡ refusalOf (numberOf refused) (now (out .entry)) ⌝ }
 {
     if out.len() < 13 {
         return 0;

@@ -1,12 +1,16 @@
 -- A matrix and its list. Assumes nothing.
 use Prim.Native.Nat.{ℕ, zero, suc, _+_, _-_, _*_, _/_, _%_, _<_}
-use mathlib.Core.Path.{_≡_, sym, ap, _∙_}
+use mathlib.Core.Path.{_≡_, refl, sym, ap, _∙_}
+use mathlib.Core.Bool.{Bool, true, false}
 use mathlib.Core.List.{List}
 use native.Mathlib.Omega.{arith}
 use native.Mathlib.Nat.{div-lt-iff-lt-mul, div-add-mod', mod-lt, zero-lt-suc}
+use borrow.Author.Tests.{ltb-true, ltb-false}
 use lib.Arith.{digits-lt, digits-div, digits-mod}
-use lib.ListN.{length, getD}
-use lib.Ieee.{Float, nan}
+use lib.Dec.{T, ltb}
+use lib.ListN.{length, getD, List·getD-eq-default}
+use lib.Ieee.{Float, nan, binary64, fits}
+use Rattle.lists.specs.Tabulate.{tabulate}
 use Rattle.lists.proofs.Tabulated.{length-tabulate, getD-tabulate, tabulated}
 use Rattle.matrix.specs.Matrix.{at, flat}
 
@@ -46,3 +50,14 @@ unfolding flat
 flat-is n A l e h =
     tabulated (n * n) _ l nan e
     (λ k b. ap (λ (x : ℕ). getD l x nan) (sym (div-add-mod' k n)) ∙ sym (at-offset n l (k / n) (k % n)) ∙ h (k / n) (k % n) (row-lt n k b) (column-lt n k b))
+
+-- the values of a matrix of values of binary64
+pub flat-fits : (n : ℕ) (A : ℕ → ℕ → Float) → ((i j : ℕ) → T (fits binary64 (A i j))) → (k : ℕ) → T (fits binary64 (getD (flat n A) k nan))
+unfolding flat fits
+flat-fits n A h k = go (ltb k (n * n)) refl
+  where
+    go : (b : Bool) → ltb k (n * n) ≡ b → T (fits binary64 (getD (tabulate (n * n) (λ k. A (k / n + 1) (k % n + 1))) k nan))
+    go true e = rw (getD-tabulate (n * n) (λ k. A (k / n + 1) (k % n + 1)) k nan (ltb-true _ _ e)) (h _ _)
+    go false e =
+        rw (List·getD-eq-default (tabulate (n * n) (λ k. A (k / n + 1) (k % n + 1))) nan {n = k}
+        (rw (length-tabulate (n * n) (λ k. A (k / n + 1) (k % n + 1))) (ltb-false _ _ e))) tt

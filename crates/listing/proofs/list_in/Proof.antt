@@ -64,18 +64,14 @@ same-length-6 c = search needs
 same-length-7 : tie.Need-same-length-7
 same-length-7 c = search needs
 
-same-length-8 : tie.Need-same-length-8
-same-length-8 c = search needs
-
 returns-2 : tie.Need-returns-2
 returns-2 c =
-    let refuse = c .before .before in
-    let told = refuse .before .before .before in
+    let told = c .before .before in
     let read = at-read (told .before .before) in
     let start = at-start read in
     let p = start .pre in
     sheet-refused _ (start .args .codes .now) (start .args .matrix .now) _ (λ e. (p e .0, p e .1)) _ _
-    (read .read .ensures) (told .refused .given .1) (refuse .refuse .ensures)
+    (read .read .ensures) (told .refused .given .1) (c .refuse .ensures .0) (c .refuse .ensures .1)
 
 pub list-in-spec : {M : Type 1} → statement M
 list-in-spec =
@@ -94,5 +90,4 @@ list-in-spec =
     returns
     same-length-6
     same-length-7
-    same-length-8
     returns-2)

@@ -19,8 +19,13 @@ at-run c = c .before .before .before .before
 room-for-requires : tie.Need-room-for-requires
 room-for-requires c κs = search needs
 
+refuse-requires : tie.Need-refuse-requires
+refuse-requires c κs = search needs
+
 returns : tie.Need-returns
-returns c = no-room _ _ _ _ _ (rw (c .before .room-for .ensures) at (c .if1 .taken))
+returns c =
+    let test = c .before in
+    no-room _ _ _ _ _ (rw (test .before .room-for .ensures) at (test .if1 .taken)) (c .refuse .ensures .0) (c .refuse .ensures .1)
 
 run-requires : tie.Need-run-requires
 run-requires c κs = search needs
@@ -34,8 +39,8 @@ print-requires c κs = search needs
 enum-known-refused : tie.Need-enum-known-refused
 enum-known-refused c = search needs
 
-refuse-requires : tie.Need-refuse-requires
-refuse-requires c κs = search needs
+refuse-requires-2 : tie.Need-refuse-requires-2
+refuse-requires-2 c κs = search needs
 
 same-length : tie.Need-same-length
 same-length c = search needs
@@ -60,33 +65,29 @@ same-length-4 c = search needs
 same-length-5 : tie.Need-same-length-5
 same-length-5 c = search needs
 
-same-length-6 : tie.Need-same-length-6
-same-length-6 c = search needs
-
 returns-3 : tie.Need-returns-3
 returns-3 c =
-    let refuse = c .before .before in
-    let told = refuse .before .before .before in
+    let told = c .before .before in
     let ran = at-run (told .before .before) in
     let room = enough (ran .before .before .before) in
-    run-not-printed _ _ _ _ _ room _ _ (told .refused .given .1) (ran .run .ensures) (refuse .refuse .ensures)
+    run-not-printed _ _ _ _ _ room _ _ (told .refused .given .1) (ran .run .ensures) (c .refuse2 .ensures .0) (c .refuse2 .ensures .1)
 
 pub run-spec : {M : Type 1} → statement M
 run-spec =
     tie.close
     (tie.spec
     room-for-requires
+    refuse-requires
     returns
     run-requires
     enum-known-ticks
     print-requires
     enum-known-refused
-    refuse-requires
+    refuse-requires-2
     same-length
     same-length-2
     same-length-3
     returns-2
     same-length-4
     same-length-5
-    same-length-6
     returns-3)

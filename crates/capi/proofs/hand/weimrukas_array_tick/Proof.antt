@@ -18,7 +18,7 @@ number-requires c κs = search needs
 returns : tie.Need-returns
 returns c =
     let test = c .before in
-    tick-refused-by-3 _ _ (sym (test .before .is-array .ensures) ∙ not-true _ (test .if1 .taken)) (c .number .ensures)
+    tick-refused-by-3 _ (sym (test .before .is-array .ensures) ∙ not-true _ (test .if1 .taken)) (c .number .ensures)
 
 load-requires : tie.Need-load-requires
 load-requires c κs = search needs
@@ -49,7 +49,7 @@ returns-2 c =
     let told = c .before .before .before .before .before in
     let ticked = told .before .before in
     let test = at-test ticked in
-    tick-made _ _ (sym (test .before .is-array .ensures) ∙ not-false _ (test .if1 .left)) _ (ticked .before .load .ensures) _ (ticked .tick .ensures)
+    tick-made _ (sym (test .before .is-array .ensures) ∙ not-false _ (test .if1 .left)) _ (ticked .before .load .ensures) _ (ticked .tick .ensures)
     (told .enum-told .given .1) (c .before .before .store .ensures)
 
 same-length-2 : tie.Need-same-length-2
@@ -59,7 +59,7 @@ returns-3 : tie.Need-returns-3
 returns-3 c =
     let ticked = c .before .before in
     let test = at-test ticked in
-    tick-stopped _ _ (sym (test .before .is-array .ensures) ∙ not-false _ (test .if1 .left)) _ (ticked .before .load .ensures) _ (ticked .tick .ensures)
+    tick-stopped _ (sym (test .before .is-array .ensures) ∙ not-false _ (test .if1 .left)) _ (ticked .before .load .ensures) _ (ticked .tick .ensures)
     (c .enum-told2 .given .1)
 
 same-length-3 : tie.Need-same-length-3
@@ -70,7 +70,7 @@ returns-4 c =
     let told = c .before .before in
     let ticked = told .before .before in
     let test = at-test ticked in
-    tick-refused _ _ (sym (test .before .is-array .ensures) ∙ not-false _ (test .if1 .left)) _ (ticked .before .load .ensures) _ (ticked .tick .ensures) _
+    tick-refused _ (sym (test .before .is-array .ensures) ∙ not-false _ (test .if1 .left)) _ (ticked .before .load .ensures) _ (ticked .tick .ensures) _
     (told .answer .given .1) (c .number2 .ensures)
 
 pub weimrukas-array-tick-spec : {M : Type 1} → statement M

@@ -1,0 +1,169 @@
+-- The listing of a sheet, each part by the law that proves it. Assumes nothing.
+use Prim.Native.Nat.{ℕ, zero, suc, _*_, _<_, _≤_}
+use mathlib.Core.Path.{_≡_, refl, sym, ap, _∙_}
+use mathlib.Core.List.{List, [], _∷_, _++_}
+use mathlib.Core.Bool.{Bool, true, false, cond}
+use native.Mathlib.Omega.{arith}
+use borrow.Author.Tests.{le-ltb}
+use lib.Dec.{T, ltb}
+use lib.ListN.{length, getD, drop}
+use lib.Ieee.{Float, nan, binary64, fits, ofBits, toBits, add, sub, mul, div, lt, neg}
+use lib.Ieee.Bits.{ofBits-fits}
+use Rattle.refusal.specs.Answers.{Answered, given, refused, giving, valueOr, unlessRefused, row, table}
+use Rattle.refusal.specs.declared.Refusal.the-variants.{TooShort}
+use Rattle.refusal.proofs.FirstRefusal.{refused-given}
+use Rattle.sizes.specs.Sizes.{isOrder, ticksOf}
+use Rattle.sizes.proofs.Orders.{order-half, steps-few}
+use Rattle.matrix.specs.Matrix.{at, flat}
+use Rattle.matrix.proofs.Flat.{flat-length, flat-fits}
+use Rattle.runs.specs.State.{zeros}
+use Rattle.runs.specs.Outcome.{Outcome, answering}
+use Rattle.plain_run.specs.Run.{runOf}
+use Rattle.plain_run.proofs.RunResults.{last-matrices}
+use Rattle.array_agreement.proofs.Agreement.{whole-agrees}
+use Rattle.sheet.specs.Format.{orderIn, sweepsIn, codesIn, patternIn, entryIn}
+use Rattle.sheet_reader.specs.Reader.{sheetAnswer}
+use Rattle.sheet_reader.proofs.SheetContents.{codes-count}
+use Rattle.sheet_reader.proofs.Tables.{lent-right, readable}
+use Rattle.listing_text.specs.Printed.{Printing, printing, printOf, headOf, textLineOf, textLinesOf, printedOf, roomFor}
+use Rattle.listing_text.proofs.PrintedTexts.{all-printed}
+use Rattle.listing.specs.Listing.{ListingOutcome, listed, listedUnless, listOf}
+use Rattle.claims.proofs.Histories.{given-value}
+use Rattle.claims.specs.Examples.{values}
+use Rattle.claims.specs.Listings.{exampleSheet}
+use Rattle.float64.specs.Values.{finite}
+use Rattle.root.specs.Sqrt.{sqrtOf}
+use Rattle.lists.specs.Tabulate.{tabulate}
+use Rattle.systolic.specs.Slots.{slot, cameFrom, intoLast, prior, lineAt, inOrderAt, inOrder}
+use Rattle.lists.specs.Bounded.{any}
+use Rattle.ordering.specs.Registers.{column, registersOf}
+use Rattle.ordering.specs.Pairs.{registersAt}
+use Rattle.rotation.specs.Rotation.{tangentOfPair, tangentOf, cosineOf, quotient, signum, rootOf, ofAngle, ofTangent, ofPair}
+use Rattle.refusal.specs.Answers.{first}
+use Rattle.matrix.specs.Entries.{notFiniteAt, notMirroredAt, finiteRow, mirrorRow}
+use Rattle.matrix_turns.specs.Turns.{turnedAt, rowTurn, columnTurn, columnTurnAll}
+use Rattle.systolic.specs.Sequential.{place, pairBlock}
+use Rattle.runs.specs.Blocks.{matrixBlock}
+use Rattle.plain_pair.specs.Pair.{pairTurned, pairRotated}
+use Rattle.runs.specs.State.{identity, startOf}
+use Rattle.plain_run.specs.State.{pairsRotated, after, notFinite, spoiled}
+use Rattle.runs.specs.Outcome.{beforeRun, outcome}
+use Rattle.plain_run.specs.Run.{ranOf}
+use Rattle.sheet.specs.Format.{wordFrom, entryNumber, entriesTo}
+use Rattle.sheet.specs.Codes.{badCodes, badCode}
+use Rattle.sheet_reader.specs.Reader.{storedRow, notFiniteIn}
+use Rattle.listing_text.specs.Printed.{valueField, columnOf}
+use Rattle.text.specs.Text.{decimalOf, shownFrom, hexOf}
+use Rattle.claims.specs.Listings.{runIn, ListingAnswers, ListingLeaves, codesPrinted, sheetPrinted, ListingPrints}
+use Rattle.claims.specs.Listings.{ExamplePrinted, ListingsAsStated}
+
+by-answer : (a : Answered Unit) (p : Printing) (t : List ℕ) → unlessRefused a (listed (given tt) p) (λ (x : Answered Unit). listed x (printing 0 t)) .answer ≡ a
+by-answer (given tt) p t = refl
+by-answer (refused k values) p t = refl
+
+answers : ListingAnswers
+unfolding listOf listedUnless
+answers b t = by-answer _ _ t
+
+left-alone : (a : Answered Unit) (p : Printing) (t : List ℕ) (k : ℕ) (values : List ℕ)
+    → unlessRefused a (listed (given tt) p) (λ (x : Answered Unit). listed x (printing 0 t)) .answer ≡ refused k values
+    → (unlessRefused a (listed (given tt) p) (λ (x : Answered Unit). listed x (printing 0 t)) .count ≡ 0)
+    × (unlessRefused a (listed (given tt) p) (λ (x : Answered Unit). listed x (printing 0 t)) .bytes ≡ t)
+left-alone (given tt) p t k values e = refused-given (sym e)
+left-alone (refused j w) p t k values e = (refl, refl)
+
+leaves : ListingLeaves
+unfolding listOf listedUnless
+leaves b t k values e =
+    let n = orderIn b in
+    left-alone (table (sheetAnswer b ∷ row (ltb (length t) (roomFor n)) TooShort ∷ giving tt (runIn b .answer) ∷ []))
+    (printOf n (sweepsIn b) (valueOr (runIn b .answer) 0) (codesIn b) (runIn b .result) (runIn b .vectors) t) t k values e
+
+-- ---- what is printed
+codes-same : (n : ℕ) (codes : List ℕ) (A E : ℕ → ℕ → Float) (k : ℕ) → textLinesOf n codes A E k ≡ codesPrinted n codes A E k
+unfolding textLinesOf textLineOf codesPrinted
+codes-same n codes A E zero = refl
+codes-same n codes A E (suc k) = rw (codes-same n codes A E k)
+
+entry-fits : (b : List ℕ) (i j : ℕ) → T (fits binary64 (entryIn b i j))
+unfolding entryIn
+entry-fits b i j = go (ltb i j)
+  where
+    go : (c : Bool) → T (fits binary64 (cond c (ofBits binary64 (patternIn b j i)) (ofBits binary64 (patternIn b i j))))
+    go true = ofBits-fits binary64 (patternIn b j i)
+    go false = ofBits-fits binary64 (patternIn b i j)
+
+module _ (b : List ℕ) where
+  abbrev n : ℕ
+  n = orderIn b
+
+  abbrev plain : Outcome Unit
+  plain = runOf n (sweepsIn b) (flat n (entryIn b)) (zeros n) (zeros n)
+
+  -- the array's run is the plain run
+  agrees : runIn b ≡ answering (ticksOf n (sweepsIn b)) plain
+  agrees = whole-agrees n (sweepsIn b) (flat n (entryIn b)) (zeros n) (zeros n) (flat-fits n (entryIn b) (entry-fits b))
+
+  module _ (t : List ℕ) (ticks : ℕ) (accepted : sheetAnswer b ≡ given tt) (ran : runIn b .answer ≡ given ticks) (room : roomFor n ≤ length t) where
+    plain-ran : plain .answer ≡ given tt
+    plain-ran = go (plain .answer) (sym (ap (λ (o : Outcome ℕ). o .answer) agrees) ∙ ran)
+      where
+        go : (a : Answered Unit) → giving (ticksOf n (sweepsIn b)) a ≡ given ticks → a ≡ given tt
+        go (given tt) e = refl
+        go (refused k values) e = refused-given e
+
+    ticks-are : ticks ≡ ticksOf n (sweepsIn b)
+    ticks-are = given-value _ _ (plain .answer) (sym (ap (λ (o : Outcome ℕ). o .answer) agrees) ∙ ran)
+
+    result-long : length (runIn b .result) ≡ n * n
+    result-long =
+        ap (λ (o : Outcome ℕ). length (o .result)) agrees ∙ ap length (last-matrices n (sweepsIn b) _ _ _ plain-ran .0) ∙ flat-length n _
+
+    vectors-long : length (runIn b .vectors) ≡ n * n
+    vectors-long =
+        ap (λ (o : Outcome ℕ). length (o .vectors)) agrees ∙ ap length (last-matrices n (sweepsIn b) _ _ _ plain-ran .1) ∙ flat-length n _
+
+    -- the printer is lent what it asks for
+    printer : printOf n (sweepsIn b) ticks (codesIn b) (runIn b .result) (runIn b .vectors) t
+        ≡ printing (length (sheetPrinted b ticks)) (sheetPrinted b ticks ++ drop (length (sheetPrinted b ticks)) t)
+    unfolding printedOf headOf
+    printer =
+        let w = readable b n (n * n) (lent-right b ∙ accepted) in
+        let h = order-half n (w .order) in
+        let k = steps-few n (sweepsIn b) (w .order) (w .few) in
+        let few : sweepsIn b < 10000 = omega (arith, w .few) in
+        let fewer : ticks < 10000 = omega (arith, ticks-are) in
+        rw (← (codes-same n (codesIn b) (at n (runIn b .result)) (at n (runIn b .vectors)) n))
+        (all-printed n (sweepsIn b) ticks (codesIn b) (runIn b .result) (runIn b .vectors) t (w .order) few fewer (codes-count b) result-long
+        vectors-long room)
+
+    printed : listOf b t
+        ≡ record {
+          answer = given tt;
+          count = length (sheetPrinted b ticks);
+          bytes = sheetPrinted b ticks ++ drop (length (sheetPrinted b ticks)) t;
+        }
+    unfolding listOf listedUnless
+    printed = rw (accepted, le-ltb (length t) (roomFor n) room, ran) (ap (listed (given tt)) printer)
+
+-- ---- document 01's example
+example-ran : runIn exampleSheet
+    ≡ outcome (given 4) (values (0 ∷ 0 ∷ 0 ∷ 0x4000_0000_0000_0000 ∷ []))
+    (values (0x3fe6_a09e_667f_3bcc ∷ 0x3fe6_a09e_667f_3bcc ∷ 0xbfe6_a09e_667f_3bcc ∷ 0x3fe6_a09e_667f_3bcc ∷ []))
+unfolding sqrtOf ofBits toBits finite tabulate any slot cameFrom intoLast prior lineAt inOrderAt inOrder column registersOf registersAt isOrder at
+    flat first notFiniteAt notMirroredAt finiteRow mirrorRow turnedAt rowTurn columnTurn columnTurnAll ofAngle ofTangent tangentOfPair tangentOf
+    cosineOf quotient signum rootOf ofPair identity place pairBlock matrixBlock pairTurned pairRotated pairsRotated after notFinite spoiled
+    beforeRun startOf ranOf runOf zeros patternIn entryIn codesIn wordFrom entryNumber entriesTo sheetAnswer badCodes badCode storedRow
+    notFiniteIn codesPrinted valueField columnOf decimalOf shownFrom hexOf add sub mul div lt neg
+example-ran = agrees exampleSheet ∙ refl
+
+example : ExamplePrinted
+unfolding sqrtOf ofBits toBits finite tabulate any slot cameFrom intoLast prior lineAt inOrderAt inOrder column registersOf registersAt isOrder at
+    flat first notFiniteAt notMirroredAt finiteRow mirrorRow turnedAt rowTurn columnTurn columnTurnAll ofAngle ofTangent tangentOfPair tangentOf
+    cosineOf quotient signum rootOf ofPair identity place pairBlock matrixBlock pairTurned pairRotated pairsRotated after notFinite spoiled
+    beforeRun startOf ranOf runOf zeros patternIn entryIn codesIn wordFrom entryNumber entriesTo sheetAnswer badCodes badCode storedRow
+    notFiniteIn codesPrinted valueField columnOf decimalOf shownFrom hexOf add sub mul div lt neg
+example t room = printed exampleSheet t 4 refl (ap (λ (o : Outcome ℕ). o .answer) example-ran) room ∙ rw example-ran
+
+pub listings-as-stated : ListingsAsStated
+listings-as-stated = record { answers = answers; leaves = leaves; prints = printed; example = example; refusal-line = λ k. refl }

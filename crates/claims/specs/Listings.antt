@@ -1,0 +1,111 @@
+-- Document 01, "The printed sheet": what the listing of a sheet answers and leaves in the lent text. Text is a list of
+-- ASCII codes. Definitions only.
+use Prim.Native.Nat.{ℕ, zero, suc, _+_, _*_, _≤_}
+use mathlib.Core.Path.{_≡_}
+use mathlib.Core.List.{List, [], _∷_, _++_}
+use lib.Dec.{ltb}
+use lib.ListN.{length, getD, drop}
+use lib.Ieee.{Float}
+use Rattle.refusal.specs.Answers.{Answered, given, refused, giving, table}
+use Rattle.matrix.specs.Matrix.{at, flat}
+use Rattle.runs.specs.State.{zeros}
+use Rattle.runs.specs.Outcome.{Outcome}
+use Rattle.array_run.specs.Whole.{wholeOf}
+use Rattle.sheet.specs.Format.{orderIn, sweepsIn, codesIn, entryIn}
+use Rattle.sheet_reader.specs.Reader.{sheetAnswer}
+use Rattle.text.specs.Text.{decimalOf, hexOf, space, newline}
+use Rattle.listing_text.specs.Printed.{valueField, columnOf, roomFor, refusedText}
+use Rattle.listing.specs.Listing.{ListingOutcome, listOf}
+use Rattle.claims.specs.Refusals.{when}
+
+-- The array's run on what the sheet b holds; its results hold zeros before it.
+abbrev pub runIn : List ℕ → Outcome ℕ
+runIn b = wholeOf (orderIn b) (sweepsIn b) (flat (orderIn b) (entryIn b)) (zeros (orderIn b)) (zeros (orderIn b))
+
+-- Refusals of the sheet come first, then 7 for a text that may be too short, then those of the run.
+abbrev pub ListingAnswers : Type 0
+ListingAnswers =
+    (b t : List ℕ)
+    → listOf b t .answer ≡ table
+    (sheetAnswer b
+    ∷ when (ltb (length t) (15 + orderIn b * (22 + 17 * orderIn b))) 7
+    ∷ giving tt (runIn b .answer)
+    ∷ [])
+
+-- A refusal prints nothing and leaves the text as it was.
+abbrev pub ListingLeaves : Type 0
+ListingLeaves =
+    (b t : List ℕ) (k : ℕ) (values : List ℕ)
+    → listOf b t .answer ≡ refused k values
+    → (listOf b t .count ≡ 0) × (listOf b t .bytes ≡ t)
+
+-- ---- what is printed
+-- Fields are parted by one space, and a newline ends each line.
+abbrev pub headPrinted : ℕ → ℕ → ℕ → List ℕ
+headPrinted n sweeps ticks = decimalOf n ++ (space ++ (decimalOf sweeps ++ (space ++ (decimalOf ticks ++ newline))))
+
+-- A code, its diagonal entry's bits, and that column of the eigenvectors from the top, as bits: `valueField` is a space and
+-- 16 hexadecimal digits, `columnOf E c k` the fields of column c in the rows 1 to k.
+abbrev pub codePrinted : ℕ → ℕ → (ℕ → ℕ → Float) → (ℕ → ℕ → Float) → ℕ → List ℕ
+codePrinted n code A E k = decimalOf code ++ (valueField (A k k) ++ (columnOf E k n ++ newline))
+
+-- The first k of these lines.
+unfoldable pub codesPrinted : ℕ → List ℕ → (ℕ → ℕ → Float) → (ℕ → ℕ → Float) → ℕ → List ℕ
+codesPrinted n codes A E zero = []
+codesPrinted n codes A E (suc k) = codesPrinted n codes A E k ++ codePrinted n (getD codes k 0) A E (suc k)
+
+-- First line: n, S, ticks. Then a line for each code.
+abbrev pub sheetPrinted : List ℕ → ℕ → List ℕ
+sheetPrinted b ticks =
+    let n = orderIn b in
+    headPrinted n (sweepsIn b) ticks ++ codesPrinted n (codesIn b) (at n (runIn b .result)) (at n (runIn b .vectors)) n
+
+-- The print of an accepted sheet whose run is not refused, and after it the rest of the lent text.
+abbrev pub ListingPrints : Type 0
+ListingPrints =
+    (b t : List ℕ) (ticks : ℕ)
+    → sheetAnswer b ≡ given tt
+    → runIn b .answer ≡ given ticks
+    → roomFor (orderIn b) ≤ length t
+    → listOf b t
+    ≡ record {
+      answer = given tt;
+      count = length (sheetPrinted b ticks);
+      bytes = sheetPrinted b ticks ++ drop (length (sheetPrinted b ticks)) t;
+    }
+
+-- ---- document 01's example
+-- Its sheet, 02 01 07 09 and three entries of 1, and its print.
+abbrev pub one8 : List ℕ
+one8 = 0x3f ∷ 0xf0 ∷ 0 ∷ 0 ∷ 0 ∷ 0 ∷ 0 ∷ 0 ∷ []
+
+abbrev pub exampleSheet : List ℕ
+exampleSheet = 0x02 ∷ 0x01 ∷ 0x07 ∷ 0x09 ∷ (one8 ++ (one8 ++ one8))
+
+abbrev pub field : ℕ → List ℕ
+field w = space ++ hexOf 16 w
+
+abbrev pub examplePrint : List ℕ
+examplePrint =
+    (decimalOf 2 ++ (space ++ (decimalOf 1 ++ (space ++ (decimalOf 4 ++ newline)))))
+    ++ ((decimalOf 7 ++ (field 0 ++ (field 0x3FE6A09E667F3BCC ++ (field 0xBFE6A09E667F3BCC ++ newline))))
+    ++ (decimalOf 9 ++ (field 0x4000000000000000 ++ (field 0x3FE6A09E667F3BCC ++ (field 0x3FE6A09E667F3BCC ++ newline)))))
+
+abbrev pub ExamplePrinted : Type 0
+ExamplePrinted =
+    (t : List ℕ) → roomFor 2 ≤ length t
+    → listOf exampleSheet t
+    ≡ record { answer = given tt; count = length examplePrint; bytes = examplePrint ++ drop (length examplePrint) t }
+
+-- The line of a refusal: `refused`, a space and the number.
+abbrev pub RefusalPrinted : Type 0
+RefusalPrinted =
+    (k : ℕ) → refusedText k
+    ≡ 0x72 ∷ 0x65 ∷ 0x66 ∷ 0x75 ∷ 0x73 ∷ 0x65 ∷ 0x64 ∷ 0x20 ∷ (decimalOf k ++ newline)
+
+pub record ListingsAsStated : Type 0 where
+  pub answers : ListingAnswers
+  pub leaves : ListingLeaves
+  pub prints : ListingPrints
+  pub example : ExamplePrinted
+  pub refusal-line : RefusalPrinted
