@@ -6,3 +6,4 @@ pub mod TickedArray
 pub mod MadeTicks
 pub mod ArrayEnd
 pub mod AngleTable
+pub mod HandedBack

@@ -1,49 +1,40 @@
 -- Demand 3, each part by the law that proves it. Assumes nothing.
-use Prim.Native.Nat.{ℕ, zero, suc, _+_, _*_, _≤_}
+use Prim.Native.Nat.{ℕ, zero, suc, _*_, _≤_}
 use mathlib.Core.Path.{_≡_, refl, sym, ap, _∙_}
-use mathlib.Core.Bool.{true, false, not}
+use mathlib.Core.Bool.{true, not}
 use mathlib.Core.List.{List}
 use borrow.Author.Tests.{eq-eqb}
 use lib.Dec.{eqb}
 use lib.ListN.{length, getD}
 use lib.Ieee.{Float, nan}
-use Rattle.refusal.specs.Answers.{Answered, given, refused, answered, giving, valueOr}
+use Rattle.refusal.specs.Answers.{Answered, given, refused, answered, giving}
 use Rattle.refusal.proofs.FirstRefusal.{refused-given}
+use Rattle.refusal.proofs.RefusedOutcomes.{giving-given}
 use Rattle.lists.proofs.Bounded.{count-none}
 use Rattle.ordering.proofs.Meetings as ordering
-use Rattle.sizes.specs.Sizes.{isOrder, stepsOf, ticksOf}
-use Rattle.matrix.specs.Matrix.{flat}
+use Rattle.sizes.specs.Sizes.{isOrder, ticksOf}
 use Rattle.matrix.proofs.AcceptedEntries.{accepted-long, accepted-if}
 use Rattle.matrix.proofs.SameEntries.{flat-same}
-use Rattle.runs.specs.State.{startOf}
 use Rattle.runs.specs.Outcome.{Outcome}
 use Rattle.runs.proofs.Verdicts.{Begins, begun}
-use Rattle.plain_run.specs.State.{after, spoiled}
 use Rattle.plain_run.specs.Run.{runOf}
 use Rattle.plain_run.proofs.RunResults.{last-matrices, accepted-run, run-accepted}
 use Rattle.array.specs.declared.Started.{Started}
 use Rattle.array.specs.declared.Ticked.{Ticked}
 use Rattle.array.specs.Runs.{startAnswer}
-use Rattle.array_run.specs.Results.{matrixIn, vectorsIn}
-use Rattle.array_run.specs.Whole.{wholeOf}
-use Rattle.array_agreement.specs.Hand.{lastArray, ByHand, ClaimedByHand, AcceptedByHand, RefusedByHand, firstMade}
+use Rattle.array_agreement.specs.Hand.{ClaimedByHand, AcceptedByHand, firstMade}
 use Rattle.array_agreement.proofs.Agreement as agreement
 use Rattle.array_agreement.proofs.Hand as hand
 use Rattle.array_agreement.proofs.Neighbours as neighbours
-use Rattle.claims.specs.Histories.{Binary64, bitOf, differing, differingIn, CovarianceMatrix, NoBitDiffers, NoBitDiffersByHand}
+use Rattle.claims.specs.Histories.{bitOf, differing, differingIn, CovarianceMatrix, NoBitDiffers, NoBitDiffersByHand}
 use Rattle.claims.specs.Histories.{WholeRunIsThePlainRun, TicksReported, AcceptedStart, RefusedStart, EveryRunByHand, OneHistory}
 
 whole-run : WholeRunIsThePlainRun
 whole-run = agreement.whole-agrees
 
--- the value that is given
-pub given-value : {A : Type 0} (x y : A) (a : Answered Unit) → giving x a ≡ given y → y ≡ x
-given-value x y (given z) e = sym (ap (λ (b : Answered _). valueOr b x) e)
-given-value x y (refused k values) e = sym (ap (λ (b : Answered _). valueOr b x) e)
-
 ticks : TicksReported
 ticks n sweeps l r v fit k e =
-    given-value (ticksOf n sweeps) k (runOf n sweeps l r v .answer) (sym (ap (λ (o : Outcome ℕ). o .answer) (whole-run n sweeps l r v fit)) ∙ e)
+    giving-given (ticksOf n sweeps) k (runOf n sweeps l r v .answer) (sym (ap (λ (o : Outcome ℕ). o .answer) (whole-run n sweeps l r v fit)) ∙ e)
 
 -- ---- equal lists differ in no bit
 itself : (x : Float) → differing x x ≡ 0

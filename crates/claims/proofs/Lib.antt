@@ -1,10 +1,7 @@
 pub mod Examples
 pub mod Sizes
-pub mod Tables
-pub mod KeptContents
 pub mod Places
 pub mod RootAnswers
-pub mod RotationCases
 pub mod Moves
 pub mod Refusals
 pub mod Report

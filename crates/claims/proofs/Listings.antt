@@ -28,7 +28,7 @@ use Rattle.sheet_reader.proofs.Tables.{lent-right, readable}
 use Rattle.listing_text.specs.Printed.{Printing, printing, printOf, headOf, textLineOf, textLinesOf, printedOf, roomFor}
 use Rattle.listing_text.proofs.PrintedTexts.{all-printed}
 use Rattle.listing.specs.Listing.{ListingOutcome, listed, listedUnless, listOf}
-use Rattle.claims.proofs.Histories.{given-value}
+use Rattle.refusal.proofs.RefusedOutcomes.{giving-given}
 use Rattle.claims.specs.Examples.{values}
 use Rattle.claims.specs.Listings.{exampleSheet}
 use Rattle.float64.specs.Values.{finite}
@@ -113,7 +113,7 @@ module _ (b : List ℕ) where
         go (refused k values) e = refused-given e
 
     ticks-are : ticks ≡ ticksOf n (sweepsIn b)
-    ticks-are = given-value _ _ (plain .answer) (sym (ap (λ (o : Outcome ℕ). o .answer) agrees) ∙ ran)
+    ticks-are = giving-given _ _ (plain .answer) (sym (ap (λ (o : Outcome ℕ). o .answer) agrees) ∙ ran)
 
     result-long : length (runIn b .result) ≡ n * n
     result-long =

@@ -1,14 +1,14 @@
--- What a pair does, entry by entry. Assumes nothing.
+-- What a pair does, entry by entry, each part by the law that proves it. Assumes nothing.
 use Prim.Native.Nat.{ℕ}
 use mathlib.Core.Path.{_≡_, sym, ap, subst, _∙_}
 use lib.Ieee.{Float}
 use Rattle.rotation.specs.declared.Parameters.{Parameters}
-use Rattle.rotation.specs.declared.Parameters.the-variants.{Still, Turn}
+use Rattle.rotation.specs.declared.Parameters.the-variants.{Turn}
 use Rattle.matrix_turns.proofs.StillTurns.{still-all-columns}
 use Rattle.matrix_turns.specs.Turns.{parametersOf, columnTurnAll}
 use Rattle.runs.specs.State.{State}
 use Rattle.plain_pair.specs.Pair.{pairTurned, pairRotated}
-use Rattle.plain_pair.proofs.TurnedEntries.{Spot, first, second, neither, spot, all-first, all-second, all-other}
+use Rattle.plain_pair.proofs.TurnedEntries.{all-first, all-second, all-other, still-others}
 use Rattle.plain_pair.proofs.TurnedEntries.{at-first-first, at-second-second, at-first-second, at-second-first}
 use Rattle.plain_pair.proofs.TurnedEntries.{at-first-other, at-second-other, at-other-first, at-other-second, at-others}
 use Rattle.claims.specs.Report.{ColumnsTurned, MatrixTurned, Cleared, PairByTheReport}
@@ -37,20 +37,6 @@ module _ (p q : ℕ) (apart : ¬ (p ≡ q)) where
       let P = Turn t c s in
       record { column-left = λ r o. all-first P p q E r; column-right = λ r o. all-second P p q E r apart }
 
-  still-matrix : (A : ℕ → ℕ → Float) (i j : ℕ) → ¬ ((i ≡ p) × (j ≡ q)) → ¬ ((i ≡ q) × (j ≡ p)) → pairTurned Still p q A i j ≡ A i j
-  still-matrix A i j e f = go (spot p q i) (spot p q j)
-    where
-      go : Spot p q i → Spot p q j → pairTurned Still p q A i j ≡ A i j
-      go (first x) (first y) = rw (x, y) (at-first-first Still p q A apart)
-      go (first x) (second y) = absurd (e (x, y))
-      go (first x) (neither a b) = rw x (at-first-other Still p q A apart j a b)
-      go (second x) (first y) = absurd (f (x, y))
-      go (second x) (second y) = rw (x, y) (at-second-second Still p q A apart)
-      go (second x) (neither a b) = rw x (at-second-other Still p q A apart j a b)
-      go (neither a b) (first y) = rw y (at-other-first Still p q A apart i a b)
-      go (neither a b) (second y) = rw y (at-other-second Still p q A apart i a b)
-      go (neither a b) (neither d g) = at-others Still p q A apart i a b j d g
-
   pub paired : (X : State) → PairByTheReport p q X (pairRotated p q X)
   unfolding pairRotated
   paired X =
@@ -63,6 +49,6 @@ module _ (p q : ℕ) (apart : ¬ (p ≡ q)) where
             subst (λ (R : Parameters). ColumnsTurned (λ r. Unit) c s p q (X .vectors) (columnTurnAll R p q (X .vectors))) (sym e)
             (vectors-turned t c s (X .vectors));
         vectors-kept = λ r j o. all-other P p q (X .vectors) r j (o .0) (o .1);
-        still-matrix = λ e i j f g. ap (λ (R : Parameters). pairTurned R p q (X .matrix) i j) e ∙ still-matrix (X .matrix) i j f g;
+        still-matrix = λ e i j f g. ap (λ (R : Parameters). pairTurned R p q (X .matrix) i j) e ∙ still-others p q apart (X .matrix) i j f g;
         still-vectors = λ e r j. ap (λ (R : Parameters). columnTurnAll R p q (X .vectors) r j) e ∙ still-all-columns p q (X .vectors) r j;
       }

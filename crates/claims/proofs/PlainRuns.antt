@@ -1,8 +1,7 @@
 -- The plain run and the records of a step, each part by the law that proves it. Assumes nothing.
-use Prim.Native.Nat.{ℕ, zero, suc, _+_, _-_, _≤_, _<_}
+use Prim.Native.Nat.{ℕ, zero, suc, _+_, _-_}
 use mathlib.Core.Path.{_≡_, refl, sym, ap, _∙_}
 use mathlib.Core.Bool.{Bool, true, false, not, _&&_, _||_}
-use mathlib.Core.List.{List}
 use native.Mathlib.Omega.{arith}
 use lib.ListN.{getD}
 use Rattle.float64.specs.Values.{finite}
@@ -10,9 +9,9 @@ use Rattle.rotation.specs.declared.Parameters.{Parameters}
 use Rattle.rotation.specs.declared.Parameters.the-variants.{Still, Turn}
 use Rattle.ordering.specs.declared.Registers.{Registers}
 use Rattle.ordering.specs.declared.PairList.{PairList}
-use Rattle.ordering.specs.Pairs.{registersAt, Lists}
+use Rattle.ordering.specs.Pairs.{registersAt}
 use Rattle.ordering.proofs.OrderRegisters.{of-order}
-use Rattle.sizes.specs.Sizes.{isOrder, processorsOf}
+use Rattle.sizes.specs.Sizes.{processorsOf}
 use Rattle.matrix.specs.Matrix.{at}
 use Rattle.matrix.proofs.SameEntries.{read-again}
 use Rattle.matrix_turns.specs.Turns.{parametersOf}

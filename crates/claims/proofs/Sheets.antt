@@ -1,8 +1,7 @@
 -- Demand 2 on sheets, each part by the law that proves it. Assumes nothing.
-use Prim.Native.Nat.{ℕ, _+_, _-_}
-use mathlib.Core.Path.{_≡_, refl, sym, ap, _∙_}
+use Prim.Native.Nat.{_+_, _-_}
+use mathlib.Core.Path.{_≡_, refl, sym}
 use native.Mathlib.Omega.{arith}
-use lib.ListN.{getD}
 use Rattle.sheet_agreement.proofs.RoundTrip as sheets
 use Rattle.sheet_agreement.proofs.SheetPlaces as places
 use Rattle.claims.specs.Sheets.{WrittenInPlace, ReadInPlace, OneContentASheet, SheetsKept}

@@ -20,9 +20,12 @@ no-nan nan h = absurd (true≢false (sym nan-differs ∙ h))
 no-nan (inf s) h = tt
 no-nan (fin s m e) h = tt
 
-pub nan-bits : (x : Float) → ne x x ≡ true → 0x7ff8_0000_0000_0000 ≡ toBits binary64 x
+pub bits-of-nan : toBits binary64 nan ≡ 0x7ff8_0000_0000_0000
 unfolding toBits
-nan-bits x h = rw (differs-from-itself x (subst T (sym h) tt))
+bits-of-nan = refl
+
+pub nan-bits : (x : Float) → ne x x ≡ true → 0x7ff8_0000_0000_0000 ≡ toBits binary64 x
+nan-bits x h = rw (differs-from-itself x (subst T (sym h) tt), bits-of-nan)
 
 -- a pattern without its sign bit is a NaN's where it is above +infinity's
 pub no-nan-pattern : (b : ℕ) → b % 0x8000_0000_0000_0000 ≤ 0x7ff0_0000_0000_0000 → T (not (nanBits binary64 b))

@@ -1,5 +1,5 @@
 -- The values above zero by their patterns. Assumes nothing.
-use mathlib.Core.Path.{_≡_, refl, sym, _∙_}
+use mathlib.Core.Path.{_≡_, refl, sym, subst, _∙_}
 use mathlib.Core.Bool.{true, false, not, true≢false}
 use Prim.Native.Nat.{_≤_, _<_}
 use native.Mathlib.Omega.{arith}
@@ -42,6 +42,12 @@ module _ (x : Float) (f : T (fits binary64 x)) (a : lt plusZero x ≡ true) wher
   infinite-pattern h = elim view [
     | finite-value p l k ↦ absurd (omega arith)
     | infinity g e ↦ g
+  ]
+
+  pub finite-positive : T (finite x) → positive x ≡ true
+  finite-positive h = elim view [
+    | finite-value p l k ↦ p
+    | infinity g e ↦ absurd (subst T g h)
   ]
 
 pub above-no-nan : (x : Float) → lt plusZero x ≡ true → T (not (isNan x))

@@ -4,13 +4,13 @@ use mathlib.Core.Bool.{Bool, true, false, _&&_, _||_, Bool·beq, true≢false}
 use Prim.Native.Nat.{ℕ, zero, suc, _+_, _*_, _<_}
 use native.Mathlib.Nat.{mul-pos, zero-lt-suc}
 use native.Mathlib.Omega.{arith}
-use borrow.Author.Tests.{lt-ltb, le-ltb, eq-eqb, ne-eqb}
+use borrow.Author.Tests.{lt-ltb, le-ltb, eq-eqb, ne-eqb, eqb-true}
 use lib.Dec.{T, eqb}
 use lib.IntN.{ℤ, pos}
 use lib.Ieee.{Float, nan, inf, fin, binary64, fits, up, down, neg, lt, eq, ofBits}
 use lib.Ieee.Fits.{up-pos}
 use lib.Ieee.Positive.{above}
-use Rattle.float64.specs.Values.{plusZero, isZero, magnitude, finite}
+use Rattle.float64.specs.Values.{plusZero, isZero, magnitude, signOf, finite}
 use Rattle.float64.proofs.Units.{zero-units, same-units}
 
 product-above : (m : ℕ) (e : ℤ) → 0 < suc m * up e * 1
@@ -53,6 +53,38 @@ equal-zero (fin s (suc m) e) =
     let p = product-above m e in
     ap (λ (b : Bool). b && (Bool·beq s false || eqb (suc m * up e * 1) 0)) (ne-eqb (suc m * up e * 1) (0 * 1 * down e) (λ h. omega arith))
     ∙ sym (ne-eqb (suc m) 0 (λ h. omega arith))
+
+-- ---- what is not below zero: a value without a sign, one above zero, and a zero of either sign
+unsigned : (x : Float) → signOf x ≡ false → above (neg x) ≡ false
+unfolding neg
+unsigned nan h = refl
+unsigned (inf true) h = absurd (true≢false h)
+unsigned (inf false) h = refl
+unsigned (fin true m e) h = absurd (true≢false h)
+unsigned (fin false m e) h = refl
+
+pub unsigned-not-below : (x : Float) → signOf x ≡ false → lt x plusZero ≡ false
+unsigned-not-below x h = below-zero x ∙ unsigned x h
+
+above-unsigned : (x : Float) → above x ≡ true → signOf x ≡ false
+above-unsigned nan h = refl
+above-unsigned (inf true) h = sym h
+above-unsigned (inf false) h = refl
+above-unsigned (fin true m e) h = sym h
+above-unsigned (fin false m e) h = refl
+
+pub above-not-below : (x : Float) → lt plusZero x ≡ true → lt x plusZero ≡ false
+above-not-below x h = unsigned-not-below x (above-unsigned x (sym (above-zero x) ∙ h))
+
+zero-not-above : (x : Float) → isZero x ≡ true → above (neg x) ≡ false
+unfolding neg
+zero-not-above nan h = refl
+zero-not-above (inf s) h = absurd (true≢false (sym h))
+zero-not-above (fin true m e) h = let w : m ≡ 0 = eqb-true m 0 h in le-ltb 0 m (omega arith)
+zero-not-above (fin false m e) h = refl
+
+pub zero-not-below : (x : Float) → isZero x ≡ true → lt x plusZero ≡ false
+zero-not-below x h = below-zero x ∙ zero-not-above x h
 
 -- ---- the absolute value, by its two tests
 pub magnitude-below : (x : Float) → lt x plusZero ≡ true → neg x ≡ magnitude x

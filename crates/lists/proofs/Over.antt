@@ -4,7 +4,7 @@ use mathlib.Core.Path.{_≡_, refl, ap}
 use mathlib.Core.List.{List, [], _∷_}
 use native.Mathlib.Omega.{arith}
 use native.Mathlib.Nat.{le-of-suc-le-suc}
-use lib.ListN.{length, getD, set}
+use lib.ListN.{length, getD, set, drop}
 use Rattle.lists.specs.Over.{over}
 
 -- It keeps its length.
@@ -26,3 +26,9 @@ getD-over zero f l k d h o = absurd (omega arith)
 getD-over (suc m) f [] k d h o = absurd (omega arith)
 getD-over (suc m) f (x ∷ l) zero d h o = refl
 getD-over (suc m) f (x ∷ l) (suc k) d h o = getD-over m (λ k. f (suc k)) l k d (le-of-suc-le-suc h) (le-of-suc-le-suc o)
+
+-- The elements after them.
+pub drop-over : {A : Type 0} (m : ℕ) (f : ℕ → A) (l : List A) → drop m (over m f l) ≡ drop m l
+drop-over zero f l = refl
+drop-over (suc m) f [] = refl
+drop-over (suc m) f (x ∷ l) = drop-over m (λ k. f (suc k)) l

@@ -5,3 +5,4 @@ pub mod Answers
 pub mod SameEntries
 pub mod AcceptedEntries
 pub mod Transposition
+pub mod FirstEntries

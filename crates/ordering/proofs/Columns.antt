@@ -6,9 +6,9 @@ use mathlib.Core.List.{List}
 use native.Mathlib.Omega.{arith}
 use borrow.Author.Tests.{ltb-true, ltb-false, lt-ltb, le-ltb}
 use lib.Dec.{ltb}
-use lib.ListN.{getD, set}
+use lib.ListN.{length, getD, set, List·getD-eq-default}
 use Rattle.lists.specs.Tabulate.{tabulate}
-use Rattle.lists.proofs.Tabulated.{getD-tabulate, tabulate-ext, set-tabulate}
+use Rattle.lists.proofs.Tabulated.{length-tabulate, getD-tabulate, tabulate-ext, set-tabulate}
 use Rattle.systolic.specs.Slots.{left, right, Slot, slot}
 use Rattle.ordering.specs.declared.Registers.{Registers}
 use Rattle.ordering.specs.Registers.{column, registersOf}
@@ -19,9 +19,20 @@ pub column-at : (N : ℕ) (f : ℕ → ℕ) (k : ℕ) → k < N → N ≤ mostPr
 unfolding column
 column-at N f k l h = getD-tabulate mostProcessors (λ k. cond (ltb k N) (f k) 0) k 0 (omega arith) ∙ ap (λ (b : Bool). cond b (f k) 0) (lt-ltb k N l)
 
-pub column-above : (N : ℕ) (f : ℕ → ℕ) (k : ℕ) → N ≤ k → k < mostProcessors → getD (column N f) k 0 ≡ 0
+column-zero : (N : ℕ) (f : ℕ → ℕ) (k : ℕ) → N ≤ k → k < mostProcessors → getD (column N f) k 0 ≡ 0
 unfolding column
-column-above N f k l h = getD-tabulate mostProcessors (λ k. cond (ltb k N) (f k) 0) k 0 h ∙ ap (λ (b : Bool). cond b (f k) 0) (le-ltb k N l)
+column-zero N f k l h = getD-tabulate mostProcessors (λ k. cond (ltb k N) (f k) 0) k 0 h ∙ ap (λ (b : Bool). cond b (f k) 0) (le-ltb k N l)
+
+-- above the last processor, in the list or beyond its end
+pub column-above : (N : ℕ) (f : ℕ → ℕ) (k : ℕ) → N ≤ k → getD (column N f) k 0 ≡ 0
+column-above N f k h = go (ltb k mostProcessors) refl
+  where
+    long : length (column N f) ≡ mostProcessors
+    long = unfold column in (length-tabulate mostProcessors _)
+
+    go : (b : Bool) → ltb k mostProcessors ≡ b → getD (column N f) k 0 ≡ 0
+    go true e = column-zero N f k h (ltb-true k mostProcessors e)
+    go false e = List·getD-eq-default (column N f) 0 (rw long (ltb-false k mostProcessors e))
 
 pub column-ext : (N : ℕ) (f g : ℕ → ℕ) → ((k : ℕ) → k < N → f k ≡ g k) → column N f ≡ column N g
 unfolding column

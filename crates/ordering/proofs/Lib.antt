@@ -3,3 +3,4 @@ pub mod Movement
 pub mod OrderRegisters
 pub mod Meetings
 pub mod RegisterLines
+pub mod RegisterMoves

@@ -1,5 +1,5 @@
 -- The lists of an order: they repeat, each line stands in one register, and two lines meet once in each sweep. Assumes nothing.
-use Prim.Native.Nat.{ℕ, suc, _+_, _-_, _*_, _/_, _≤_, _<_}
+use Prim.Native.Nat.{ℕ, suc, _+_, _-_, _*_, _≤_, _<_}
 use mathlib.Core.Path.{_≡_, refl, sym, ap, _∙_}
 use mathlib.Core.Bool.{Bool, true, false, cond, _||_, _&&_, true≢false}
 use native.Mathlib.Omega.{arith}
@@ -21,22 +21,22 @@ use Rattle.sizes.proofs.Orders.{order-is, order-half, sweep-is}
 -- ---- a line in one column
 module _ (N : ℕ) (f : ℕ → ℕ) (h : N ≤ mostProcessors) (p : ℕ) (P : 1 ≤ p) where
   -- where it stands
-  found : (i : ℕ) → i < mostProcessors → eqb (getD (column N f) i 0) p ≡ true → (i < N) × (f i ≡ p)
-  found i l e = go (ltb i N) refl
+  found : (i : ℕ) → eqb (getD (column N f) i 0) p ≡ true → (i < N) × (f i ≡ p)
+  found i e = go (ltb i N) refl
     where
       go : (b : Bool) → ltb i N ≡ b → (i < N) × (f i ≡ p)
       go true z = let w : i < N = ltb-true _ _ z in (w, sym (column-at N f i w h) ∙ eqb-true _ _ e)
-      go false z = let w : 0 ≡ p = sym (column-above N f i (ltb-false _ _ z) l) ∙ eqb-true _ _ e in absurd (omega arith)
+      go false z = let w : 0 ≡ p = sym (column-above N f i (ltb-false _ _ z)) ∙ eqb-true _ _ e in absurd (omega arith)
 
   column-once : (k : ℕ) → k < N → f k ≡ p → ((i : ℕ) → i < N → f i ≡ p → i ≡ k) → count (λ i. eqb (getD (column N f) i 0) p) mostProcessors ≡ 1
   column-once k l e one =
       count-one (λ i. eqb (getD (column N f) i 0) p) mostProcessors k (omega arith) (eq-eqb _ _ (column-at N f k l h ∙ e))
-      (λ i o z. let w = found i o z in one i (w .0) (w .1))
+      (λ i o z. let w = found i z in one i (w .0) (w .1))
 
   column-never : ((i : ℕ) → i < N → ¬ (f i ≡ p)) → count (λ i. eqb (getD (column N f) i 0) p) mostProcessors ≡ 0
   column-never none =
       count-none (λ i. eqb (getD (column N f) i 0) p) mostProcessors
-      (λ i l. ne-eqb (getD (column N f) i 0) p (λ z. let w = found i l (eq-eqb _ _ z) in none i (w .0) (w .1)))
+      (λ i l. ne-eqb (getD (column N f) i 0) p (λ z. let w = found i (eq-eqb _ _ z) in none i (w .0) (w .1)))
 
 -- ---- registers of N processors
 abbrev isLeft : Side → Bool
@@ -65,7 +65,7 @@ module _ (N : ℕ) (L : Slot → ℕ) (h : N ≤ mostProcessors) where
       above : (i : ℕ) → N ≤ i → i < mostProcessors
           → ((eqb (getD (column N (λ k. L (slot k left))) i 0) p && eqb (getD (column N (λ k. L (slot k right))) i 0) q)
           || (eqb (getD (column N (λ k. L (slot k left))) i 0) q && eqb (getD (column N (λ k. L (slot k right))) i 0) p)) ≡ false
-      above i l o = rw (column-above N (λ k. L (slot k left)) i l o, ne-eqb 0 p (λ z. omega arith), ne-eqb 0 q (λ z. omega arith))
+      above i l o = rw (column-above N (λ k. L (slot k left)) i l, ne-eqb 0 p (λ z. omega arith), ne-eqb 0 q (λ z. omega arith))
 
 meets-as : (b N m s p q : ℕ) → N ≡ suc m → N ≤ mostProcessors → 1 ≤ p → 1 ≤ q
     → meetInList (registersOf N (lineAt (inOrder b) m s)) p q ≡ meetAt (inOrder b) m s p q

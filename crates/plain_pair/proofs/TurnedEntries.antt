@@ -11,6 +11,7 @@ use Rattle.lists.proofs.Bounded.{or-false}
 use Rattle.systolic.specs.Blocks.{Block}
 use Rattle.systolic.specs.Sequential.{pairBlock, place}
 use Rattle.rotation.specs.declared.Parameters.{Parameters}
+use Rattle.rotation.specs.declared.Parameters.the-variants.{Still}
 use Rattle.rotation.specs.Rotation.{diagonalOf, turnOf}
 use Rattle.matrix_turns.specs.Turns.{turnedAt, isOne, rowTurn, columnTurn, rowTurnAll, columnTurnAll}
 use Rattle.matrix_turns.proofs.StillTurns.{same-either}
@@ -86,6 +87,21 @@ module _ (P : Parameters) (p q : ℕ) (A : ℕ → ℕ → Float) where
       pub at-others : (c : ℕ) → c ≢ p → c ≢ q → pairTurned P p q A r c ≡ A r c
       unfolding pairTurned place matrixBlock pairBlock columnTurn rowTurn turnedAt
       at-others c cp cq = rw (ne-eqb c p cp, ne-eqb c q cq, ne-eqb r p rp, ne-eqb r q rq)
+
+-- ---- a still pair changes no entry but its own two
+pub still-others : (p q : ℕ) → p ≢ q → (A : ℕ → ℕ → Float) (i j : ℕ) → ¬ ((i ≡ p) × (j ≡ q)) → ¬ ((i ≡ q) × (j ≡ p)) → pairTurned Still p q A i j ≡ A i j
+still-others p q pq A i j e f = go (spot p q i) (spot p q j)
+  where
+    go : Spot p q i → Spot p q j → pairTurned Still p q A i j ≡ A i j
+    go (first x) (first y) = rw (x, y) (at-first-first Still p q A pq)
+    go (first x) (second y) = absurd (e (x, y))
+    go (first x) (neither a b) = rw x (at-first-other Still p q A pq j a b)
+    go (second x) (first y) = absurd (f (x, y))
+    go (second x) (second y) = rw (x, y) (at-second-second Still p q A pq)
+    go (second x) (neither a b) = rw x (at-second-other Still p q A pq j a b)
+    go (neither a b) (first y) = rw y (at-other-first Still p q A pq i a b)
+    go (neither a b) (second y) = rw y (at-other-second Still p q A pq i a b)
+    go (neither a b) (neither c d) = at-others Still p q A pq i a b j c d
 
 -- ---- The four entries of the pair are set last, so the turns before may go through all columns and rows.
 module _ (P : Parameters) (p q : ℕ) (A : ℕ → ℕ → Float) where

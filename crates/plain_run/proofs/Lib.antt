@@ -7,3 +7,4 @@ pub mod SpoiledRuns
 pub mod Outcomes
 pub mod Sequence
 pub mod RunResults
+pub mod RefusedRuns

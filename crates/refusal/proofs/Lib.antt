@@ -1,1 +1,3 @@
 pub mod FirstRefusal
+pub mod FirstPlaces
+pub mod RefusedOutcomes

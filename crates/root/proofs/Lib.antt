@@ -6,3 +6,4 @@ pub mod Scales
 pub mod RootCases
 pub mod RootUnits
 pub mod CorrectRounding
+pub mod AnsweredRoots

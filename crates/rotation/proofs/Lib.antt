@@ -1,2 +1,3 @@
 pub mod ParameterCases
 pub mod FiniteOperands
+pub mod ReportFormulas

@@ -1,3 +1,4 @@
 pub mod Verdicts
 pub mod Starts
 pub mod BlockTurns
+pub mod EarlyRefusals

@@ -14,7 +14,7 @@ use Rattle.float64.specs.Values.{finite}
 use Rattle.refusal.specs.Answers.{Answered, given, refused, refusedBy, unlessRefused, valueOr, first}
 use Rattle.refusal.specs.declared.Refusal.the-variants.{NotFinite}
 use Rattle.lists.specs.Tabulate.{tabulate}
-use Rattle.lists.proofs.Tabulated.{length-tabulate, getD-tabulate, tabulated}
+use Rattle.lists.proofs.Tabulated.{getD-tabulate, tabulated}
 use Rattle.sizes.proofs.Orders.{order-is}
 use Rattle.matrix.specs.Matrix.{at, flat}
 use Rattle.matrix.proofs.SameEntries.{Line, Finite, Mirrored, flat-same, flat-again, read-again}
@@ -32,16 +32,12 @@ use Rattle.sheet_reader.proofs.SheetContents.{is-finite, codes-count, code-at, 
 use Rattle.sheet_reader.proofs.Tables.{read-5, Readable, readable}
 use Rattle.sheet_writer.specs.Writer.{writeAnswer, writeOutcome, writtenOver, writeOf}
 use Rattle.sheet_writer.proofs.Tables.{write-all, Writable, writable}
-use Rattle.sheet_writer.proofs.SheetBytes.{byte-0, byte-1, byte-code, byte-entry, write-accepted-as}
+use Rattle.sheet_writer.proofs.SheetBytes.{sheet-long, byte-0, byte-1, byte-code, byte-entry, write-accepted-as}
 
 -- ---- what stands in a sheet that was written
 module _ (n sweeps : ℕ) (codes : List ℕ) (A : ℕ → ℕ → Float) where
   abbrev sheet : List ℕ
   sheet = sheetOf n sweeps codes A
-
-  pub sheet-long : length sheet ≡ sheetLength n
-  unfolding sheetOf
-  sheet-long = length-tabulate (sheetLength n) _
 
   sheet-at : (k : ℕ) → k < sheetLength n → getD sheet k 0 ≡ sheetByte n sweeps codes A k
   unfolding sheetOf

@@ -1,22 +1,23 @@
 -- What stands where: in the bytes that a writing leaves, and in the codes and the matrix that a reading leaves. Assumes nothing.
 use Prim.Native.Nat.{ℕ, _+_, _-_, _*_, _/_, _%_, _^_, _<_, _≤_}
-use mathlib.Core.Path.{_≡_, refl, sym, ap, _∙_}
-use mathlib.Core.List.{List, _++_}
+use mathlib.Core.Path.{_≡_, sym, ap, _∙_}
+use mathlib.Core.List.{List}
 use native.Mathlib.Omega.{arith}
 use borrow.Author.Tests.{lt-ltb, le-ltb}
 use lib.ListN.{length, getD, drop, List·getD-append}
 use lib.Ieee.{Float, binary64, toBits}
 use Rattle.refusal.specs.Answers.{given}
-use Rattle.matrix.specs.Matrix.{at, flat}
+use Rattle.matrix.specs.Matrix.{at}
 use Rattle.matrix.proofs.SameEntries.{read-again}
-use Rattle.sheet.specs.Format.{sheetLength, entriesFrom, entryNumber, byteOf, sheetOf, orderIn, codesIn, patternIn, entryIn}
+use Rattle.sheet.specs.Format.{sheetLength, entriesFrom, entryNumber, byteOf, sheetOf, orderIn, patternIn, entryIn}
 use Rattle.sheet.proofs.Triangle.{length-is, number-below, half-of}
 use Rattle.sheet_reader.specs.Reader.{contentOf, readOf}
 use Rattle.sheet.proofs.Words.{byte-back as byte-of-word}
 use Rattle.sheet_reader.proofs.SheetContents.{code-at}
 use Rattle.sheet_reader.proofs.Tables.{readable}
 use Rattle.sheet_writer.specs.Writer.{writtenOver, writeOf}
-use Rattle.sheet_agreement.proofs.RoundTrip.{sheet-long, order-back, sweeps-back, code-back, byte-back, pattern-kept, writes, reads}
+use Rattle.sheet_writer.proofs.SheetBytes.{sheet-long}
+use Rattle.sheet_agreement.proofs.RoundTrip.{order-back, sweeps-back, code-back, byte-back, pattern-kept, writes, reads}
 
 -- the number of an entry in closed form
 pub number-is : (i j : ℕ) → 1 ≤ i → entryNumber i j ≡ i * (i - 1) / 2 + (j - 1)

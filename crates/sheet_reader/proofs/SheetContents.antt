@@ -1,6 +1,6 @@
 -- What is read from a sheet. Assumes nothing.
 use Prim.Native.Nat.{ℕ, _+_, _-_, _*_, _/_, _%_, _<_, _≤_}
-use mathlib.Core.Path.{_≡_, sym}
+use mathlib.Core.Path.{_≡_, refl, sym, ap}
 use mathlib.Core.Bool.{Bool, true, false}
 use mathlib.Core.List.{List}
 use native.Mathlib.Nat.{mul-le-mul}
@@ -9,9 +9,11 @@ use borrow.Author.Tests.{lt-ltb, le-ltb}
 use lib.ListN.{length, getD}
 use lib.Ieee.{Float, nan, binary64, ofBits}
 use Rattle.float64.specs.Values.{finite}
-use Rattle.refusal.specs.Answers.{Answered, given, refused, refusedBy, first}
+use Rattle.refusal.specs.Answers.{Answered, given, refused, refusedBy, giving, first}
 use Rattle.refusal.specs.declared.Refusal.the-variants.{NotFinite}
 use Rattle.refusal.proofs.FirstRefusal.{first-found}
+use Rattle.refusal.proofs.RefusedOutcomes.{outcome-answers, outcome-left}
+use Rattle.refusal.proofs.FirstPlaces.{Searched, searched, place}
 use Rattle.lists.proofs.Tabulated.{length-tabulate, getD-tabulate}
 use Rattle.lists.proofs.Filled.{Filled, filled-all}
 use Rattle.sizes.specs.Sizes.{largestOrder}
@@ -71,6 +73,18 @@ module _ (b : List ℕ) where
   unfolding storedRow
   one-found i j h e k f g = sym (first-found rowTested _ _ _ i h e (first-found _ _ _ _ j k f (is-not-finite (i + 1) (j + 1) g)))
 
+  abbrev InTriangle : ℕ → ℕ → Type 0
+  InTriangle r c = (1 ≤ r) × (r ≤ orderIn b) × (1 ≤ c) × (c ≤ r)
+
+  abbrev storedFinite : ℕ → ℕ → Bool
+  storedFinite r c = finite (ofBits binary64 (patternIn b r c))
+
+  pub stored-searched : Searched InTriangle storedFinite 5 (storedRow b)
+  unfolding notFiniteIn storedRow
+  stored-searched =
+      searched InTriangle storedFinite 5 (orderIn b) (λ r. r) (λ r c y. ((y .0, y .1), (y .2, y .3)))
+      (λ r c y z. place InTriangle storedFinite 5 r c (y .0, y .1, z .0, z .1) (storedFinite r c) refl)
+
   -- ---- codes
   pub codes-count : length (codesIn b) ≡ orderIn b
   unfolding codesIn
@@ -103,3 +117,13 @@ module _ (b c : List ℕ) (m : List Float) where
   pub read-accepted-as : {o : ReadOutcome} → given tt ≡ readAnswer b (length c) (length m) → o ≡ contentOf b → o ≡ readOf b c m
   unfolding readOf
   read-accepted-as e f = rw (← e) f
+
+  pub read-answers : readOf b c m .answer ≡ giving (orderIn b, sweepsIn b) (readAnswer b (length c) (length m))
+  unfolding readOf contentOf
+  read-answers = outcome-answers (λ (o : ReadOutcome). o .answer) (contentOf b) (λ a. readOutcome a c m) refl (λ a. refl) (readAnswer b (length c) (length m))
+
+  pub lent-kept : (k : ℕ) (values : List ℕ) → readOf b c m .answer ≡ refused k values → (readOf b c m .codes ≡ c) × (readOf b c m .matrix ≡ m)
+  unfolding readOf contentOf
+  lent-kept k values e =
+      let w = outcome-left (λ (o : ReadOutcome). o .answer) (contentOf b) (λ a. readOutcome a c m) refl (λ a. refl) (readAnswer b (length c) (length m)) e in
+      (ap (λ (o : ReadOutcome). o .codes) w, ap (λ (o : ReadOutcome). o .matrix) w)

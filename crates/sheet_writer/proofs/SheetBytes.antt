@@ -6,9 +6,12 @@ use native.Mathlib.Numerals.{add-one}
 use native.Mathlib.Omega.{arith}
 use borrow.Author.Tests.{lt-ltb, le-ltb, ne-eqb}
 use lib.ListN.{length, getD, set, drop, length-set}
+use lib.Seq.{drop-at}
 use lib.Ieee.{Float, binary64, toBits}
-use Rattle.refusal.specs.Answers.{given, refused}
+use Rattle.refusal.specs.Answers.{Answered, given, refused, unlessRefused}
+use Rattle.refusal.proofs.RefusedOutcomes.{giving-itself, outcome-answers, outcome-left}
 use Rattle.matrix.specs.Matrix.{at}
+use Rattle.lists.proofs.Tabulated.{length-tabulate}
 use Rattle.lists.proofs.Replaced.{Replaced, replaced-none, replaced-next, replaced-over}
 use Rattle.sheet.specs.Format.{sheetLength, entriesFrom, entryPlace, entriesTo, byteOf, sheetByte, sheetOf}
 use Rattle.sheet.proofs.Triangle.{length-is, place-at}
@@ -78,6 +81,10 @@ bytes-long w o k l e = ap length e ∙ with-bytes-long w o k l
 
 -- ---- the bytes of a sheet, one after the other
 module _ (n sweeps : ℕ) (codes : List ℕ) (A : ℕ → ℕ → Float) where
+  pub sheet-long : length (sheetOf n sweeps codes A) ≡ sheetLength n
+  unfolding sheetOf
+  sheet-long = length-tabulate (sheetLength n) _
+
   pub byte-0 : n ≡ sheetByte n sweeps codes A 0
   unfolding sheetByte
   byte-0 = refl
@@ -170,3 +177,28 @@ module _ (n sweeps : ℕ) (codes : List ℕ) (l : List Float) (b : List ℕ) whe
       → o ≡ writeOutcome (given tt) (writtenOver n sweeps codes l b) → o ≡ writeOf n sweeps codes l b
   unfolding writeOf
   write-accepted-as e f = rw (← e) f
+
+  pub write-answers : writeOf n sweeps codes l b .answer ≡ writeAnswer n sweeps codes l (length b)
+  unfolding writeOf
+  write-answers =
+      outcome-answers (λ (o : WriteOutcome). o .answer) (writeOutcome (given tt) (writtenOver n sweeps codes l b)) (λ a. writeOutcome a b) refl (λ a. refl)
+      (writeAnswer n sweeps codes l (length b))
+      ∙ giving-itself (writeAnswer n sweeps codes l (length b))
+
+  pub bytes-kept : (k : ℕ) (values : List ℕ) → writeOf n sweeps codes l b .answer ≡ refused k values → writeOf n sweeps codes l b .bytes ≡ b
+  unfolding writeOf
+  bytes-kept k values e =
+      ap (λ (o : WriteOutcome). o .bytes)
+      (outcome-left (λ (o : WriteOutcome). o .answer) (writeOutcome (given tt) (writtenOver n sweeps codes l b)) (λ a. writeOutcome a b) refl (λ a. refl)
+      (writeAnswer n sweeps codes l (length b)) e)
+
+  -- longer bytes keep their tail
+  pub bytes-tail : drop (sheetLength n) (writeOf n sweeps codes l b .bytes) ≡ drop (sheetLength n) b
+  unfolding writeOf
+  bytes-tail = go (writeAnswer n sweeps codes l (length b))
+    where
+      go : (a : Answered Unit) → drop (sheetLength n) (unlessRefused a (writeOutcome (given tt) (writtenOver n sweeps codes l b)) (λ x. writeOutcome x b) .bytes)
+          ≡ drop (sheetLength n) b
+      go (given x) = unfold writtenOver in
+          (drop-at (sheetOf n sweeps codes (at n l)) (drop (sheetLength n) b) (sheetLength n) (sheet-long n sweeps codes (at n l)))
+      go (refused k values) = refl

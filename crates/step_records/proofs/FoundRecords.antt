@@ -8,21 +8,21 @@ use borrow.Author.Tests.{eqb-true, ltb-false}
 use lib.Dec.{ltb}
 use lib.ListN.{length, getD}
 use lib.Ieee.{Float}
-use Rattle.refusal.specs.Answers.{Answered, given, refused, orElse, row, table, unlessRefused}
+use Rattle.refusal.specs.Answers.{given, orElse, row, table}
 use Rattle.refusal.specs.declared.Refusal.the-variants.{Order, Length, TooShort}
-use Rattle.refusal.proofs.FirstRefusal.{refused-given, both-given, row-given}
-use Rattle.lists.specs.Over.{over}
+use Rattle.refusal.proofs.FirstRefusal.{both-given, row-given}
 use Rattle.lists.proofs.Over.{getD-over}
 use Rattle.sizes.specs.Sizes.{isOrder, processorsOf}
 use Rattle.ordering.specs.Pairs.{registersAt}
 use Rattle.ordering.proofs.RegisterLines.{pair-within}
-use Rattle.matrix.specs.Matrix.{at, entryOf}
+use Rattle.matrix.specs.Matrix.{at}
 use Rattle.matrix.specs.Entries.{isSquare, entriesOf, finiteRow, mirrorRow}
 use Rattle.matrix_turns.specs.Turns.{parametersOf}
 use Rattle.matrix_turns.proofs.LinePairs.{two-lines, pair-parameters}
 use Rattle.step_records.specs.declared.Record.{Record}
 use Rattle.step_records.proofs.RecordRefusals.{by-parts}
-use Rattle.step_records.specs.Records.{recordOf, recordAt, beforeRecords, rowOutcome, recordsOf}
+use Rattle.step_records.proofs.LeftRows.{records-answer}
+use Rattle.step_records.specs.Records.{recordOf, recordAt, beforeRecords, recordsOf}
 
 -- what is known where nothing is refused
 pub record AcceptedCall (n : ℕ) (l : List Float) (room : ℕ) : Type 0 where
@@ -49,12 +49,7 @@ accepted-call n l room e =
 
 -- the answer is that of the tests before it
 pub answer-given : (n : ℕ) (l : List Float) (step : ℕ) (ys : List Record) → recordsOf n l step ys .answer ≡ given tt → beforeRecords n l (length ys) ≡ given tt
-unfolding recordsOf
-answer-given n l step ys e = go (beforeRecords n l (length ys)) _ e
-  where
-    go : (a : Answered Unit) (new : List Record) → unlessRefused a (rowOutcome (given tt) new) (λ x. rowOutcome x ys) .answer ≡ given tt → a ≡ given tt
-    go (given tt) new e = refl
-    go (refused k values) new e = refused-given e
+answer-given n l step ys e = sym (records-answer n l step ys) ∙ e
 
 pub record-found : (n : ℕ) (l : List Float) (step : ℕ) (ys : List Record) (other : Record) → recordsOf n l step ys .answer ≡ given tt
     → (k : ℕ) → k < processorsOf n → getD (recordsOf n l step ys .row) k other
