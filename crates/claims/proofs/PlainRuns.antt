@@ -94,4 +94,9 @@ records n l step ys other list e lists k a b =
 
 pub plain-runs-as-stated : PlainRunsAsStated
 plain-runs-as-stated =
-    record { plain-steps = steps; run-leaves-last-step = last-step; spoiled-means = record { is-spoiled = is-spoiled; spoiled-is = spoiled-is }; records-found = records }
+    record {
+      plain-steps = steps;
+      run-leaves-last-step = last-step;
+      spoiled-means = record { is-spoiled = is-spoiled; spoiled-is = spoiled-is };
+      records-found = records;
+    }

@@ -1,6 +1,7 @@
 // One rotation of a pair of lines (document 01, "One rotation"; document 003, (5.1)).
 ghost use mathlib.Core.Path.{_≡_};
-ghost use Rattle.rotation.specs.Rotation.{rootOf, signum, tangentOf, cosineOf, angleOf, ofAngle, tangentOfPair, ofTangent, ofPair, sent, diagonalOf, turnOf};
+ghost use Rattle.rotation.specs.Rotation.{rootOf, signum, tangentOf, cosineOf, angleOf, ofAngle, tangentOfPair, ofTangent, ofPair};
+ghost use Rattle.rotation.specs.Rotation.{sent, diagonalOf, turnOf};
 use root::Root;
 
 // Still, or a turn with the tangent, the cosine and the sine of its angle.

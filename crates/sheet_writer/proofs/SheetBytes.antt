@@ -197,7 +197,8 @@ module _ (n sweeps : ℕ) (codes : List ℕ) (l : List Float) (b : List ℕ) whe
   unfolding writeOf
   bytes-tail = go (writeAnswer n sweeps codes l (length b))
     where
-      go : (a : Answered Unit) → drop (sheetLength n) (unlessRefused a (writeOutcome (given tt) (writtenOver n sweeps codes l b)) (λ x. writeOutcome x b) .bytes)
+      go : (a : Answered Unit)
+          → drop (sheetLength n) (unlessRefused a (writeOutcome (given tt) (writtenOver n sweeps codes l b)) (λ x. writeOutcome x b) .bytes)
           ≡ drop (sheetLength n) b
       go (given x) = unfold writtenOver in
           (drop-at (sheetOf n sweeps codes (at n l)) (drop (sheetLength n) b) (sheetLength n) (sheet-long n sweeps codes (at n l)))
