@@ -6,4 +6,4 @@ pub mod TickedArray
 pub mod MadeTicks
 pub mod ArrayEnd
 pub mod AngleTable
-pub mod HandedBack
+pub mod RefusedRecords

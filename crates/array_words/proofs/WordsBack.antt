@@ -5,9 +5,8 @@ use mathlib.Core.Bool.{Bool, true, false, not, cond}
 use mathlib.Core.List.{List}
 use native.Mathlib.Omega.{arith}
 use native.Mathlib.Nat.{add-zero}
-use borrow.Author.Tests.{eq-eqb}
 use lib.Dec.{T, eqb}
-use lib.ListN.{length, getD}
+use lib.ListN.{getD}
 use lib.Ieee.{Float, binary64, fits, toBits, ofBits}
 use lib.Ieee.Bits.{ofBits-toBits}
 use Rattle.lists.specs.Tabulate.{tabulate}
@@ -19,7 +18,7 @@ use Rattle.tile.specs.declared.Tile.{Tile}
 use Rattle.array.specs.declared.Array.{Array}
 use Rattle.array.specs.Arrays.{noTile}
 use Rattle.array_words.specs.Words.{tileWords, arrayWords, quadWord, partWord, tileWord, arrayWord, wordsOf, valueAt}
-use Rattle.array_words.specs.Words.{quadIn, partIn, tileIn, arrayIn, storedIn}
+use Rattle.array_words.specs.Words.{quadIn, partIn, tileIn, arrayIn}
 use Rattle.array_words.specs.Words.{Binary64Quad, Binary64Part, Binary64Tile, Binary64Array}
 use Rattle.array_words.proofs.WordsWritten.{matrix-word, vectors-word, cells-word, wires-word, tile-word}
 
@@ -89,8 +88,3 @@ module _ (x : Array) where
   pub words-back : Binary64Array x → arrayIn (wordsOf x) ≡ x
   unfolding arrayIn arrayWord
   words-back h = rw (word-is 0 (omega arith), word-is 1 (omega arith), word-is 2 (omega arith), ← tiles-back h)
-
-  -- what is loaded where it was stored
-  pub stored-back : (l : List ℕ) → length l ≡ arrayWords → Binary64Array x → arrayIn (storedIn x l) ≡ x
-  unfolding storedIn
-  stored-back l e h = rw (eq-eqb (length l) arrayWords e) (words-back h)

@@ -11,7 +11,7 @@ use Rattle.plain_run.proofs.RefusedRuns.{run-answers, run-kept, run-zeroed}
 use Rattle.step_records.specs.Records.{beforeRecords}
 use Rattle.step_records.proofs.LeftRows.{records-answer, row-kept, row-tail}
 use Rattle.tile_schedule.specs.Answers.{progressOf}
-use Rattle.array.proofs.HandedBack.{start-none, tick-back}
+use Rattle.array.proofs.RefusedRecords.{start-none, tick-back}
 use Rattle.array_agreement.proofs.Agreement.{whole-agrees}
 use Rattle.sheet_reader.specs.Reader.{sheetAnswer, readAnswer}
 use Rattle.sheet_reader.proofs.SheetContents.{read-answers, lent-kept}

@@ -29,7 +29,7 @@ use Rattle.array.specs.declared.Ticked.{Ticked}
 use Rattle.array.specs.Arrays.{Ticks}
 use Rattle.array.specs.Runs.{startArray, Starts}
 use Rattle.array.proofs.MadeTicks.{made-array, made-tile, started-array, started-tile, begun}
-use Rattle.claims.specs.Tiles.{OneTile, tileIn, rotated, CellsTicked, ParametersTicked, Sets, WiresTicked, TileTicked}
+use Rattle.claims.specs.Tiles.{OneTile, tileIn, cellsRotated, CellsTicked, ParametersTicked, Sets, WiresTicked, TileTicked}
 use Rattle.claims.specs.Tiles.{TickMade, TileStarted, StartMade, TilesAsPrinted}
 
 -- ---- one tile in tick T, among tiles A
@@ -46,7 +46,7 @@ module _ (s : Setting) (last K T : ℕ) (A : ℕ → ℕ → OneTile) (i j : ℕ
   abbrev v : Float
   v = A (nearer j i) j .columnWire
 
-  turned : (k : ℕ) (b : Block Cell) → turnTile (operations s) k i j h v b ≡ rotated i j h v b
+  turned : (k : ℕ) (b : Block Cell) → turnTile (operations s) k i j h v b ≡ cellsRotated i j h v b
   turned k b = tile-turns s k i b j h v ∙ simp (rows-turned, columns-turned)
 
   cells-ticked : CellsTicked K T i j (A i j) new brought h v

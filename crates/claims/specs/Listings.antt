@@ -44,8 +44,8 @@ ListingLeaves =
 abbrev pub headPrinted : ℕ → ℕ → ℕ → List ℕ
 headPrinted n sweeps ticks = decimalOf n ++ (space ++ (decimalOf sweeps ++ (space ++ (decimalOf ticks ++ newline))))
 
--- A code, its diagonal entry's bits, and that column of the eigenvectors from the top, as bits: `valueField` is a space and
--- 16 hexadecimal digits, `columnOf E c k` the fields of column c in the rows 1 to k.
+-- A code, its diagonal entry's bits, and that column of the eigenvectors from the top, as bits: `valueField` is a space
+-- and 16 hexadecimal digits, `columnOf E c k` the fields of column c in the rows 1 to k.
 abbrev pub codePrinted : ℕ → ℕ → (ℕ → ℕ → Float) → (ℕ → ℕ → Float) → ℕ → List ℕ
 codePrinted n code A E k = decimalOf code ++ (valueField (A k k) ++ (columnOf E k n ++ newline))
 
@@ -89,7 +89,8 @@ abbrev pub examplePrint : List ℕ
 examplePrint =
     (decimalOf 2 ++ (space ++ (decimalOf 1 ++ (space ++ (decimalOf 4 ++ newline)))))
     ++ ((decimalOf 7 ++ (field 0 ++ (field 0x3FE6A09E667F3BCC ++ (field 0xBFE6A09E667F3BCC ++ newline))))
-    ++ (decimalOf 9 ++ (field 0x4000000000000000 ++ (field 0x3FE6A09E667F3BCC ++ (field 0x3FE6A09E667F3BCC ++ newline)))))
+    ++ (decimalOf 9 ++ (field 0x4000000000000000
+    ++ (field 0x3FE6A09E667F3BCC ++ (field 0x3FE6A09E667F3BCC ++ newline)))))
 
 abbrev pub ExamplePrinted : Type 0
 ExamplePrinted =

@@ -42,8 +42,8 @@ abbrev pub onDiagonal : Block Cell → Block Cell
 onDiagonal b = blockTurned (ofPair (b .α .entry) (b .δ .entry) (b .β .entry)) b
 
 -- The row turn by the tangent t: the matrix alone.
-abbrev pub rowsTurned : Float → Block Cell → Block Cell
-rowsTurned t b =
+abbrev pub blockRowsTurned : Float → Block Cell → Block Cell
+blockRowsTurned t b =
     record {
       α = cell (turnOf (ofTangent t) (b .α .entry) (b .γ .entry) .left) (b .α .vector);
       β = cell (turnOf (ofTangent t) (b .β .entry) (b .δ .entry) .left) (b .β .vector);
@@ -52,37 +52,37 @@ rowsTurned t b =
     }
 
 -- Both entries of a cell.
-abbrev pub leftTurned : Float → Cell → Cell → Cell
-leftTurned t x y =
+abbrev pub leftCellTurned : Float → Cell → Cell → Cell
+leftCellTurned t x y =
     cell (turnOf (ofTangent t) (x .entry) (y .entry) .left) (turnOf (ofTangent t) (x .vector) (y .vector) .left)
 
-abbrev pub rightTurned : Float → Cell → Cell → Cell
-rightTurned t x y =
+abbrev pub rightCellTurned : Float → Cell → Cell → Cell
+rightCellTurned t x y =
     cell (turnOf (ofTangent t) (x .entry) (y .entry) .right) (turnOf (ofTangent t) (x .vector) (y .vector) .right)
 
 -- The column turn by the tangent t: matrix and eigenvectors.
-abbrev pub columnsTurned : Float → Block Cell → Block Cell
-columnsTurned t b =
+abbrev pub blockColumnsTurned : Float → Block Cell → Block Cell
+blockColumnsTurned t b =
     record {
-      α = leftTurned t (b .α) (b .β);
-      β = rightTurned t (b .α) (b .β);
-      γ = leftTurned t (b .γ) (b .δ);
-      δ = rightTurned t (b .γ) (b .δ);
+      α = leftCellTurned t (b .α) (b .β);
+      β = rightCellTurned t (b .α) (b .β);
+      γ = leftCellTurned t (b .γ) (b .δ);
+      δ = rightCellTurned t (b .γ) (b .δ);
     }
 
 -- With i < j the row turn first, then the column turn; with i > j the column turn first. h comes along the row and v
 -- along the column.
-abbrev pub rotated : ℕ → ℕ → Float → Float → Block Cell → Block Cell
-rotated i j h v b =
+abbrev pub cellsRotated : ℕ → ℕ → Float → Float → Block Cell → Block Cell
+cellsRotated i j h v b =
     cond (eqb i j) (onDiagonal b)
-    (cond (ltb i j) (columnsTurned v (rowsTurned h b)) (rowsTurned h (columnsTurned v b)))
+    (cond (ltb i j) (blockColumnsTurned v (blockRowsTurned h b)) (blockRowsTurned h (blockColumnsTurned v b)))
 
 -- ---- one tile in tick T of a run of K steps, from old to new
 -- brought is what its cell wires bring, h and v what its parameter wires bring. It rotates at T = Δ + 3 k, k from 0 to
 -- K - 1, and reads its cell wires first unless T = Δ; at T = Δ + 3 K it reads them, if K > 0, and does not turn.
 pub record CellsTicked (K T i j : ℕ) (old new : OneTile) (brought : Block Cell) (h v : Float) : Type 0 where
   pub rotates : (k : ℕ) → k < K → T ≡ distance i j + 3 * k
-      → new .cells ≡ rotated i j h v (cond (eqb k 0) (old .cells) brought)
+      → new .cells ≡ cellsRotated i j h v (cond (eqb k 0) (old .cells) brought)
   pub reads-last : 0 < K → T ≡ distance i j + 3 * K → new .cells ≡ brought
   pub else-stays : ((k : ℕ) → k ≤ K → ¬ (T ≡ distance i j + 3 * k)) → new .cells ≡ old .cells
   pub no-step-stays : K ≡ 0 → new .cells ≡ old .cells

@@ -2,16 +2,14 @@
 use Prim.Native.Nat.{ℕ, zero, suc, _+_, _-_, _*_, _/_, _≤_, _<_}
 use mathlib.Core.Path.{_≡_, refl, sym, _∙_, ap}
 use mathlib.Core.Logic.{_↔_}
-use mathlib.Core.Bool.{Bool, true, false, cond}
+use mathlib.Core.Bool.{Bool, true, false}
 use native.Mathlib.Omega.{arith}
 use borrow.Author.Tests.{ltb-true, ltb-false}
 use lib.Dec.{ltb}
-use Rattle.systolic.specs.Blocks.{Block}
 use Rattle.systolic.specs.Synchronous.{Operations, blocksAt, rotatedAt}
-use Rattle.systolic.specs.Tiles.{distance, Action, idle, first, rotate, phase1, phase2, final, actionAt, newTile, tickTile}
+use Rattle.systolic.specs.Tiles.{distance, newTile, tickTile}
 use Rattle.systolic.specs.Arrays.{tick, arrayAfter}
 use Rattle.lists.proofs.Bounded.{up-to, or-false, false-or}
-use Rattle.systolic.proofs.Clock.{View, starting, rotating, setting-phase1, setting-phase2, finishing, view, reads-last}
 use Rattle.systolic.proofs.Skew.{all-known}
 
 module _ {X H W : Type 0} (S : Operations X H W) (m K : ℕ) where
@@ -75,35 +73,3 @@ module _ {X H W : Type 0} (S : Operations X H W) (m K : ℕ) where
   pub marks-fine : ((i j : ℕ) → i ≤ m → j ≤ m → arrayAfter S m K (3 * K + suc m) i j .mark ≡ false)
       ↔ ((i j : ℕ) → i ≤ m → j ≤ m → Fine i j)
   marks-fine = (λ f i j p q. unmarked-fine i j p q (f i j p q), λ f i j p q. fine-unmarked i j p q (f i j p q))
-
-  -- ---- the cells in one equation
-  pub cellsExpected : ℕ → ℕ → ℕ → Block X
-  cellsExpected T i j =
-      cond (ltb T (distance i j)) (S .initial i j) (cond (ltb T (distance i j + 3 * K)) (rotatedAt S m ((T - distance i j) / 3) i j) (blocksAt S m K i j))
-
-  pub skew : (T i j : ℕ) → i ≤ m → j ≤ m → arrayAfter S m K (suc T) i j .cells ≡ cellsExpected T i j
-  unfolding cellsExpected
-  skew T i j p q = go (ltb T (distance i j)) (ltb T (distance i j + 3 * K)) refl refl
-    where
-      go : (b c : Bool) → ltb T (distance i j) ≡ b → ltb T (distance i j + 3 * K) ≡ c
-          → arrayAfter S m K (suc T) i j .cells ≡ cond b (S .initial i j) (cond c (rotatedAt S m ((T - distance i j) / 3) i j) (blocksAt S m K i j))
-      go true c e e′ = cells-before T i j p q (ltb-true _ _ e)
-      go false true e e′ = cells-during T ((T - distance i j) / 3) i j p q (ltb-false _ _ e) (ltb-true _ _ e′) refl
-      go false false e e′ = cells-after T i j p q (ltb-false _ _ e′)
-
--- ---- the last tick is 3 K + N - 1
--- No tile acts after it.
-pub idle-after : (m K t i j : ℕ) → i ≤ m → j ≤ m → 3 * K + m < t → actionAt K (distance i j) t ≡ idle
-idle-after m K t i j p q l = go (actionAt K (distance i j) t) (view K (distance i j) t)
-  where
-    go : (a : Action) → View K (distance i j) t a → a ≡ idle
-    go idle v = refl
-    go first (starting w z) = absurd (omega arith)
-    go rotate (rotating k w z) = absurd (omega arith)
-    go phase1 (setting-phase1 k w z) = absurd (omega arith)
-    go phase2 (setting-phase2 k w z) = absurd (omega arith)
-    go final (finishing k w z) = absurd (omega arith)
-
--- The tiles farthest from the diagonal read for the last time in it.
-pub final-at : (m K : ℕ) → 0 < K → actionAt K (distance 0 m) (3 * K + m) ≡ final
-final-at m K l = reads-last K (distance 0 m) (3 * K + m) l (omega arith)
