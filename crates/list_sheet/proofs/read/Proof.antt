@@ -7,6 +7,7 @@ use borrow.Author.Needs.{needs}
 use Rattle.list_sheet.proofs.read.Statement.{statement}
 use Rattle.list_sheet.proofs.read.Tie as tie
 
+-- So many bytes are read, at most as many as are lent. What falls is the number of bytes left.
 abbrev Inv-loop : tie.InvT-loop
 Inv-loop buffer₀ bytes₀ buffer bytes = (bytes ≤ length buffer) × (length buffer ≡ length buffer₀)
 
