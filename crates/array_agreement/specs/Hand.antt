@@ -1,5 +1,5 @@
 -- Document 01, "Runs by hand": one start and then any number of ticks. Ticks are listed with the last first. Definitions only.
-use Prim.Native.Nat.{ℕ, zero, suc, _/_, _≤_}
+use Prim.Native.Nat.{ℕ, zero, suc, _≤_}
 use mathlib.Core.Path.{_≡_}
 use mathlib.Core.Bool.{true, false, cond}
 use mathlib.Core.List.{List, [], _∷_}

@@ -6,8 +6,8 @@ use mathlib.Core.Bool.{Bool, true, false, cond}
 use native.Mathlib.Omega.{arith}
 use borrow.Author.Tests.{le-ltb}
 use lib.Dec.{T, ltb}
-use lib.ListN.{length, getD, drop}
-use lib.Ieee.{Float, nan, binary64, fits, ofBits, toBits, add, sub, mul, div, lt, neg}
+use lib.ListN.{length, drop}
+use lib.Ieee.{Float, binary64, fits, ofBits, toBits, add, sub, mul, div, lt, neg}
 use lib.Ieee.Bits.{ofBits-fits}
 use Rattle.refusal.specs.Answers.{Answered, given, refused, giving, valueOr, unlessRefused, row, table}
 use Rattle.refusal.specs.declared.Refusal.the-variants.{TooShort}
@@ -25,9 +25,9 @@ use Rattle.sheet.specs.Format.{orderIn, sweepsIn, codesIn, patternIn, entryIn}
 use Rattle.sheet_reader.specs.Reader.{sheetAnswer}
 use Rattle.sheet_reader.proofs.SheetContents.{codes-count}
 use Rattle.sheet_reader.proofs.Tables.{lent-right, readable}
-use Rattle.listing_text.specs.Printed.{Printing, printing, printOf, headOf, textLineOf, textLinesOf, printedOf, roomFor}
+use Rattle.listing_text.specs.Printed.{Printing, printing, printOf, refusalOf, headOf, textLineOf, textLinesOf, printedOf, roomFor}
 use Rattle.listing_text.proofs.PrintedTexts.{all-printed}
-use Rattle.listing.specs.Listing.{ListingOutcome, listed, listedUnless, listOf}
+use Rattle.listing.specs.Listing.{listed, listedUnless, listOf}
 use Rattle.refusal.proofs.RefusedOutcomes.{giving-given}
 use Rattle.claims.specs.Examples.{values}
 use Rattle.claims.specs.Listings.{exampleSheet}
@@ -54,7 +54,7 @@ use Rattle.sheet.specs.Codes.{badCodes, badCode}
 use Rattle.sheet_reader.specs.Reader.{storedRow, notFiniteIn}
 use Rattle.listing_text.specs.Printed.{valueField, columnOf}
 use Rattle.text.specs.Text.{decimalOf, shownFrom, hexOf}
-use Rattle.claims.specs.Listings.{runIn, ListingAnswers, ListingLeaves, codesPrinted, sheetPrinted, ListingPrints}
+use Rattle.claims.specs.Listings.{runIn, ListingAnswers, ListingLeaves, codesPrinted, sheetPrinted, RefusalPrints}
 use Rattle.claims.specs.Listings.{ExamplePrinted, ListingsAsStated}
 
 by-answer : (a : Answered Unit) (p : Printing) (t : List ℕ) → unlessRefused a (listed (given tt) p) (λ (x : Answered Unit). listed x (printing 0 t)) .answer ≡ a
@@ -165,5 +165,10 @@ unfolding sqrtOf ofBits toBits finite tabulate any slot cameFrom intoLast prior 
     notFiniteIn codesPrinted valueField columnOf decimalOf shownFrom hexOf add sub mul div lt neg
 example t room = printed exampleSheet t 4 refl (ap (λ (o : Outcome ℕ). o .answer) example-ran) room ∙ rw example-ran
 
+-- ---- a refusal
+refusal : RefusalPrints
+unfolding refusalOf
+refusal k t h = rw (le-ltb (length t) 13 h)
+
 pub listings-as-stated : ListingsAsStated
-listings-as-stated = record { answers = answers; leaves = leaves; prints = printed; example = example; refusal-line = λ k. refl }
+listings-as-stated = record { answers = answers; leaves = leaves; prints = printed; example = example; refusal-prints = refusal }

@@ -8,7 +8,7 @@ use lib.Dec.{T, eqb, ltb}
 use lib.ListN.{length, getD}
 use lib.Ieee.{Float, nan, binary64, fits, toBits}
 use Rattle.float64.specs.Values.{finite}
-use Rattle.refusal.specs.Answers.{Answered, given, refused, answered}
+use Rattle.refusal.specs.Answers.{given, refused, answered}
 use Rattle.lists.specs.Bounded.{count}
 use Rattle.ordering.specs.declared.PairList.{PairList}
 use Rattle.sizes.specs.Sizes.{isOrder, processorsOf, sweepSteps, stepsOf, ticksOf}

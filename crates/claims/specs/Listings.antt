@@ -6,7 +6,7 @@ use mathlib.Core.List.{List, [], _∷_, _++_}
 use lib.Dec.{ltb}
 use lib.ListN.{length, getD, drop}
 use lib.Ieee.{Float}
-use Rattle.refusal.specs.Answers.{Answered, given, refused, giving, table}
+use Rattle.refusal.specs.Answers.{given, refused, giving, table}
 use Rattle.matrix.specs.Matrix.{at, flat}
 use Rattle.runs.specs.State.{zeros}
 use Rattle.runs.specs.Outcome.{Outcome}
@@ -14,8 +14,8 @@ use Rattle.array_run.specs.Whole.{wholeOf}
 use Rattle.sheet.specs.Format.{orderIn, sweepsIn, codesIn, entryIn}
 use Rattle.sheet_reader.specs.Reader.{sheetAnswer}
 use Rattle.text.specs.Text.{decimalOf, hexOf, space, newline}
-use Rattle.listing_text.specs.Printed.{valueField, columnOf, roomFor, refusedText}
-use Rattle.listing.specs.Listing.{ListingOutcome, listOf}
+use Rattle.listing_text.specs.Printed.{valueField, columnOf, roomFor, printing, refusalOf}
+use Rattle.listing.specs.Listing.{listOf}
 use Rattle.claims.specs.Refusals.{when}
 
 -- The array's run on what the sheet b holds; its results hold zeros before it.
@@ -98,15 +98,20 @@ ExamplePrinted =
     → listOf exampleSheet t
     ≡ record { answer = given tt; count = length examplePrint; bytes = examplePrint ++ drop (length examplePrint) t }
 
--- The line of a refusal: `refused`, a space and the number.
-abbrev pub RefusalPrinted : Type 0
-RefusalPrinted =
-    (k : ℕ) → refusedText k
-    ≡ 0x72 ∷ 0x65 ∷ 0x66 ∷ 0x75 ∷ 0x73 ∷ 0x65 ∷ 0x64 ∷ 0x20 ∷ (decimalOf k ++ newline)
+-- ---- a refusal
+-- What is printed for the refusal with the number k: `refused`, a space and the number, no more.
+abbrev pub refusalPrinted : ℕ → List ℕ
+refusalPrinted k = 0x72 ∷ 0x65 ∷ 0x66 ∷ 0x75 ∷ 0x73 ∷ 0x65 ∷ 0x64 ∷ 0x20 ∷ (decimalOf k ++ newline)
+
+abbrev pub RefusalPrints : Type 0
+RefusalPrints =
+    (k : ℕ) (t : List ℕ) → 13 ≤ length t
+    → refusalOf k t
+    ≡ printing (length (refusalPrinted k)) (refusalPrinted k ++ drop (length (refusalPrinted k)) t)
 
 pub record ListingsAsStated : Type 0 where
   pub answers : ListingAnswers
   pub leaves : ListingLeaves
   pub prints : ListingPrints
   pub example : ExamplePrinted
-  pub refusal-line : RefusalPrinted
+  pub refusal-prints : RefusalPrints

@@ -34,7 +34,7 @@ abbrev pub tileIn : Array → ℕ → ℕ → OneTile
 tileIn x = theArray (x .tiles)
 
 -- ---- what a rotation makes of the four cells
--- The parameters of a tile on the diagonal, by a = α, d = δ and b = β.
+-- The tangent that a tile on the diagonal sends, by a = α, d = δ and b = β; +0 when still. Then its cells.
 abbrev pub tangentSent : Block Cell → Float
 tangentSent b = sent (ofPair (b .α .entry) (b .δ .entry) (b .β .entry))
 
