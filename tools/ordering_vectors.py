@@ -1,13 +1,12 @@
 #!/usr/bin/env python3
-"""Writes crates/test_ordering/stdin and crates/test_ordering/stdout: orders and steps, and what
-the list of pairs is by document 01, "Pairs and their movement".
+"""Orders and steps, and what the list of pairs is by document 01, "Pairs and their movement". call_vectors.py writes
+them to files; run alone, this file only makes and checks them, and prints how many there are.
 
 The registers are moved one by one, until they stand as at first. The lists of later steps repeat
 those.
 """
 import argparse
 import itertools
-import pathlib
 
 PROCESSORS = 16
 LARGEST = (1 << 64) - 1  # of a usize
@@ -99,7 +98,7 @@ def cases():
     return list(dict.fromkeys(found))
 
 
-# The files.
+# The lines.
 
 
 def words(registers):
@@ -117,20 +116,29 @@ def answer_of(n, step):
     return [*words([left for left, _ in listed]), *words([right for _, right in listed])]
 
 
-def main():
-    argparse.ArgumentParser(description=__doc__.split("\n\n")[0], epilog="It takes no arguments.").parse_args()
+def check_examples():
     for n, step, listed in EXAMPLES:
         assert pairs(n, step) == listed, (n, step)
+
+
+def check_sweeps():
     for n in ROUND_TRIPS:
         check(n)
-    lines, answers = [], []
-    for n, step in cases():
-        lines += [f"{n:016X}\n", f"{step:016X}\n"]
-        answers += answer_of(n, step)
-    crate = pathlib.Path(__file__).resolve().parent.parent / "crates" / "test_ordering"
-    (crate / "stdin").write_text("".join(lines), encoding="ascii")
-    (crate / "stdout").write_text("".join(answers), encoding="ascii")
-    print(f"{len(lines) // 2} lists")
+
+
+def all_lines():
+    """The lines of each case and of its answer."""
+    check_examples()
+    check_sweeps()
+    found = cases()
+    print(f"{len(found)} lists of pairs")
+    for n, step in found:
+        yield [f"{n:016X}\n", f"{step:016X}\n"], answer_of(n, step)
+
+
+def main():
+    argparse.ArgumentParser(description=__doc__.split("\n\n")[0], epilog="It takes no arguments.").parse_args()
+    list(all_lines())
 
 
 if __name__ == "__main__":

@@ -1,13 +1,12 @@
 #!/usr/bin/env python3
-"""Writes crates/test_records/stdin and crates/test_records/stdout: orders, matrices and steps, and the records of
-the step by document 01, "One rotation", last paragraph, and "Refused, by place".
+"""Orders, matrices and steps, and the records of the step by document 01, "One rotation", last paragraph, and "Refused,
+by place". call_vectors.py writes them to files; run alone, this file only makes them, and prints how many there are.
 
 Matrices of all kinds and the parameters of a pair come from plain_vectors.py. The pair of a processor is found
 here by its own rule: the lines stand on a ring of n - 1 registers, beside line 1, and move by one place a step.
 """
 import argparse
 import math
-import pathlib
 import random
 import sys
 
@@ -66,7 +65,7 @@ def told(number, place):
     if number is None:
         return []
     names = zip(("row", "column"), place or ())
-    return [f"refused {number}", *(f"{name} {value}" for name, value in names)]
+    return [f"refused {number}\n", *(f"{name} {value}\n" for name, value in names)]
 
 
 def cases(rng):
@@ -92,19 +91,19 @@ def cases(rng):
         yield 5, good, 1, room
 
 
+def all_lines():
+    """The lines of each case and of its answer."""
+    found = list(cases(random.Random(8)))
+    print(f"{len(found)} calls for the records of a step")
+    for n, matrix, step, room in found:
+        refused = told(*refusal_of(n, matrix, room)) + told(*refusal_of(n, matrix, ROW))
+        lines = plain.lines_of([n, len(matrix), step, room, FILL, *matrix])
+        yield lines, refused + plain.lines_of(words_of(n, matrix, step))
+
+
 def main():
     argparse.ArgumentParser(description=__doc__.split("\n\n")[0], epilog="It takes no arguments.").parse_args()
-    folder = pathlib.Path(__file__).resolve().parent.parent / "crates" / "test_records"
-    rng = random.Random(8)
-    given, answers, count = [], [], 0
-    for n, matrix, step, room in cases(rng):
-        given += [n, len(matrix), step, room, FILL, *matrix]
-        answers += told(*refusal_of(n, matrix, room)) + told(*refusal_of(n, matrix, ROW))
-        answers += [f"{word:016X}" for word in words_of(n, matrix, step)]
-        count += 1
-    (folder / "stdin").write_text("".join(f"{word:016X}\n" for word in given))
-    (folder / "stdout").write_text("".join(f"{line}\n" for line in answers))
-    print(f"{count} calls")
+    list(all_lines())
 
 
 if __name__ == "__main__":

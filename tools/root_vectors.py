@@ -1,12 +1,11 @@
 #!/usr/bin/env python3
-"""Writes crates/test_root/stdin and crates/test_root/stdout: bit patterns of f64 values, and
-what the square root of each is by document 01, "Square root".
+"""Bit patterns of f64 values, and what the square root of each is by document 01, "Square root". call_vectors.py writes
+them to files; run alone, this file only makes and checks them, and prints how many there are.
 
 The roots are worked out here with whole numbers alone. math.sqrt is only held against them.
 """
 import argparse
 import math
-import pathlib
 import random
 import struct
 
@@ -171,7 +170,7 @@ def patterns():
     return list(dict.fromkeys(found))
 
 
-# The files.
+# The lines.
 
 
 def value_of(pattern):
@@ -188,20 +187,25 @@ def check(pattern, root):
         assert struct.pack(">d", math.sqrt(value)) == root.to_bytes(8, "big"), f"{pattern:016X}"
 
 
-def main():
-    argparse.ArgumentParser(description=__doc__.split("\n\n")[0], epilog="It takes no arguments.").parse_args()
+def check_examples():
     for pattern, root in EXAMPLES:
         assert square_root(pattern) == root, f"{pattern:016X}"
-    lines, answers = [], []
-    for pattern in patterns():
+
+
+def all_lines():
+    """The lines of each case and of its answer."""
+    check_examples()
+    found = patterns()
+    print(f"{len(found)} square roots")
+    for pattern in found:
         root = square_root(pattern)
         check(pattern, root)
-        lines.append(f"{pattern:016X}\n")
-        answers.append("refused 9\n" if root is None else f"{root:016X}\n")
-    crate = pathlib.Path(__file__).resolve().parent.parent / "crates" / "test_root"
-    (crate / "stdin").write_text("".join(lines), encoding="ascii")
-    (crate / "stdout").write_text("".join(answers), encoding="ascii")
-    print(f"{len(lines)} patterns")
+        yield [f"{pattern:016X}\n"], ["refused 9\n" if root is None else f"{root:016X}\n"]
+
+
+def main():
+    argparse.ArgumentParser(description=__doc__.split("\n\n")[0], epilog="It takes no arguments.").parse_args()
+    list(all_lines())
 
 
 if __name__ == "__main__":

@@ -1,7 +1,7 @@
 #!/usr/bin/env python3
-"""Writes crates/test_rotation/stdin and crates/test_rotation/stdout: bit patterns of f64
-values a = a_pp, d = a_qq and b = a_pq of pairs, and what the parameters of each pair are by
-document 01, "One rotation".
+"""Bit patterns of f64 values a = a_pp, d = a_qq and b = a_pq of pairs, and what the parameters of each pair are by
+document 01, "One rotation". call_vectors.py writes them to files; run alone, this file only makes and checks them, and
+prints how many there are.
 
 The operations are worked out here with whole numbers alone. Python's own are only held against
 them.
@@ -9,7 +9,6 @@ them.
 import argparse
 import itertools
 import math
-import pathlib
 import random
 import struct
 
@@ -286,7 +285,7 @@ def pairs():
     return list(dict.fromkeys(found))
 
 
-# The files.
+# The lines.
 
 
 def float_of(pattern):
@@ -309,21 +308,29 @@ def check(pair, answer):
     assert found == answer, pair
 
 
-def main():
-    argparse.ArgumentParser(description=__doc__.split("\n\n")[0], epilog="It takes no arguments.").parse_args()
+def check_examples():
     for pair, answer in EXAMPLES:
         assert parameters(pair) == answer, pair
-    still = "still\n"
-    lines, answers = [], []
-    for pair in pairs():
-        answer = parameters(pair)
+
+
+def lines_of(patterns):
+    return [f"{pattern:016X}\n" for pattern in patterns]
+
+
+def all_lines():
+    """The lines of each case and of its answer."""
+    check_examples()
+    made = [(pair, parameters(pair)) for pair in pairs()]
+    still = sum(answer == STILL for _, answer in made)
+    print(f"{len(made)} pairs, {still} of them still")
+    for pair, answer in made:
         check(pair, answer)
-        lines += [f"{pattern:016X}\n" for pattern in pair]
-        answers += [still] if answer == STILL else [f"{pattern:016X}\n" for pattern in answer]
-    crate = pathlib.Path(__file__).resolve().parent.parent / "crates" / "test_rotation"
-    (crate / "stdin").write_text("".join(lines), encoding="ascii")
-    (crate / "stdout").write_text("".join(answers), encoding="ascii")
-    print(f"{len(lines) // 3} pairs, {answers.count(still)} of them still")
+        yield lines_of(pair), ["still\n"] if answer == STILL else lines_of(answer)
+
+
+def main():
+    argparse.ArgumentParser(description=__doc__.split("\n\n")[0], epilog="It takes no arguments.").parse_args()
+    list(all_lines())
 
 
 if __name__ == "__main__":

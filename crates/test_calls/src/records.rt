@@ -1,7 +1,6 @@
-// Reads calls for the records of a step, one word to a line: the order, the length of the matrix, the step, the length of a lent row, the
-// word that the row is filled with, and the matrix. Writes for each the refusal of a row of that length, if it is refused, the refusal of a
-// row for the most processors, and the words of its records.
-// tools/records_vectors.py writes the input and the expected output.
+// The records of steps: the order, the length of the matrix, the step, the length of a lent row, the word that the row is filled with, and
+// the matrix. The answer is the refusal of a row of that length, if it is refused, the refusal of a row for the most processors, and the
+// words of its records.
 use sizes::MOST_PROCESSORS;
 use step_records::Record;
 use test_io::TextLine;
@@ -9,15 +8,7 @@ use test_io::refusals;
 use test_io::runs::LIMIT;
 use test_io::values;
 
-// A proved loop has to end, so it counts its turns down, from a number that no input uses up.
-fn main() {
-    let mut turns = u64::MAX;
-    while turns > 0 && answer_call() {
-        turns -= 1;
-    }
-}
-
-fn answer_call() -> bool {
+pub fn answer_step() -> bool {
     let TextLine::Word(n) = test_io::read_word() else {
         return false;
     };

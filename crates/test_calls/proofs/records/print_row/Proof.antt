@@ -1,8 +1,8 @@
 use Prim.Native.Nat.{_-_, _≤_}
 use borrow.Author.Needs.{needs}
 use Rattle.sizes.specs.Sizes.{mostProcessors}
-use Rattle.test_records.proofs.print_row.Statement.{statement}
-use Rattle.test_records.proofs.print_row.Tie as tie
+use Rattle.test_calls.proofs.records.print_row.Statement.{statement}
+use Rattle.test_calls.proofs.records.print_row.Tie as tie
 
 -- The index stays within the row. What falls is the number of records left.
 abbrev Inv-loop : tie.InvT-loop

@@ -1,6 +1,6 @@
 use borrow.Author.Needs.{needs}
-use Rattle.test_root.proofs.main.Statement.{statement}
-use Rattle.test_root.proofs.main.Tie as tie
+use Rattle.test_calls.proofs.main.Statement.{statement}
+use Rattle.test_calls.proofs.main.Tie as tie
 
 -- Nothing has to hold from turn to turn. What falls is the number of turns left.
 abbrev Inv-loop : tie.InvT-loop
@@ -12,8 +12,8 @@ abbrev μ-loop : tie.MeasureT-loop
 loop-holds : tie.Need-loop-holds Inv-loop μ-loop
 loop-holds c = tt
 
-answer-text-line-requires : tie.Need-answer-text-line-requires Inv-loop μ-loop
-answer-text-line-requires c κs = tt
+answer-case-requires : tie.Need-answer-case-requires Inv-loop μ-loop
+answer-case-requires c κs = tt
 
 sub-turns : tie.Need-sub-turns Inv-loop μ-loop
 sub-turns c = search needs
@@ -32,4 +32,4 @@ returns-2 c = tt
 
 pub main-spec : {M : Type 1} → statement M
 main-spec =
-    tie.close (tie.spec Inv-loop μ-loop loop-holds answer-text-line-requires sub-turns loop-less loop-again returns returns-2)
+    tie.close (tie.spec Inv-loop μ-loop loop-holds answer-case-requires sub-turns loop-less loop-again returns returns-2)

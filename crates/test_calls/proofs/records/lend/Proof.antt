@@ -2,8 +2,8 @@
 use mathlib.Core.Path.{sym}
 use lib.Seq.{length-take-le}
 use borrow.Author.Needs.{needs}
-use Rattle.test_records.proofs.lend.Statement.{statement}
-use Rattle.test_records.proofs.lend.Tie as tie
+use Rattle.test_calls.proofs.records.lend.Statement.{statement}
+use Rattle.test_calls.proofs.records.lend.Tie as tie
 
 returns : tie.Need-returns
 returns c = search needs

@@ -1,20 +1,10 @@
-// Reads bit patterns, one to a line, and writes the bits of the square root of each, or its refusal.
-// tools/root_vectors.py writes the input and the expected output.
+// Square roots: the bits of a value. The answer is the bits of its square root, or the refusal.
 use root::Root;
 use test_io::TextLine;
 use test_io::refusals;
 use test_io::values;
 
-// A proved loop has to end, so it counts its turns down, from a number that no run uses up.
-fn main() {
-    let mut turns = u64::MAX;
-    while turns > 0 && answer_text_line() {
-        turns -= 1;
-    }
-}
-
-// Answers one text line, and says whether there may be another.
-fn answer_text_line() -> bool {
+pub fn answer_root() -> bool {
     match test_io::read_word() {
         TextLine::Word(bits) => answer(bits),
         TextLine::End => false,

@@ -1,21 +1,11 @@
-// Reads the bit patterns of a = a_pp, d = a_qq and b = a_pq of each pair, one to a line, and writes
-// its parameters: still, or the bits of the tangent, the cosine and the sine, one to a line.
-// tools/rotation_vectors.py writes the input and the expected output.
+// The parameters of pairs: the bits of a = a_pp, d = a_qq and b = a_pq. The answer is still, or the bits of the tangent, the cosine and
+// the sine.
 use libc::STDOUT_FILENO;
 use rotation::Parameters;
 use test_io::TextLine;
 use test_io::values;
 
-// A proved loop has to end, so it counts its turns down, from a number that no run uses up.
-fn main() {
-    let mut turns = u64::MAX;
-    while turns > 0 && answer_pair() {
-        turns -= 1;
-    }
-}
-
-// Answers one pair, and says whether there may be another.
-fn answer_pair() -> bool {
+pub fn answer_pair() -> bool {
     let TextLine::Word(a) = test_io::read_word() else {
         return false;
     };

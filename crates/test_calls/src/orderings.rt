@@ -1,23 +1,12 @@
-// Reads an order and a step for each list of pairs, one word to a line, and writes the list: its
-// refusal, if it is refused, and in both cases its registers, eight to a word and one word to a line:
+// Lists of pairs: the order and the step. The answer is the refusal, if it is refused, and in both cases the registers, eight to a word:
 // left 1 to 8, left 9 to 16, right 1 to 8, right 9 to 16.
-// tools/ordering_vectors.py writes the input and the expected output.
 ghost use Prim.Native.Nat.{_^_, _<_, _≤_};
 use ordering::Registers;
 use sizes::MOST_PROCESSORS;
 use test_io::TextLine;
 use test_io::refusals;
 
-// A proved loop has to end, so it counts its turns down, from a number that no run uses up.
-fn main() {
-    let mut turns = u64::MAX;
-    while turns > 0 && answer_list() {
-        turns -= 1;
-    }
-}
-
-// Answers one list, and says whether there may be another.
-fn answer_list() -> bool {
+pub fn answer_list() -> bool {
     let TextLine::Word(n) = test_io::read_word() else {
         return false;
     };
