@@ -6,9 +6,10 @@
 #include <stdlib.h>
 #include <string.h>
 
-enum { N = 4, SWEEPS = 8, ENTRIES = N * N, SHEET = WEIMRUKAS_SHEET_LENGTH(N), TEXT = WEIMRUKAS_TEXT_LENGTH(N) };
+/* A sheet of either form fits into SHEET bytes. */
+enum { N = 4, SWEEPS = 8, ENTRIES = N * N, SHEET = WEIMRUKAS_LONG_SHEET_LENGTH(N), TEXT = WEIMRUKAS_TEXT_LENGTH(N) };
 
-static const uint8_t codes[N] = {7, 19, 42, 201};
+static const uint16_t codes[N] = {7, 19, 42, 201};
 static double matrix[ENTRIES] = {
     4.00,  1.00, 0.50,  0.25,
     1.00,  3.00, 0.75, -0.50,
@@ -60,14 +61,15 @@ static void run_by_hand(void) {
 }
 
 static void use_sheet(void) {
-    uint8_t sheet[SHEET], read_codes[N], text[TEXT];
-    size_t n = 0, sweeps = 0, length = 0;
-    accepted(weimrukas_write_sheet(N, SWEEPS, codes, N, matrix, ENTRIES, sheet, SHEET, &row, &column));
-    accepted(weimrukas_read_sheet(sheet, SHEET, read_codes, N, matrix, ENTRIES, &n, &sweeps, &row, &column));
-    printf("sheet of %d bytes: order %zu, %zu sweeps, first code %d\n", SHEET, n, sweeps, read_codes[0]);
-    accepted(weimrukas_list(sheet, SHEET, text, TEXT, &length, &row, &column));
-    const uint8_t *end = memchr(text, '\n', length);
-    printf("listing of %zu bytes: %.*s\n", length, (int)(end - text), (const char *)text);
+    uint8_t sheet[SHEET], text[TEXT];
+    uint16_t read_codes[N];
+    size_t written = 0, n = 0, sweeps = 0, printed = 0;
+    accepted(weimrukas_write_sheet(N, SWEEPS, codes, N, matrix, ENTRIES, sheet, SHEET, &written, &row, &column));
+    accepted(weimrukas_read_sheet(sheet, written, read_codes, N, matrix, ENTRIES, &n, &sweeps, &row, &column));
+    printf("sheet of %zu bytes: order %zu, %zu sweeps, first code %d\n", written, n, sweeps, read_codes[0]);
+    accepted(weimrukas_list(sheet, written, text, TEXT, &printed, &row, &column));
+    const uint8_t *end = memchr(text, '\n', printed);
+    printf("listing of %zu bytes: %.*s\n", printed, (int)(end - text), (const char *)text);
 }
 
 int main(void) {

@@ -5,12 +5,13 @@
  * `rt staticlib capi` proves the library and writes it for x86-64: link target/staticlib/libcapi.a. `tools/install`
  * installs it as libweimrukas.
  *
- * Answers. Where nothing else is said a function answers 0, or the number of a refusal in document 01's table:
+ * Answers. Where nothing else is said a function answers 0, or the number of a refusal in document 01's table, with
+ * what document 02 adds to 4:
  *
  *      1  order: not even, or outside 2 to WEIMRUKAS_MOST_LINES
  *      2  sweeps: above WEIMRUKAS_MOST_SWEEPS
  *      3  a slice or a sheet has another length
- *      4  line code: zero, or used before
+ *      4  line code: zero, or used before; a sheet of the long form of which no code is above 255
  *      5  entry: not finite
  *      6  entry a_ij and its mirror a_ji differ in bits
  *      7  lent bytes, text, registers or records: too short
@@ -52,15 +53,19 @@ extern "C" {
 #define WEIMRUKAS_RESTRICT restrict
 #endif
 
-#define WEIMRUKAS_VERSION "0.2.0"
+#define WEIMRUKAS_VERSION "0.3.0"
 
 #define WEIMRUKAS_MOST_LINES 32 /* the largest order */
 #define WEIMRUKAS_MOST_SWEEPS 16
 #define WEIMRUKAS_MOST_PROCESSORS (WEIMRUKAS_MOST_LINES / 2)
 
-/* The length of a sheet of order n with codes of one byte, and bytes that are enough for its listing. */
+/*
+ * The length of a sheet of order n: in the short form, where no code is above 255 and each has one byte, and in the
+ * long form, where some code is and each has two. And bytes that are enough for the listing of either.
+ */
 #define WEIMRUKAS_SHEET_LENGTH(n) (2 + (n) + 4 * (n) * ((n) + 1))
-#define WEIMRUKAS_TEXT_LENGTH(n) (15 + (n) * (22 + 17 * (n)))
+#define WEIMRUKAS_LONG_SHEET_LENGTH(n) (2 + 2 * (n) + 4 * (n) * ((n) + 1))
+#define WEIMRUKAS_TEXT_LENGTH(n) (15 + (n) * (23 + 17 * (n)))
 
 /*
  * 1 if the calling thread rounds to nearest and keeps subnormal values, as results and as operands; otherwise 0. Each
@@ -114,26 +119,32 @@ uint8_t weimrukas_array_run(size_t n, size_t sweeps, const double *matrix, size_
                             size_t *WEIMRUKAS_RESTRICT column);
 
 /*
- * Takes a sheet apart: *n and *sweeps, n codes, and the whole matrix. The caller lends as many codes and values as the
- * order asks for, which is the sheet's first byte. 3 for fewer than 2 bytes; 1, 2, 3, 4, 5.
+ * Takes a sheet of either form apart: *n and *sweeps, n codes, and the whole matrix. The caller lends as many codes and
+ * values as the order asks for, which is the sheet's first byte modulo 128. The sheet is of the long form if that byte
+ * is 128 or more. 3 for fewer than 2 bytes; 1, 2, 3, 4, 5.
  */
-uint8_t weimrukas_read_sheet(const uint8_t *sheet, size_t sheet_length, uint8_t *WEIMRUKAS_RESTRICT codes,
+uint8_t weimrukas_read_sheet(const uint8_t *sheet, size_t sheet_length, uint16_t *WEIMRUKAS_RESTRICT codes,
                              size_t codes_length, double *WEIMRUKAS_RESTRICT matrix, size_t matrix_length,
                              size_t *WEIMRUKAS_RESTRICT n, size_t *WEIMRUKAS_RESTRICT sweeps,
                              size_t *WEIMRUKAS_RESTRICT row, size_t *WEIMRUKAS_RESTRICT column);
 
-/* Puts a sheet of WEIMRUKAS_SHEET_LENGTH(n) bytes together. Lent bytes beyond them stay. 1, 2, 3, 4, 5, 6, 7. */
-uint8_t weimrukas_write_sheet(size_t n, size_t sweeps, const uint8_t *codes, size_t codes_length, const double *matrix,
+/*
+ * Puts a sheet together, in the long form exactly if some code is above 255; *written becomes the number of its bytes,
+ * WEIMRUKAS_LONG_SHEET_LENGTH(n) or WEIMRUKAS_SHEET_LENGTH(n). Lent bytes beyond them stay. 1, 2, 3, 4, 5, 6; 7 for
+ * fewer bytes than that. A refusal leaves *written as it was.
+ */
+uint8_t weimrukas_write_sheet(size_t n, size_t sweeps, const uint16_t *codes, size_t codes_length, const double *matrix,
                               size_t matrix_length, uint8_t *WEIMRUKAS_RESTRICT sheet, size_t sheet_length,
-                              size_t *WEIMRUKAS_RESTRICT row, size_t *WEIMRUKAS_RESTRICT column);
+                              size_t *WEIMRUKAS_RESTRICT written, size_t *WEIMRUKAS_RESTRICT row,
+                              size_t *WEIMRUKAS_RESTRICT column);
 
 /*
- * Reads a sheet, runs the array and puts the printed sheet into text, as ASCII without a final zero; *length becomes
+ * Reads a sheet, runs the array and puts the printed sheet into text, as ASCII without a final zero; *printed becomes
  * the number of its bytes. The rest of text stays. 3 for fewer than 2 bytes, 1, 2, 3, 4, 5, all of the sheet; 7 for a
- * text shorter than WEIMRUKAS_TEXT_LENGTH(n); 8. A refusal changes nothing of text and sets *length to 0.
+ * text shorter than WEIMRUKAS_TEXT_LENGTH(n); 8. A refusal changes nothing of text and sets *printed to 0.
  */
 uint8_t weimrukas_list(const uint8_t *sheet, size_t sheet_length, uint8_t *WEIMRUKAS_RESTRICT text, size_t text_length,
-                       size_t *WEIMRUKAS_RESTRICT length, size_t *WEIMRUKAS_RESTRICT row,
+                       size_t *WEIMRUKAS_RESTRICT printed, size_t *WEIMRUKAS_RESTRICT row,
                        size_t *WEIMRUKAS_RESTRICT column);
 
 /*

@@ -1,5 +1,6 @@
 #!/usr/bin/env python3
-"""The listing program of document 01, "The printed sheet", and samples of what it prints. Run it as
+"""The listing program of document 01, "The printed sheet", with the line codes of document 02, and samples of
+what it prints. Run it as
 
     python3 tools/listing_vectors.py < SHEET
     python3 tools/listing_vectors.py --samples FOLDER [--seed NUMBER]
@@ -28,6 +29,9 @@ EXAMPLE_PRINT = """\
 7 0000000000000000 3FE6A09E667F3BCC BFE6A09E667F3BCC
 9 4000000000000000 3FE6A09E667F3BCC 3FE6A09E667F3BCC
 """
+
+# The same with the codes 300 and 7.
+LONG_EXAMPLE_PRINT = EXAMPLE_PRINT.replace("\n7 ", "\n300 ").replace("\n9 ", "\n7 ")
 
 
 # The listing.
@@ -65,18 +69,17 @@ def listing(sheet):
         return fields("refused", outcome.number)
     n, sweeps = run.n, run.sweeps
     ticks = 3 * sweeps * (n - 1) + n // 2
-    codes = sheet[2 : 2 + n]
-    lines = [line_of(n, code, k, outcome) for k, code in enumerate(codes)]
+    lines = [line_of(n, code, k, outcome) for k, code in enumerate(sheets.codes_of(sheet))]
     return fields(n, sweeps, ticks) + "".join(lines)
 
 
 # The samples, each with the number of its refusal, or None, and a word for its kind.
 
 
-def sheet_of(rng, n, sweeps, kind):
+def sheet_of(rng, n, sweeps, kind, form=sheets.SHORT):
     """The sheet of a matrix of plain_vectors.py."""
     matrix = kind(rng, n, sweeps)
-    return sheets.write(sheets.whole_writing(n, sweeps, sheets.some_codes(rng, n), matrix)).sheet
+    return sheets.write(sheets.whole_writing(n, sweeps, form.codes(rng, n), matrix)).sheet
 
 
 def amount(n):
@@ -103,7 +106,7 @@ def spoiled_sheets(rng):
         for kind in kinds[:count]:
             yield 8, kind.__name__, sheet_of(rng, n, sweeps, kind)
     largest = [plain.LARGEST] * 3
-    yield 8, "largest", sheets.put_together(2, 1, bytes([1, 2]), largest)
+    yield 8, "largest", sheets.put_together(1, 1, [1, 2], largest)
 
 
 def wrong_lengths(rng):
@@ -137,10 +140,9 @@ def wrong_sizes(rng):
 
 
 def wrong_codes(rng):
-    for codes in [bytes([0, 1]), bytes([1, 0]), bytes([255, 255]), bytes([3, 1, 2, 3])]:
-        n = len(codes)
-        sheet = sheet_of(rng, n, 1, plain.ordinary)
-        yield 4, "codes", sheet[:2] + codes + sheet[2 + n :]
+    for codes in [[0, 1], [1, 0], [255, 255], [3, 1, 2, 3]]:
+        sheet = sheet_of(rng, len(codes), 1, plain.ordinary)
+        yield 4, "codes", sheets.with_codes(sheet, codes)
 
 
 def wrong_entries(rng):
@@ -148,15 +150,87 @@ def wrong_entries(rng):
     sheet = sheet_of(rng, 4, 1, plain.ordinary)
     places = sheets.stored_places(4)
     for place, pattern in zip(places, sheets.NOT_FINITE):
-        yield 5, "entry", sheets.with_entries(4, sheet, {place: pattern})
-    both = sheets.with_entries(4, sheet, {(4, 4): plain.NAN})
+        yield 5, "entry", sheets.with_entries(sheet, {place: pattern})
+    both = sheets.with_entries(sheet, {(4, 4): plain.NAN})
     yield 4, "code_and_entry", both[:2] + bytes([5, 5]) + both[4:]
+
+
+# The samples of the long form.
+
+
+def whole_long_sheets(rng):
+    """Sheets whose runs stay finite, with the largest codes, codes around 255 and any codes."""
+    yield None, "long_example", sheets.LONG_EXAMPLE
+    edges = [[255, 256], [65535, 1], [1, 65535], [65280, 255], [256, 512, 768, 3], [7, 263, 519, 65287]]
+    for codes in edges:
+        matrix = plain.ordinary(rng, len(codes), 1)
+        yield None, "long_edges", sheets.write(sheets.whole_writing(len(codes), 1, codes, matrix)).sheet
+    for n, sweeps in [(2, 16), (4, 3), (6, 0), (8, 5), (8, 8), (14, 2), (16, 4), (24, 1), (32, 0), (32, 2)]:
+        yield None, "long", sheet_of(rng, n, sweeps, plain.covariances, sheets.LONG)
+    for n in (2, 8, 32):
+        codes, matrix = list(range(65535, 65535 - n, -1)), plain.ordinary(rng, n, 1)
+        yield None, "long_largest", sheets.write(sheets.whole_writing(n, 1, codes, matrix)).sheet
+    yield 8, "long_spoiled", sheet_of(rng, 4, 1, plain.spoiled_by_sum, sheets.LONG)
+    yield 8, "long_spoiled", sheet_of(rng, 32, 1, plain.spoiled_late, sheets.LONG)
+
+
+def wrong_long_lengths(rng):
+    """Sheets cut, also in the middle of a code, lengthened, and of the other form's length."""
+    small, large = (sheet_of(rng, n, 1, plain.ordinary, sheets.LONG) for n in (2, 32))
+    short, shorts = (sheet_of(rng, n, 1, plain.ordinary) for n in (2, 32))
+    yield 3, "long_one_byte", small[:1]
+    yield 3, "long_head_only", small[:2]
+    yield 3, "long_cut_in_a_code", small[:3]
+    yield 3, "long_cut_in_a_code", small[:5]
+    yield 3, "long_cut_after_the_codes", small[:6]
+    yield 3, "long_cut", small[:-1]
+    yield 3, "long_byte_added", small + b"\0"
+    yield 3, "long_cut", large[:-1]
+    yield 3, "long_byte_added", large + b"\0"
+    yield 3, "long_many_added", large + rng.randbytes(20000)
+    yield 3, "long_many_added", small + rng.randbytes(20000)
+    yield 3, "long_as_short", bytes([2]) + small[1:]
+    yield 3, "long_as_short", bytes([32]) + large[1:]
+    yield 3, "short_as_long", bytes([130]) + short[1:]
+    yield 3, "short_as_long", bytes([160]) + shorts[1:]
+    yield 3, "long_of_the_short_length", small[: len(short)]
+    yield 3, "long_of_the_short_length", large[: len(shorts)]
+
+
+def wrong_long_sizes(rng):
+    """Sheets with another order or other sweeps, the 128 being on."""
+    sheet = sheet_of(rng, 4, 1, plain.ordinary, sheets.LONG)
+    for n in (0, 1, 3, 5, 31, 33, 34, 64, 127):
+        yield 1, "long_order", bytes([128 + n]) + sheet[1:]
+    for n in (2, 6, 32):
+        yield 3, "long_other_order", bytes([128 + n]) + sheet[1:]
+    for sweeps in (17, 255):
+        yield 2, "long_sweeps", bytes([132, sweeps]) + sheet[2:]
+    yield 1, "long_order_and_sweeps", bytes([131, 17])
+    yield 2, "long_sweeps_and_length", bytes([130, 17])
+
+
+def wrong_long_codes(rng):
+    """Codes zero, repeated, or all small in the long form; and entries that are not finite."""
+    bad = [[0, 300], [300, 0], [300, 300], [65535, 65535], [300, 1, 2, 300], [7, 263, 7, 519]]
+    small = [[1, 2], [255, 254], [255, 255], [4, 3, 2, 1], list(range(224, 256))]
+    for word, group in [("long_codes", bad), ("long_without_need", small)]:
+        for codes in group:
+            sheet = sheet_of(rng, len(codes), 1, plain.ordinary, sheets.LONG)
+            yield 4, word, sheets.with_codes(sheet, codes)
+    sheet = sheet_of(rng, 4, 1, plain.ordinary, sheets.LONG)
+    for place, pattern in [((1, 1), plain.NAN), ((3, 2), plain.INFINITY), ((4, 4), plain.SIGN + plain.INFINITY)]:
+        yield 5, "long_entry", sheets.with_entries(sheet, {place: pattern})
+    both = sheets.with_entries(sheet, {(4, 4): plain.NAN})
+    yield 4, "long_without_need_and_entry", sheets.with_codes(both, [9, 8, 7, 6])
 
 
 def samples(rng):
     """The samples: a name, the sheet, and what is printed of it."""
     made = [(None, "example", sheets.EXAMPLE)]
     for group in (whole_sheets, spoiled_sheets, wrong_lengths, wrong_sizes, wrong_codes, wrong_entries):
+        made += group(rng)
+    for group in (whole_long_sheets, wrong_long_lengths, wrong_long_sizes, wrong_long_codes):
         made += group(rng)
     found = []
     for k, (number, word, sheet) in enumerate(made):
@@ -176,6 +250,7 @@ def number_in(printed):
 
 def check_example():
     assert listing(sheets.EXAMPLE) == EXAMPLE_PRINT
+    assert listing(sheets.LONG_EXAMPLE) == LONG_EXAMPLE_PRINT
 
 
 def check_by_array(sheet, printed):
@@ -195,18 +270,22 @@ def check_form(sheet, printed):
         return
     *lines, rest = printed.split("\n")
     assert rest == "" and all(len(line.split(" ")) == len(line.split()) for line in lines)
-    n = sheet[0]
+    n = sheet[0] % 128
     assert len(lines) == 1 + n and all(len(line.split(" ")) == 2 + n for line in lines[1:])
-    assert [int(line.split(" ")[0]) for line in lines[1:]] == list(sheet[2 : 2 + n])
+    assert [int(line.split(" ")[0]) for line in lines[1:]] == sheets.codes_of(sheet)
+    assert len(printed) <= 15 + n * (23 + 17 * n)
 
 
 def check_variety(made):
-    """Enough sheets, of every order and number of sweeps, and every refusal that a listing can print."""
+    """Enough sheets, of every order and number of sweeps, and every refusal that a listing can print, in both
+    forms."""
     accepted = [sheet[:2] for _, sheet, printed in made if number_in(printed) is None]
-    assert {n for n, _ in accepted} == set(range(2, 33, 2))
+    assert {n for n, _ in accepted if n < 128} == set(range(2, 33, 2))
+    assert {n - 128 for n, _ in accepted if n >= 128} >= {2, 8, 32}
     assert {sweeps for _, sweeps in accepted} == set(range(17))
     numbers = [number_in(printed) for _, _, printed in made]
-    assert set(numbers) == {None, 1, 2, 3, 4, 5, 8}
+    long_numbers = {number_in(printed) for _, sheet, printed in made if sheet[:1] >= b"\x80"}
+    assert set(numbers) == long_numbers == {None, 1, 2, 3, 4, 5, 8}
     assert len(made) >= 60
     print(f"{len(made)} sheets by the number of the refusal: {sheets.told(numbers)}")
 

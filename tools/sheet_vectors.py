@@ -1,26 +1,28 @@
 #!/usr/bin/env python3
 """Writes crates/test_sheets/stdin and crates/test_sheets/stdout: sheets to be read and matrices to be
-written as sheets, and what comes of them by document 01, "A sheet" and "Refused, by place".
+written as sheets, and what comes of them by document 01, "A sheet" and "Refused, by place", and document 02,
+line codes above 255.
 
 All input, and all output but refusals, is words of 16 hexadecimal digits in capital letters, one to a line.
-Values are their patterns, one to a word. Bytes are packed eight to a word, the first in the highest byte,
-and the last word is filled up with zero bytes; where there are no bytes there is no word. A case begins with
-a word for its kind.
+Values are their patterns, one to a word, and codes are one to a word, in its lowest 16 bits. The bytes of a
+sheet are packed eight to a word, the first in the highest byte, and the last word is filled up with zero
+bytes; where there are no bytes there is no word. A case begins with a word for its kind.
 
-0, a reading: the lengths of the sheet, of the lent codes and of the lent matrix, the byte that the codes are
+0, a reading: the lengths of the sheet, of the lent codes and of the lent matrix, the code that the codes are
    filled with before the call, the pattern that the matrix is filled with, and the bytes of the sheet. The
-   answer is n and the sweeps, or the refusal, and in both cases the bytes of the codes and the values of the
-   matrix after the call.
+   answer is n and the sweeps, or the refusal, and in both cases the codes and the values of the matrix after
+   the call.
 1, a writing: n, the sweeps, the lengths of the codes, of the matrix and of the lent sheet, the byte that the
-   sheet is filled with before the call, the bytes of the codes and the values of the matrix. The answer is
-   the refusal, if it is refused, and in both cases the bytes of the lent sheet after the call.
+   sheet is filled with before the call, the codes and the values of the matrix. The answer is the number of
+   bytes that were written, or the refusal, and in both cases the bytes of the lent sheet after the call.
 
-Lengths count bytes, and of a matrix values. None is above 40 for codes, 1,156 for a matrix and 4,800 for a
-sheet. A byte to fill with is the lowest of its word. No matrix is filled with another NaN than
-7FF8000000000000. A refusal is a line "refused" with its number and, where it has a place, a line "row" and a
-line "column", each with a space and the figure in decimal.
+Lengths count codes, values of a matrix, and bytes of a sheet. None is above 40 for codes, 1,156 for a matrix
+and 4,900 for a sheet. A byte to fill with is the lowest of its word, a code the lowest 16 bits. No matrix is
+filled with another NaN than 7FF8000000000000. A refusal is a line "refused" with its number and, where it has
+a place, a line "row" and a line "column", each with a space and the figure in decimal.
 
-Patterns are judged as whole numbers, and nothing is worked out with values.
+Patterns are judged as whole numbers, and nothing is worked out with values. The cases of sheets with codes of
+one byte come first, then the same groups with codes of two bytes, then what only two forms bring about.
 """
 import argparse
 import collections
@@ -34,12 +36,12 @@ import plain_vectors as plain
 from plain_vectors import HIDDEN, INFINITY, LARGEST, LAST, NAN, ONE, SIGN, ZERO
 
 READ, WRITE = range(2)
-MOST_CODES, MOST_VALUES, MOST_BYTES = 40, 34 * 34, 4800  # of lent buffers
+MOST_CODES, MOST_VALUES, MOST_BYTES = 40, 34 * 34, 4900  # of lent buffers
 
 # A sheet, and the lengths of the codes and of the matrix that are lent.
 Reading = collections.namedtuple("Reading", "sheet codes_size matrix_size")
 
-# What is to be written, the codes as bytes and the matrix as patterns, and the length of the lent sheet.
+# What is to be written, the codes as numbers and the matrix as patterns, and the length of the lent sheet.
 Writing = collections.namedtuple("Writing", "n sweeps codes matrix sheet_size")
 
 # What a call answers: the number of its refusal, and its row and column, if it has them; what a reading
@@ -52,9 +54,19 @@ Outcome = collections.namedtuple(
 # The model. Rows and columns are counted from 1.
 
 
-def length(n):
-    """The length of a sheet."""
-    return 2 + n + 4 * n * (n + 1)
+def length(n, width):
+    """The length of a sheet whose codes have so many bytes each."""
+    return 2 + width * n + 4 * n * (n + 1)
+
+
+def width_for(codes):
+    """The bytes of a code in the sheet that is written of these codes."""
+    return 2 if any(code > 255 for code in codes) else 1
+
+
+def head_of(sheet):
+    """The width of the codes, the order and the sweeps by the first two bytes."""
+    return 1 + sheet[0] // 128, sheet[0] % 128, sheet[1]
 
 
 def refused_sizes(n, sweeps):
@@ -77,10 +89,17 @@ def stored_places(n):
     return [(i, j) for i in range(1, n + 1) for j in range(1, i + 1)]
 
 
-def entries_of(n, sheet):
+def codes_of(sheet):
+    """The codes in a sheet."""
+    width, n, _ = head_of(sheet)
+    starts = range(2, 2 + width * n, width)
+    return [int.from_bytes(sheet[k : k + width], "big") for k in starts]
+
+
+def entries_of(sheet):
     """The patterns of the entries in a sheet by their places."""
-    first = 2 + n
-    starts = range(first, len(sheet), 8)
+    width, n, _ = head_of(sheet)
+    starts = range(2 + width * n, len(sheet), 8)
     patterns = [int.from_bytes(sheet[k : k + 8], "big") for k in starts]
     return dict(zip(stored_places(n), patterns))
 
@@ -89,14 +108,14 @@ def read(case):
     sheet = case.sheet
     if len(sheet) < 2:
         return Outcome(number=3)
-    n, sweeps = sheet[:2]
+    width, n, sweeps = head_of(sheet)
     number = refused_sizes(n, sweeps)
     if number:
         return Outcome(number=number)
-    if len(sheet) != length(n) or case.codes_size != n or case.matrix_size != n * n:
+    if len(sheet) != length(n, width) or case.codes_size != n or case.matrix_size != n * n:
         return Outcome(number=3)
-    codes, entries = sheet[2 : 2 + n], entries_of(n, sheet)
-    if has_bad_code(codes):
+    codes, entries = codes_of(sheet), entries_of(sheet)
+    if has_bad_code(codes) or width > width_for(codes):
         return Outcome(number=4)
     for place, pattern in entries.items():
         if not is_finite(pattern):
@@ -106,9 +125,11 @@ def read(case):
     return Outcome(n=n, sweeps=sweeps, codes=codes, matrix=matrix)
 
 
-def put_together(n, sweeps, codes, entries):
-    """The sheet with these entries, in the order of their places."""
-    return bytes([n, sweeps]) + codes + b"".join(pattern.to_bytes(8, "big") for pattern in entries)
+def put_together(width, sweeps, codes, entries):
+    """The sheet with these entries, in the order of their places, and with codes of so many bytes."""
+    head = bytes([len(codes) + 128 * (width - 1), sweeps])
+    stored_codes = b"".join(code.to_bytes(width, "big") for code in codes)
+    return head + stored_codes + b"".join(pattern.to_bytes(8, "big") for pattern in entries)
 
 
 def write(case):
@@ -126,38 +147,56 @@ def write(case):
     place = plain.first_place(n, lambda i, j: i < j and matrix[i * n + j] != matrix[j * n + i])
     if place:
         return Outcome(number=6, place=place)
-    if case.sheet_size < length(n):
+    width = width_for(codes)
+    if case.sheet_size < length(n, width):
         return Outcome(number=7)
     entries = [matrix[(i - 1) * n + (j - 1)] for i, j in stored_places(n)]
-    return Outcome(sheet=put_together(n, case.sweeps, codes, entries))
+    return Outcome(sheet=put_together(width, case.sweeps, codes, entries))
 
 
 def whole_reading(sheet):
     """A reading of a sheet that is lent what its first byte asks for."""
-    n = sheet[0] if sheet else 0
+    n = sheet[0] % 128 if sheet else 0
     return Reading(sheet, n, n * n)
 
 
 def whole_writing(n, sweeps, codes, matrix):
-    return Writing(n, sweeps, codes, matrix, length(n))
+    """A writing that is lent as many bytes as the sheet has."""
+    return Writing(n, sweeps, codes, matrix, length(n, width_for(codes)))
 
 
-# From document 01, "The printed sheet".
-EXAMPLE = put_together(2, 1, bytes([7, 9]), [ONE, ONE, ONE])
+# From document 01, "The printed sheet", and the same with a code above 255.
+EXAMPLE = put_together(1, 1, [7, 9], [ONE, ONE, ONE])
+LONG_EXAMPLE = put_together(2, 1, [300, 7], [ONE, ONE, ONE])
 
 
 def check_examples():
     """What document 01 says of its example, of lengths, and in "Entries to try" of sheets."""
     assert EXAMPLE == bytes.fromhex("02 01 07 09" + 3 * "3FF0000000000000")
-    accepted = Outcome(n=2, sweeps=1, codes=bytes([7, 9]), matrix=[ONE] * 4)
+    accepted = Outcome(n=2, sweeps=1, codes=[7, 9], matrix=[ONE] * 4)
     assert read(whole_reading(EXAMPLE)) == accepted
-    assert write(Writing(2, 1, bytes([7, 9]), [ONE] * 4, 28)).sheet == EXAMPLE
-    assert len(EXAMPLE) == length(2) == 28 and length(32) == 4258
+    assert write(Writing(2, 1, [7, 9], [ONE] * 4, 28)).sheet == EXAMPLE
+    assert len(EXAMPLE) == length(2, 1) == 28 and length(32, 1) == 4258
     for n in (0, 3, 34):
         assert read(whole_reading(bytes([n]) + EXAMPLE[1:])).number == 1
     for sweeps, number in [(16, None), (17, 2)]:
         assert read(whole_reading(bytes([2, sweeps]) + EXAMPLE[2:])).number == number
     for sheet in (EXAMPLE[:27], EXAMPLE + b"\0"):
+        assert read(whole_reading(sheet)).number == 3
+
+
+def check_long_examples():
+    """What document 02 says of the long form."""
+    assert LONG_EXAMPLE == bytes.fromhex("82 01 012C 0007" + 3 * "3FF0000000000000")
+    accepted = Outcome(n=2, sweeps=1, codes=[300, 7], matrix=[ONE] * 4)
+    assert read(whole_reading(LONG_EXAMPLE)) == accepted
+    assert write(Writing(2, 1, [300, 7], [ONE] * 4, 30)).sheet == LONG_EXAMPLE
+    assert all(length(n, 2) == length(n, 1) + n for n in range(128))
+    small = bytes([0x82, 1, 0, 9, 0, 7]) + LONG_EXAMPLE[6:]
+    assert read(whole_reading(small)).number == 4
+    for first in (128, 131, 255):
+        assert read(whole_reading(bytes([first]) + LONG_EXAMPLE[1:])).number == 1
+    for sheet in (LONG_EXAMPLE[:29], LONG_EXAMPLE + b"\0", b"\2" + LONG_EXAMPLE[1:], b"\x82" + EXAMPLE[1:]):
         assert read(whole_reading(sheet)).number == 3
 
 
@@ -209,15 +248,42 @@ def sizes():
     yield 32, 16, any_finite
 
 
-def some_codes(rng, n):
+def short_codes(rng, n):
     """The first codes, the last ones backwards, or random ones."""
     kinds = range(1, n + 1), range(255, 255 - n, -1), rng.sample(range(1, 256), n)
-    return bytes(rng.choice(kinds))
+    return list(rng.choice(kinds))
 
 
-def some_sheet(rng, n, sweeps, kind):
+def long_codes(rng, n):
+    """Codes of which some are above 255: the first above it, the last ones backwards, those on both sides of
+    it, some that end in a zero byte, some that end in the same byte, random ones, and small ones but for
+    half of them or for one."""
+    small, large = rng.sample(range(1, 256), n), rng.sample(range(256, 65536), n)
+    half = rng.sample(small[: n // 2] + large[n // 2 :], n)
+    alone = rng.randrange(n) if n else 0
+    kinds = [
+        range(256, 256 + n),
+        range(65535, 65535 - n, -1),
+        range(256 - n // 2, 256 - n // 2 + n),
+        range(256, 256 * (n + 1), 256),
+        range(7, 256 * n, 256),
+        large,
+        half,
+        small[:alone] + large[alone : alone + 1] + small[alone + 1 :],
+    ]
+    return list(rng.choice(kinds))
+
+
+# A form of sheets: the bytes of a code; what the first byte is above the order; how codes are drawn; what is
+# added to the small codes of a few cases; first bytes with a wrong order; and the most bytes that are lent.
+Form = collections.namedtuple("Form", "width mark codes above first_bytes most")
+SHORT = Form(1, 0, short_codes, 0, (0, 1, 3, 5, 34, 36, 132, 255), 4800)
+LONG = Form(2, 128, long_codes, 255, (128, 129, 131, 133, 162, 164, 36, 255), MOST_BYTES)
+
+
+def some_sheet(rng, form, n, sweeps, kind):
     entries = [kind(rng) for _ in stored_places(n)]
-    return put_together(n, sweeps, some_codes(rng, n), entries)
+    return put_together(form.width, sweeps, form.codes(rng, n), entries)
 
 
 def some_matrix(rng, n, kind):
@@ -230,7 +296,7 @@ def some_matrix(rng, n, kind):
 
 
 def zero_at(codes, k):
-    return codes[:k] + bytes(1) + codes[k + 1 :]
+    return codes[:k] + [0] + codes[k + 1 :]
 
 
 def repeated(codes, k, other):
@@ -238,64 +304,75 @@ def repeated(codes, k, other):
     return codes[:other] + codes[k : k + 1] + codes[other + 1 :]
 
 
-def bad_codes(rng):
+def bad_codes(rng, form):
     """Codes with a zero and codes with two alike: in small orders in all places, in others in some; and some
     with more than one fault."""
     for n in (2, 4, 6):
         for k in range(n):
-            yield zero_at(some_codes(rng, n), k)
+            yield zero_at(form.codes(rng, n), k)
         for k, other in itertools.combinations(range(n), 2):
-            yield repeated(some_codes(rng, n), k, other)
+            yield repeated(form.codes(rng, n), k, other)
     for k in (0, 8, 15):
-        yield zero_at(some_codes(rng, 16), k)
+        yield zero_at(form.codes(rng, 16), k)
     for k, other in [(0, 1), (0, 15), (7, 9), (14, 15)]:
-        yield repeated(some_codes(rng, 16), k, other)
-    yield repeated(some_codes(rng, 32), 0, 31)
-    yield bytes(2)
-    yield bytes(8)
-    yield bytes([255] * 8)
-    yield bytes([1, 0, 2, 0])
-    yield bytes([5, 6, 6, 5])
-    yield bytes([9, 9, 0, 1])
+        yield repeated(form.codes(rng, 16), k, other)
+    yield repeated(form.codes(rng, 32), 0, 31)
+    above = form.above
+    yield [0] * 2
+    yield [0] * 8
+    yield [256**form.width - 1] * 8
+    yield [above + 1, 0, above + 2, 0]
+    yield [above + 5, above + 6, above + 6, above + 5]
+    yield [above + 9, above + 9, 0, above + 1]
+
+
+def held(call, groups, *drawn):
+    """The cases of some groups, each held to the number that it comes with."""
+    cases = []
+    for group in groups:
+        for number, case in group(*drawn):
+            assert call(case).number == number, case
+            cases.append(case)
+    return cases
 
 
 # The readings. Most come with the number of their refusal, or with None.
 
 
-def good_readings(rng):
+def good_readings(rng, form):
     for n, sweeps, kind in sizes():
-        yield None, whole_reading(some_sheet(rng, n, sweeps, kind))
+        yield None, whole_reading(some_sheet(rng, form, n, sweeps, kind))
 
 
-def changed_heads(rng):
+def changed_heads(rng, form):
     """Sheets of order 2 with every first byte, and with every second byte."""
     for byte in range(256):
-        sheet = some_sheet(rng, 2, rng.randint(0, 16), mixed)
-        number = 1 if byte not in range(2, 33, 2) else 3 if byte > 2 else None
+        sheet = some_sheet(rng, form, 2, rng.randint(0, 16), mixed)
+        number = 1 if byte % 128 not in range(2, 33, 2) else 3 if byte != form.mark + 2 else None
         yield number, Reading(bytes([byte]) + sheet[1:], 2, 4)
     for byte in range(256):
-        sheet = some_sheet(rng, 2, 0, mixed)
-        yield 2 if byte > 16 else None, Reading(bytes([2, byte]) + sheet[2:], 2, 4)
+        sheet = some_sheet(rng, form, 2, 0, mixed)
+        yield 2 if byte > 16 else None, Reading(bytes([form.mark + 2, byte]) + sheet[2:], 2, 4)
 
 
-def cut_and_lengthened(rng):
+def cut_and_lengthened(rng, form):
     """A sheet of order 2 in every length near its own, and others in some."""
-    sheet = some_sheet(rng, 2, 16, any_finite) + rng.randbytes(20)
+    sheet = some_sheet(rng, form, 2, 16, any_finite) + rng.randbytes(20)
     for size in range(len(sheet) + 1):
-        yield None if size == 28 else 3, Reading(sheet[:size], 2, 4)
+        yield None if size == length(2, form.width) else 3, Reading(sheet[:size], 2, 4)
     for n in (4, 8):
-        whole = length(n)
-        for size in (0, 1, 2, 2 + n, whole - 8 * n, whole - 8, whole - 1, whole + 1, whole + 8):
-            sheet = some_sheet(rng, n, rng.randint(0, 16), mixed) + bytes(8)
+        whole = length(n, form.width)
+        for size in (0, 1, 2, 2 + form.width * n, whole - 8 * n, whole - 8, whole - 1, whole + 1, whole + 8):
+            sheet = some_sheet(rng, form, n, rng.randint(0, 16), mixed) + bytes(8)
             yield 3, Reading(sheet[:size], n, n * n)
-    for sheet in (some_sheet(rng, 32, 16, mixed)[:-1], some_sheet(rng, 32, 0, mixed) + b"\n"):
+    for sheet in (some_sheet(rng, form, 32, 16, mixed)[:-1], some_sheet(rng, form, 32, 0, mixed) + b"\n"):
         yield 3, Reading(sheet, 32, 1024)
     for n, other in [(2, 4), (4, 2), (16, 32), (32, 30)]:
-        sheet = some_sheet(rng, n, 1, ordinary)
-        yield 3, Reading(bytes([other]) + sheet[1:], other, other * other)
+        sheet = some_sheet(rng, form, n, 1, ordinary)
+        yield 3, Reading(bytes([form.mark + other]) + sheet[1:], other, other * other)
 
 
-def wrong_lent(rng):
+def wrong_lent(rng, form):
     """Lent codes and matrices too short, too long and empty, one or both."""
     for n in (2, 4, 8):
         right = n, n * n
@@ -303,64 +380,72 @@ def wrong_lent(rng):
         wrong_matrix = [(n, size) for size in (n * n - 1, n * n + 1, 0, n * (n + 1) // 2)]
         both = [(0, 0), (n + 1, n * n - 1), (n - 1, n * n + 1), (n + 2, (n + 2) ** 2)]
         for lent in [right, *wrong_codes, *wrong_matrix, *both]:
-            sheet = some_sheet(rng, n, rng.randint(0, 16), mixed)
+            sheet = some_sheet(rng, form, n, rng.randint(0, 16), mixed)
             yield None if lent == right else 3, Reading(sheet, *lent)
-    yield 3, Reading(some_sheet(rng, 32, 16, any_finite), 32, 1025)
+    yield 3, Reading(some_sheet(rng, form, 32, 16, any_finite), 32, 1025)
 
 
-def readings_of_bad_codes(rng):
-    for codes in bad_codes(rng):
+def readings_of_bad_codes(rng, form):
+    for codes in bad_codes(rng, form):
         n = len(codes)
-        sheet = some_sheet(rng, n, rng.randint(0, 16), mixed)
-        yield 4, whole_reading(sheet[:2] + codes + sheet[2 + n :])
+        sheet = some_sheet(rng, form, n, rng.randint(0, 16), mixed)
+        yield 4, whole_reading(with_codes(sheet, codes))
 
 
-def with_entries(n, sheet, changes):
+def with_codes(sheet, codes):
+    """A sheet with other codes, in its own form."""
+    width, n, sweeps = head_of(sheet)
+    assert len(codes) == n
+    return put_together(width, sweeps, codes, entries_of(sheet).values())
+
+
+def with_entries(sheet, changes):
     """A sheet with the patterns at some places changed."""
-    entries = entries_of(n, sheet)
+    width, _, sweeps = head_of(sheet)
+    entries = entries_of(sheet)
     assert entries.keys() >= changes.keys()
-    return put_together(n, sheet[1], sheet[2 : 2 + n], (entries | changes).values())
+    return put_together(width, sweeps, codes_of(sheet), (entries | changes).values())
 
 
-def refused_at(rng, n, changes):
+def refused_at(rng, form, n, changes):
     """A reading of a sheet with patterns that are not finite at some places. It is refused for the first of
     these, and places compare in row order."""
-    case = whole_reading(with_entries(n, some_sheet(rng, n, rng.randint(0, 16), mixed), changes))
+    case = whole_reading(with_entries(some_sheet(rng, form, n, rng.randint(0, 16), mixed), changes))
     assert read(case) == Outcome(number=5, place=min(changes))
     return 5, case
 
 
-def bad_entries(rng):
+def bad_entries(rng, form):
     """Each pattern in each place of order 2, one in each place of other orders, and several at once."""
     for pattern in NOT_FINITE:
         for place in stored_places(2):
-            yield refused_at(rng, 2, {place: pattern})
+            yield refused_at(rng, form, 2, {place: pattern})
     patterns = itertools.cycle(NOT_FINITE)
     for n in (4, 6):
         for place in stored_places(n):
-            yield refused_at(rng, n, {place: next(patterns)})
+            yield refused_at(rng, form, n, {place: next(patterns)})
     for n, place in [(16, (1, 1)), (16, (9, 5)), (16, (16, 1)), (16, (16, 15)), (32, (32, 32))]:
-        yield refused_at(rng, n, {place: next(patterns)})
+        yield refused_at(rng, form, n, {place: next(patterns)})
     for two in itertools.combinations(stored_places(4), 2):
-        yield refused_at(rng, 4, {place: next(patterns) for place in two})
+        yield refused_at(rng, form, 4, {place: next(patterns) for place in two})
     for n in (2, 6):
-        yield refused_at(rng, n, {place: next(patterns) for place in stored_places(n)})
+        yield refused_at(rng, form, n, {place: next(patterns) for place in stored_places(n)})
 
 
-def faulty_reading(rng, numbers):
+def faulty_reading(rng, form, numbers):
     """A reading of order 4 with each of these reasons to be refused, at random places."""
-    sheet = some_sheet(rng, 4, rng.randint(0, 16), mixed)
+    sheet = some_sheet(rng, form, 4, rng.randint(0, 16), mixed)
     if 5 in numbers:
-        sheet = with_entries(4, sheet, {rng.choice(stored_places(4)): rng.choice(NOT_FINITE)})
+        sheet = with_entries(sheet, {rng.choice(stored_places(4)): rng.choice(NOT_FINITE)})
     if 4 in numbers:
-        sheet = sheet[:2] + faulty_codes(rng, sheet[2:6]) + sheet[6:]
+        sheet = with_codes(sheet, faulty_codes(rng, codes_of(sheet)))
     if 2 in numbers:
-        sheet = bytes([4, rng.randint(17, 255)]) + sheet[2:]
+        sheet = sheet[:1] + bytes([rng.randint(17, 255)]) + sheet[2:]
     if 1 in numbers:
-        sheet = bytes([rng.choice((0, 1, 3, 5, 34, 36, 132, 255))]) + sheet[1:]
+        sheet = bytes([rng.choice(form.first_bytes)]) + sheet[1:]
     case = Reading(sheet, 4, 16)
     if 3 in numbers:
-        cut, longer = sheet[: rng.randint(2, 85)], sheet + rng.randbytes(rng.randint(1, 9))
+        cut, longer = sheet[: rng.randint(2, len(sheet) - 1)], sheet + rng.randbytes(rng.randint(1, 9))
         wrong = [{"sheet": cut}, {"sheet": longer}]
         wrong += [{"codes_size": size} for size in (0, 3, 5)]
         wrong += [{"matrix_size": size} for size in (0, 15, 17)]
@@ -379,43 +464,53 @@ def sets_of(numbers):
     return [chosen for count in counts for chosen in itertools.combinations(numbers, count)]
 
 
-def readings_with_several(rng):
+def least_reason(numbers, case):
+    """The number that a reading with these reasons is refused by. 132 is order 4, in the long form: not a
+    wrong order, but one whose sheets have another length."""
+    if case.sheet[0] == 132 and 1 in numbers:
+        return min({3, *numbers} - {1})
+    return min(numbers)
+
+
+def readings_with_several(rng, form):
     """Every set of reasons, four times, of which the least number counts; and heads that are too short to
     show an order."""
     for numbers in sets_of(range(1, 6)) * 4:
-        yield min(numbers), faulty_reading(rng, numbers)
+        case = faulty_reading(rng, form, numbers)
+        yield least_reason(numbers, case), case
     for sheet in (b"", bytes([0]), bytes([2]), bytes([3]), bytes([255])):
         for lent in [(0, 0), (2, 4), (3, 5)]:
             yield 3, Reading(sheet, *lent)
 
 
-def flipped(_):
-    """The example with each of its bits changed."""
-    for bit in range(8 * len(EXAMPLE)):
-        number = int.from_bytes(EXAMPLE, "big") ^ 1 << bit
-        yield Reading(number.to_bytes(len(EXAMPLE), "big"), 2, 4)
+def flipped(example):
+    """An example with each of its bits changed."""
+    for bit in range(8 * len(example)):
+        number = int.from_bytes(example, "big") ^ 1 << bit
+        yield Reading(number.to_bytes(len(example), "big"), 2, 4)
 
 
-def random_bytes(rng):
+def random_bytes(rng, form):
     """Bytes of any kind in many lengths, some of them with a head and the length for it, and some of these
     with codes and with bytes that are often those of an infinity or a NaN."""
     for _ in range(60):
         yield Reading(rng.randbytes(rng.randint(0, 70)), rng.randint(0, 3), rng.randint(3, 5))
-    for size in (100, 500, 1000, 4257, 4258, 4259, MOST_BYTES):
+    longest = length(32, form.width)
+    for size in (100, 500, 1000, longest - 1, longest, longest + 1, form.most):
         yield Reading(rng.randbytes(size), 2, 4)
     for k in range(30):
         n = 2 + 2 * (k % 5)
-        head = bytes([n, rng.randint(0, 16)])
-        yield whole_reading(head + rng.randbytes(length(n) - 2))
+        head = bytes([form.mark + n, rng.randint(0, 16)])
+        yield whole_reading(head + rng.randbytes(length(n, form.width) - 2))
     for k in range(60):
         n = 2 + 2 * (k % 3)
-        head = bytes([n, rng.randint(0, 16)]) + some_codes(rng, n)
-        rest = rng.choices((0x00, 0x7F, 0x80, 0xEF, 0xF0, 0xF8, 0xFF), k=length(n) - len(head))
+        head = put_together(form.width, rng.randint(0, 16), form.codes(rng, n), [])
+        rest = rng.choices((0x00, 0x7F, 0x80, 0xEF, 0xF0, 0xF8, 0xFF), k=length(n, form.width) - len(head))
         yield whole_reading(head + bytes(rest))
 
 
-def readings(rng):
-    """The readings with the numbers of their refusals, and then those with none given."""
+def readings(rng, form, example):
+    """The readings of a form with the numbers of their refusals, and then those with none given."""
     groups = [
         good_readings,
         changed_heads,
@@ -425,88 +520,86 @@ def readings(rng):
         bad_entries,
         readings_with_several,
     ]
-    cases = [whole_reading(EXAMPLE)]
-    for group in groups:
-        for number, case in group(rng):
-            assert read(case).number == number, case
-            cases.append(case)
-    return cases + [*flipped(rng), *random_bytes(rng)]
+    cases = [whole_reading(example), *held(read, groups, rng, form)]
+    return cases + [*flipped(example), *random_bytes(rng, form)]
 
 
 # The writings. All come with the number of their refusal, or with None.
 
 
-def good_writings(rng):
+def good_writings(rng, form):
     """Lent sheets of the exact length and longer ones."""
     for k, (n, sweeps, kind) in enumerate(sizes()):
         longer = (0, 1, 0, 7, 8, 100)[k % 6]
-        case = whole_writing(n, sweeps, some_codes(rng, n), some_matrix(rng, n, kind))
-        yield None, case._replace(sheet_size=length(n) + longer)
+        case = whole_writing(n, sweeps, form.codes(rng, n), some_matrix(rng, n, kind))
+        yield None, case._replace(sheet_size=length(n, form.width) + longer)
 
 
-def refused_orders(rng):
+def refused_orders(rng, form):
     """Some with all lengths for their order, and some with those for 2, 4 and 0. For some the lowest byte is
     an order that would be accepted, and for some the length of a sheet is small as a word."""
     for n in (0, 1, 3, 5, 33, 34):
-        codes, matrix = some_codes(rng, n), some_matrix(rng, n, mixed)
+        codes, matrix = form.codes(rng, n), some_matrix(rng, n, mixed)
         yield 1, whole_writing(n, 1, codes, matrix)
     others = [31, 36, 255, 256, 258, 260, 1 << 16, 1 << 32, (1 << 32) + 2, 1 << 62, 1 << 63, (1 << 63) + 2]
     for n in others + [LAST - 3, LAST - 1, LAST]:
         for m in (2, 4):
-            codes, matrix = some_codes(rng, m), some_matrix(rng, m, mixed)
-            yield 1, Writing(n, rng.randint(0, 16), codes, matrix, length(m))
-        yield 1, Writing(n, 1, b"", [], min(length(n) % (LAST + 1), 40))
+            codes, matrix = form.codes(rng, m), some_matrix(rng, m, mixed)
+            yield 1, Writing(n, rng.randint(0, 16), codes, matrix, length(m, form.width))
+        yield 1, Writing(n, 1, [], [], min(length(n, form.width) % (LAST + 1), 40))
 
 
-def refused_numbers_of_sweeps(rng):
+def refused_numbers_of_sweeps(rng, form):
     for sweeps in [17, 18, 32, 255, 256, 257, 272, 1 << 32, (1 << 32) + 1, 1 << 63, LAST - 15, LAST]:
         for n in (2, 4):
-            yield 2, whole_writing(n, sweeps, some_codes(rng, n), some_matrix(rng, n, mixed))
+            yield 2, whole_writing(n, sweeps, form.codes(rng, n), some_matrix(rng, n, mixed))
 
 
-def refused_lengths(rng):
+def refused_lengths(rng, form):
     """Codes and matrices too short, too long and empty, one or both."""
     for n in (2, 4, 8):
         wrong_codes = [(size, n * n) for size in (n - 1, n + 1, 0)]
         wrong_matrix = [(n, size) for size in (n * n - 1, n * n + 1, 0, n * (n + 1) // 2)]
         both = [(0, 0), (n + 1, n * n - 1), (n - 1, n * n + 1), (n + 2, (n + 2) ** 2), (n - 1, (n - 1) ** 2)]
         for codes_size, matrix_size in wrong_codes + wrong_matrix + both:
-            codes, matrix = some_codes(rng, n + 2), some_matrix(rng, n + 2, mixed)
-            yield 3, Writing(n, 1, codes[:codes_size], matrix[:matrix_size], length(n))
-    yield 3, Writing(32, 16, some_codes(rng, 33), some_matrix(rng, 32, mixed), length(32))
+            codes, matrix = form.codes(rng, n + 2), some_matrix(rng, n + 2, mixed)
+            yield 3, Writing(n, 1, codes[:codes_size], matrix[:matrix_size], length(n, form.width))
+    yield 3, Writing(32, 16, form.codes(rng, 33), some_matrix(rng, 32, mixed), length(32, form.width))
 
 
-def writings_of_bad_codes(rng):
-    for codes in bad_codes(rng):
+def writings_of_bad_codes(rng, form):
+    for codes in bad_codes(rng, form):
         n = len(codes)
         yield 4, whole_writing(n, rng.randint(0, 16), codes, some_matrix(rng, n, mixed))
 
 
-def refused_matrices(rng):
+def refused_matrices(rng, form):
     """Those of plain_vectors.py with entries that are not finite, and with entries that are not mirrored."""
     for number, group in [(5, plain.refused_values), (6, plain.refused_mirrors)]:
         for run in group(rng):
-            yield number, whole_writing(run.n, run.sweeps, some_codes(rng, run.n), run.matrix)
+            yield number, whole_writing(run.n, run.sweeps, form.codes(rng, run.n), run.matrix)
 
 
-def refused_sheets(rng):
+def refused_sheets(rng, form):
     """Every length near that for order 2, and some for other orders."""
     for size in range(45):
-        case = whole_writing(2, rng.randint(0, 16), some_codes(rng, 2), some_matrix(rng, 2, mixed))
-        yield 7 if size < 28 else None, case._replace(sheet_size=size)
+        case = whole_writing(2, rng.randint(0, 16), form.codes(rng, 2), some_matrix(rng, 2, mixed))
+        yield 7 if size < length(2, form.width) else None, case._replace(sheet_size=size)
     for n in (4, 8):
-        for size in (0, 1, 2, 2 + n, length(n) - 8 * n, length(n) - 8, length(n) - 1):
-            case = whole_writing(n, rng.randint(0, 16), some_codes(rng, n), some_matrix(rng, n, mixed))
+        whole = length(n, form.width)
+        for size in (0, 1, 2, 2 + form.width * n, whole - 8 * n, whole - 8, whole - 1):
+            case = whole_writing(n, rng.randint(0, 16), form.codes(rng, n), some_matrix(rng, n, mixed))
             yield 7, case._replace(sheet_size=size)
-    case = whole_writing(32, 16, some_codes(rng, 32), some_matrix(rng, 32, mixed))
-    for size in (length(32) - 1, MOST_BYTES):
-        yield 7 if size < length(32) else None, case._replace(sheet_size=size)
+    case = whole_writing(32, 16, form.codes(rng, 32), some_matrix(rng, 32, mixed))
+    for size in (length(32, form.width) - 1, form.most):
+        yield 7 if size < length(32, form.width) else None, case._replace(sheet_size=size)
 
 
-def faulty_writing(rng, numbers):
+def faulty_writing(rng, form, numbers):
     """A writing of order 4 with each of these reasons to be refused, at random places."""
-    n, sweeps, codes, matrix = 4, rng.randint(0, 16), some_codes(rng, 4), some_matrix(rng, 4, mixed)
-    sheet_size = length(4) + rng.choice((0, 0, 3))
+    n, sweeps, codes, matrix = 4, rng.randint(0, 16), form.codes(rng, 4), some_matrix(rng, 4, mixed)
+    whole = length(4, form.width)
+    sheet_size = whole + rng.choice((0, 0, 3))
     i, j = rng.sample(range(4), 2)
     if 6 in numbers:
         matrix[4 * i + j] = matrix[4 * j + i] ^ 1 << rng.choice((0, 31, 51, 63))
@@ -517,23 +610,24 @@ def faulty_writing(rng, numbers):
     if 3 in numbers:
         lengths = [(4, 15), (4, 17), (3, 16), (5, 16), (4, 0), (0, 16)]
         codes_size, matrix_size = rng.choice(lengths)
-        codes, matrix = (codes + rng.randbytes(1))[:codes_size], (matrix + [ONE])[:matrix_size]
+        codes, matrix = (codes + [*rng.randbytes(1)])[:codes_size], (matrix + [ONE])[:matrix_size]
     if 2 in numbers:
         sweeps = rng.choice((17, 256, LAST, rng.randint(18, LAST)))
     if 1 in numbers:
         n = rng.choice((0, 3, 5, 34, 260, LAST, LAST - 1, rng.randint(33, LAST)))
     if 7 in numbers:
-        sheet_size = rng.choice((0, 1, 2, length(4) - 1, rng.randrange(length(4))))
+        sheet_size = rng.choice((0, 1, 2, whole - 1, rng.randrange(whole)))
     return Writing(n, sweeps, codes, matrix, sheet_size)
 
 
-def writings_with_several(rng):
+def writings_with_several(rng, form):
     """Every set of reasons, of which the least number counts."""
     for numbers in sets_of(range(1, 8)) * 2:
-        yield min(numbers), faulty_writing(rng, numbers)
+        yield min(numbers), faulty_writing(rng, form, numbers)
 
 
-def writings(rng):
+def writings(rng, form, codes):
+    """The writings of a form, and first that of the example with these codes."""
     groups = [
         good_writings,
         refused_orders,
@@ -544,12 +638,115 @@ def writings(rng):
         refused_sheets,
         writings_with_several,
     ]
-    cases = [whole_writing(2, 1, bytes([7, 9]), [ONE] * 4)]
-    for group in groups:
-        for number, case in group(rng):
-            assert write(case).number == number, case
-            cases.append(case)
-    return cases
+    return [whole_writing(2, 1, codes, [ONE] * 4), *held(write, groups, rng, form)]
+
+
+# What only two forms bring about. All come with the number of their refusal, or with None.
+
+CODE_EDGES = [1, 254, 255, 256, 257, 511, 512, 0x7FFF, 0x8000, 0xFEFF, 0xFF00, 0xFFFE, 0xFFFF]
+
+
+def beside(rng, n, k, code):
+    """Small codes, none of them 255, with this one at k."""
+    codes = rng.sample(range(1, 255), n)
+    return codes[:k] + [code] + codes[k + 1 :]
+
+
+def edge_codes(rng):
+    """Two codes from both sides of each edge, and one code at the edge beside small ones."""
+    yield from map(list, itertools.permutations(CODE_EDGES, 2))
+    for n in (2, 4, 8):
+        for k in range(n):
+            for code in (255, 256, 65535):
+                yield beside(rng, n, k, code)
+    yield beside(rng, 32, 0, 256)
+    yield beside(rng, 32, 31, 256)
+    yield beside(rng, 32, 31, 255)
+
+
+def edge_readings(rng):
+    """Each of them in the long form, and in the short one where they fit."""
+    for codes in edge_codes(rng):
+        entries = [mixed(rng) for _ in stored_places(len(codes))]
+        sheet = put_together(2, rng.randint(0, 16), codes, entries)
+        yield 4 if width_for(codes) == 1 else None, whole_reading(sheet)
+        if width_for(codes) == 1:
+            yield None, whole_reading(put_together(1, sheet[1], codes, entries))
+
+
+def long_without_need(rng):
+    """All codes small in the long form: alone, with a zero, with a repeat, with an entry that is not finite;
+    and with what is tested before the codes."""
+    for n in (2, 4, 6, 8, 16, 32):
+        codes = short_codes(rng, n)
+        sheet = put_together(2, rng.randint(0, 16), codes, [mixed(rng) for _ in stored_places(n)])
+        spoiled = with_entries(sheet, {rng.choice(stored_places(n)): rng.choice(NOT_FINITE)})
+        yield 4, whole_reading(sheet)
+        yield 4, whole_reading(with_codes(sheet, zero_at(codes, rng.randrange(n))))
+        yield 4, whole_reading(with_codes(sheet, repeated(codes, 0, n - 1)))
+        yield 4, whole_reading(with_codes(sheet, [255] * n))
+        yield 4, whole_reading(spoiled)
+        yield 3, whole_reading(spoiled[:-1])
+        yield 3, whole_reading(spoiled)._replace(codes_size=n + 1)
+        yield 3, whole_reading(spoiled)._replace(matrix_size=n * n - 1)
+        yield 2, whole_reading(spoiled[:1] + bytes([17]) + spoiled[2:])
+        yield 1, whole_reading(bytes([128 + n + 1]) + spoiled[1:])
+
+
+def other_forms(rng):
+    """The first byte of the other form, with the length that it had and with the one that it should have; and
+    codes cut in the middle."""
+    for n in (2, 4, 8, 16, 32):
+        short, long = (some_sheet(rng, form, n, 1, mixed) for form in (SHORT, LONG))
+        yield 3, whole_reading(bytes([128 + n]) + short[1:])
+        yield 3, whole_reading(bytes([n]) + long[1:])
+        yield 3, whole_reading(long[: length(n, 1)])
+        yield 3, whole_reading(short + bytes(n))
+        yield 3, whole_reading(long[: 2 + 2 * n] + long[2 + 3 * n :])
+        yield 3, whole_reading(long)._replace(codes_size=min(2 * n, MOST_CODES))
+    long = some_sheet(rng, LONG, 4, 1, mixed)
+    for size in range(2, 11):
+        yield 3, whole_reading(long[:size])
+
+
+def wrong_long_orders(rng):
+    """Orders that are refused, with all lengths for them where they are not too long, or with some."""
+    for n in (0, 1, 3, 5, 31, 33, 34):
+        yield 1, whole_reading(bytes([128 + n, 1]) + rng.randbytes(length(n, 2) - 2))
+    for n in (0, 3, 36, 64, 126, 127):
+        for size in (2, 30, 90):
+            yield 1, Reading(bytes([128 + n, 17]) + rng.randbytes(size - 2), 2, 4)
+
+
+def edge_writings(rng):
+    """Codes at the edges, with the exact length and a longer one."""
+    for k, codes in enumerate(edge_codes(rng)):
+        n = len(codes)
+        case = whole_writing(n, rng.randint(0, 16), codes, some_matrix(rng, n, mixed))
+        yield None, case._replace(sheet_size=case.sheet_size + (0, 0, 1, n)[k % 4])
+
+
+def rooms_for_either(rng):
+    """Lent sheets that are long enough for one form, for both or for none."""
+    case = whole_writing(32, 16, long_codes(rng, 32), some_matrix(rng, 32, mixed))
+    for size in (length(32, 1), length(32, 2)):
+        yield 7 if size < length(32, 2) else None, case._replace(sheet_size=size)
+    for n in (2, 4, 8):
+        short, long = length(n, 1), length(n, 2)
+        edges = beside(rng, n, n - 1, 256), beside(rng, n, 0, 255)
+        for codes in (short_codes(rng, n), long_codes(rng, n), *edges):
+            case = whole_writing(n, rng.randint(0, 16), codes, some_matrix(rng, n, mixed))
+            for size in (short - 1, short, short + 1, long - 1, long, long + 1, long + 9):
+                number = 7 if size < length(n, width_for(codes)) else None
+                yield number, case._replace(sheet_size=size)
+
+
+def marked_orders(rng):
+    """Writings whose order is the first byte of a long sheet."""
+    for n in (0, 2, 4, 16, 32, 127):
+        m = min(n, 32)
+        for codes in (short_codes(rng, m), long_codes(rng, m)):
+            yield 1, Writing(128 + n, 1, codes, some_matrix(rng, m, mixed), length(m, 2))
 
 
 # What is checked before anything is written.
@@ -569,7 +766,7 @@ def check_writing(case, outcome):
     assert case.sheet_size <= MOST_BYTES
     assert len(case.codes) <= MOST_CODES and len(case.matrix) <= MOST_VALUES
     if outcome.number is None:
-        assert len(outcome.sheet) == length(case.n)
+        assert len(outcome.sheet) == length(case.n, width_for(case.codes))
         again = read(whole_reading(outcome.sheet))
         assert again == Outcome(n=case.n, sweeps=case.sweeps, codes=case.codes, matrix=case.matrix), case
 
@@ -581,9 +778,8 @@ def check_variety(accepted, numbers, last):
     assert set(numbers) == {None, *range(1, last + 1)}
 
 
-def checked_readings(rng):
-    """The readings with their outcomes."""
-    made = [(case, read(case)) for case in readings(rng)]
+def checked_readings(made):
+    """Checks readings of a form, and tells of them."""
     for case, outcome in made:
         check_reading(case, outcome)
     numbers = [outcome.number for _, outcome in made]
@@ -593,9 +789,8 @@ def checked_readings(rng):
     return made
 
 
-def checked_writings(rng):
-    """The writings with their outcomes."""
-    made = [(case, write(case)) for case in writings(rng)]
+def checked_writings(made):
+    """Checks writings of a form, and tells of them."""
     for case, outcome in made:
         check_writing(case, outcome)
     numbers = [outcome.number for _, outcome in made]
@@ -629,45 +824,74 @@ def refusal_lines(outcome):
     return lines
 
 
-def reading_lines(case, outcome, byte, pattern):
+def reading_lines(case, outcome, code, pattern):
     """The lines of a reading and of its answer, for codes and a matrix that are filled so."""
-    words = [READ, len(case.sheet), case.codes_size, case.matrix_size, byte, pattern, *packed(case.sheet)]
+    words = [READ, len(case.sheet), case.codes_size, case.matrix_size, code, pattern, *packed(case.sheet)]
     answer = refusal_lines(outcome)
-    codes, matrix = bytes([byte] * case.codes_size), [pattern] * case.matrix_size
+    codes, matrix = [code] * case.codes_size, [pattern] * case.matrix_size
     if outcome.number is None:
         answer = plain.lines_of([outcome.n, outcome.sweeps])
         codes, matrix = outcome.codes, outcome.matrix
-    return plain.lines_of(words), answer + plain.lines_of(packed(codes) + matrix)
+    return plain.lines_of(words), answer + plain.lines_of(codes + matrix)
 
 
 def writing_lines(case, outcome, byte):
     """The lines of a writing and of its answer, for a sheet that is filled so."""
     sizes = [len(case.codes), len(case.matrix), case.sheet_size]
-    words = [WRITE, case.n, case.sweeps, *sizes, byte, *packed(case.codes), *case.matrix]
+    words = [WRITE, case.n, case.sweeps, *sizes, byte, *case.codes, *case.matrix]
+    answer = refusal_lines(outcome)
     written = outcome.sheet or b""
+    if outcome.number is None:
+        answer = plain.lines_of([len(written)])
     sheet = written + bytes([byte] * (case.sheet_size - len(written)))
-    return plain.lines_of(words), refusal_lines(outcome) + plain.lines_of(packed(sheet))
+    return plain.lines_of(words), answer + plain.lines_of(packed(sheet))
 
 
 def fills(rng):
-    """What lent buffers are filled with: a byte and a pattern, now and then a zero or not finite."""
+    """What lent buffers are filled with: a number and a pattern, now and then a zero or not finite."""
     others = itertools.cycle([INFINITY, NAN, SIGN + INFINITY, ZERO, SIGN])
     for k, pattern in enumerate(plain.finite_patterns(rng)):
-        yield k % 256, next(others) if k % 5 == 0 else pattern
+        yield k, next(others) if k % 5 == 0 else pattern
 
 
-def all_lines(rng):
-    """The lines of each case and of its answer."""
-    fill = fills(rng)
-    lines = [reading_lines(*made, *next(fill)) for made in checked_readings(rng)]
-    lines += [writing_lines(*made, next(fill)[0]) for made in checked_writings(rng)]
+def lines_of_readings(cases, form, fill):
+    """The lines of each reading and of its answer. The codes that are lent are filled with what fits the form."""
+    lines = []
+    for case, outcome in checked_readings([(case, read(case)) for case in cases]):
+        k, pattern = next(fill)
+        lines.append(reading_lines(case, outcome, 257 * k % 256**form.width, pattern))
     return lines
+
+
+def lines_of_writings(cases, fill):
+    """The lines of each writing and of its answer."""
+    made = checked_writings([(case, write(case)) for case in cases])
+    return [writing_lines(*one, next(fill)[0] % 256) for one in made]
+
+
+def short_lines(rng):
+    """The lines of all cases of the short form."""
+    fill = fills(rng)
+    lines = lines_of_readings(readings(rng, SHORT, EXAMPLE), SHORT, fill)
+    return lines + lines_of_writings(writings(rng, SHORT, [7, 9]), fill)
+
+
+def long_lines(rng):
+    """The lines of all cases of the long form and of both."""
+    fill = fills(rng)
+    groups = [edge_readings, long_without_need, other_forms, wrong_long_orders]
+    cases = readings(rng, LONG, LONG_EXAMPLE) + held(read, groups, rng)
+    lines = lines_of_readings(cases, LONG, fill)
+    groups = [edge_writings, rooms_for_either, marked_orders]
+    cases = writings(rng, LONG, [300, 7]) + held(write, groups, rng)
+    return lines + lines_of_writings(cases, fill)
 
 
 def main():
     argparse.ArgumentParser(description=__doc__.split("\n\n")[0], epilog="It takes no arguments.").parse_args()
     check_examples()
-    made = all_lines(random.Random(1981))
+    check_long_examples()
+    made = short_lines(random.Random(1981)) + long_lines(random.Random(65535))
     crate = pathlib.Path(__file__).resolve().parent.parent / "crates" / "test_sheets"
     crate.mkdir(exist_ok=True)
     for name, side in [("stdin", 0), ("stdout", 1)]:

@@ -4,7 +4,7 @@ use weimrukas::{Array, Refusal};
 
 const N: usize = 4;
 const SWEEPS: usize = 8;
-const CODES: [u8; N] = [7, 19, 42, 201];
+const CODES: [u16; N] = [7, 19, 42, 201];
 
 type Matrix = [f64; N * N];
 
@@ -61,19 +61,21 @@ fn run_by_hand(result: &Matrix) -> Result<(), Refusal> {
     Ok(())
 }
 
+/// A sheet of either form fits into the lent bytes.
 fn use_sheet() -> Result<(), Refusal> {
     let (mut sheet, mut text) = (
-        [0; weimrukas::sheet_length(N)],
+        [0; weimrukas::long_sheet_length(N)],
         [0; weimrukas::text_length(N)],
     );
     let (mut codes, mut matrix) = ([0; N], [0.0; N * N]);
-    weimrukas::write_sheet(N, SWEEPS, &CODES, &MATRIX, &mut sheet)?;
-    let (n, sweeps) = weimrukas::read_sheet(&sheet, &mut codes, &mut matrix)?;
-    print!("sheet of {} bytes: ", sheet.len());
+    let written = weimrukas::write_sheet(N, SWEEPS, &CODES, &MATRIX, &mut sheet)?;
+    let sheet = &sheet[..written];
+    let (n, sweeps) = weimrukas::read_sheet(sheet, &mut codes, &mut matrix)?;
+    print!("sheet of {written} bytes: ");
     println!("order {n}, {sweeps} sweeps, first code {}", codes[0]);
-    let length = weimrukas::list(&sheet, &mut text)?;
-    let print = String::from_utf8_lossy(&text[..length]);
+    let printed = weimrukas::list(sheet, &mut text)?;
+    let print = String::from_utf8_lossy(&text[..printed]);
     let first = print.lines().next().unwrap_or_default();
-    println!("listing of {length} bytes: {first}");
+    println!("listing of {printed} bytes: {first}");
     Ok(())
 }

@@ -67,7 +67,7 @@ extern "C" {
     fn weimrukas_read_sheet(
         sheet: *const u8,
         sheet_length: usize,
-        codes: *mut u8,
+        codes: *mut u16,
         codes_length: usize,
         matrix: *mut f64,
         matrix_length: usize,
@@ -79,12 +79,13 @@ extern "C" {
     fn weimrukas_write_sheet(
         n: usize,
         sweeps: usize,
-        codes: *const u8,
+        codes: *const u16,
         codes_length: usize,
         matrix: *const f64,
         matrix_length: usize,
         sheet: *mut u8,
         sheet_length: usize,
+        written: *mut usize,
         row: *mut usize,
         column: *mut usize,
     ) -> u8;
@@ -93,7 +94,7 @@ extern "C" {
         sheet_length: usize,
         text: *mut u8,
         text_length: usize,
-        length: *mut usize,
+        printed: *mut usize,
         row: *mut usize,
         column: *mut usize,
     ) -> u8;
@@ -204,7 +205,7 @@ pub fn array_run(
 
 pub fn read_sheet(
     sheet: &[u8],
-    codes: &mut [u8],
+    codes: &mut [u16],
     matrix: &mut [f64],
     n: &mut usize,
     sweeps: &mut usize,
@@ -229,9 +230,10 @@ pub fn read_sheet(
 pub fn write_sheet(
     n: usize,
     sweeps: usize,
-    codes: &[u8],
+    codes: &[u16],
     matrix: &[f64],
     sheet: &mut [u8],
+    written: &mut usize,
     place: &mut Place,
 ) -> u8 {
     unsafe {
@@ -244,20 +246,21 @@ pub fn write_sheet(
             matrix.len(),
             sheet.as_mut_ptr(),
             sheet.len(),
+            written,
             &mut place.row,
             &mut place.column,
         )
     }
 }
 
-pub fn list(sheet: &[u8], text: &mut [u8], length: &mut usize, place: &mut Place) -> u8 {
+pub fn list(sheet: &[u8], text: &mut [u8], printed: &mut usize, place: &mut Place) -> u8 {
     unsafe {
         weimrukas_list(
             sheet.as_ptr(),
             sheet.len(),
             text.as_mut_ptr(),
             text.len(),
-            length,
+            printed,
             &mut place.row,
             &mut place.column,
         )

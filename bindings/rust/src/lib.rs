@@ -22,8 +22,8 @@ use calls::Place;
 pub use array::Array;
 pub use refusal::Refusal;
 pub use sizes::{
-    sheet_length, text_length, tile, ARRAY_WORDS, MOST_LINES, MOST_PROCESSORS, MOST_SWEEPS,
-    TILE_WORDS,
+    long_sheet_length, sheet_length, text_length, tile, ARRAY_WORDS, MOST_LINES, MOST_PROCESSORS,
+    MOST_SWEEPS, TILE_WORDS,
 };
 
 /// The parameters of a pair.
@@ -96,10 +96,11 @@ pub fn array_run(
     answer(number, place, ticks)
 }
 
-/// Reads a sheet into lent codes and a lent matrix, and answers the order and the sweeps.
+/// Reads a sheet into lent codes and a lent matrix, and answers the order and the sweeps. The order is the first byte
+/// modulo 128.
 pub fn read_sheet(
     sheet: &[u8],
-    codes: &mut [u8],
+    codes: &mut [u16],
     matrix: &mut [f64],
 ) -> Result<(usize, usize), Refusal> {
     let (mut n, mut sweeps, mut place) = (0, 0, Place::default());
@@ -107,24 +108,25 @@ pub fn read_sheet(
     answer(number, place, (n, sweeps))
 }
 
-/// Writes a sheet into lent bytes.
+/// Writes a sheet into lent bytes, and answers how many it has: `long_sheet_length(n)` where a code is above 255, and
+/// `sheet_length(n)` elsewhere.
 pub fn write_sheet(
     n: usize,
     sweeps: usize,
-    codes: &[u8],
+    codes: &[u16],
     matrix: &[f64],
     sheet: &mut [u8],
-) -> Result<(), Refusal> {
-    let mut place = Place::default();
-    let number = calls::write_sheet(n, sweeps, codes, matrix, sheet, &mut place);
-    answer(number, place, ())
+) -> Result<usize, Refusal> {
+    let (mut written, mut place) = (0, Place::default());
+    let number = calls::write_sheet(n, sweeps, codes, matrix, sheet, &mut written, &mut place);
+    answer(number, place, written)
 }
 
 /// Puts the printed sheet into a lent text, and answers how many bytes it has.
 pub fn list(sheet: &[u8], text: &mut [u8]) -> Result<usize, Refusal> {
-    let (mut length, mut place) = (0, Place::default());
-    let number = calls::list(sheet, text, &mut length, &mut place);
-    answer(number, place, length)
+    let (mut printed, mut place) = (0, Place::default());
+    let number = calls::list(sheet, text, &mut printed, &mut place);
+    answer(number, place, printed)
 }
 
 /// An answer by its number. Only 5 and 6 have a place.

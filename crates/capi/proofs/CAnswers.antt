@@ -16,13 +16,15 @@ use Rattle.step_records.specs.Records.{recordOf}
 use Rattle.sheet_reader.specs.declared.Reading.{Reading}
 use Rattle.sheet_reader.specs.declared.Reading.the-variants as reading
 use Rattle.sheet_reader.specs.Reader.{ReadOutcome, readOutcome, readingAnswered}
-use Rattle.sheet_writer.specs.Writer.{WriteOutcome, writeOutcome}
+use Rattle.sheet_writer.specs.declared.Writing.{Writing}
+use Rattle.sheet_writer.specs.declared.Writing.the-variants as writing
+use Rattle.sheet_writer.specs.Writer.{WriteOutcome, writeOutcome, writingAnswered}
 use Rattle.listing_text.specs.Printed.{printing}
 use Rattle.listing.specs.Listing.{ListingOutcome, listed}
 use Rattle.array_run.specs.declared.Completion.{Completion}
 use Rattle.array_run.specs.declared.Completion.the-variants.{Completed, Refused}
 use Rattle.array_run.specs.Whole.{completionAnswered}
-use Rattle.capi.specs.CAnswers.{placeOr, CAnswer, cAnswer, placeOr, refusedAs, cAnswerOf, numberAnswered}
+use Rattle.capi.specs.CAnswers.{CAnswer, cAnswer, placeOr, refusedAs, cAnswerOf, numberAnswered}
 use Rattle.capi.specs.Calls.{ofRoot, turns, ofParameters, ofRun, ofWhole, ofReading, ofWriting, ofListing}
 
 -- ---- the lent row and column
@@ -69,9 +71,16 @@ module _ (i j : ℕ) where
     unfolding ofReading cAnswerOf
     read-refused r o z h k = rw k (ap (λ (y : ReadOutcome). ofReading y n sweeps i j) (rw z at h))
 
-  pub write-said : {b : List ℕ} {s : CAnswer} {a : Answered Unit} (o : WriteOutcome) → writeOutcome a b ≡ o → s ≡ cAnswerOf a i j → (s, b) ≡ ofWriting o i j
-  unfolding ofWriting
-  write-said o h k = rw k (ap (λ (x : WriteOutcome). ofWriting x i j) h)
+  module _ {b : List ℕ} (written : ℕ) (x : Writing) where
+    pub write-given : (count : ℕ) (o : WriteOutcome) → x ≡ writing.Written count → writeOutcome (writingAnswered x) b ≡ o
+        → (cAnswer 0 i j, count, b) ≡ ofWriting o written i j
+    unfolding ofWriting cAnswerOf
+    write-given count o z h = ap (λ (y : WriteOutcome). ofWriting y written i j) (rw z at h)
+
+    pub write-refused : {s : CAnswer} (r : Refusal) (o : WriteOutcome) → x ≡ writing.Refused r → writeOutcome (writingAnswered x) b ≡ o
+        → s ≡ refusedAs (numberOf r) (valuesOf r) i j → (s, written, b) ≡ ofWriting o written i j
+    unfolding ofWriting cAnswerOf
+    write-refused r o z h k = rw k (ap (λ (y : WriteOutcome). ofWriting y written i j) (rw z at h))
 
   pub list-said : {count : ℕ} {b : List ℕ} {s : CAnswer} {a : Answered Unit} (o : ListingOutcome) → listed a (printing count b) ≡ o → s ≡ cAnswerOf a i j
       → (s, count, b) ≡ ofListing o i j

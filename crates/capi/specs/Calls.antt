@@ -73,12 +73,12 @@ ofRun o i j = (cAnswerOf (o .answer) i j, o .result, o .vectors)
 unfoldable pub ofWhole : Outcome ℕ → ℕ → ℕ → ℕ → CAnswer × ℕ × List Float × List Float
 ofWhole o ticks i j = (cAnswerOf (o .answer) i j, valueOr (o .answer) ticks, o .result, o .vectors)
 
--- ---- a sheet: the order and the sweeps, the codes and the matrix; the bytes
+-- ---- a sheet: the order and the sweeps, the codes and the matrix; how many bytes are written, and the bytes
 unfoldable pub ofReading : ReadOutcome → ℕ → ℕ → ℕ → ℕ → CAnswer × (ℕ × ℕ) × List ℕ × List Float
 ofReading o n sweeps i j = (cAnswerOf (o .answer) i j, valueOr (o .answer) (n, sweeps), o .codes, o .matrix)
 
-unfoldable pub ofWriting : WriteOutcome → ℕ → ℕ → CAnswer × List ℕ
-ofWriting o i j = (cAnswerOf (o .answer) i j, o .bytes)
+unfoldable pub ofWriting : WriteOutcome → ℕ → ℕ → ℕ → CAnswer × ℕ × List ℕ
+ofWriting o written i j = (cAnswerOf (o .answer) i j, valueOr (o .answer) written, o .bytes)
 
 -- ---- a listing: how many bytes are printed, and the text
 unfoldable pub ofListing : ListingOutcome → ℕ → ℕ → CAnswer × ℕ × List ℕ

@@ -8,15 +8,15 @@ ghost use Rattle.capi.specs.Calls.{ofListing};
 pub extern "C" fn weimrukas_list(
     sheet: &[u8],
     text: &mut [u8],
-    length: &mut usize,
+    printed: &mut usize,
     row: &mut usize,
     column: &mut usize,
 ) -> u8
-    ensures { λ r. ⌜ (cAnswer r (now (row .exit)) (now (column .exit)), now (length .exit), now (text .exit))
+    ensures { λ r. ⌜ (cAnswer r (now (row .exit)) (now (column .exit)), now (printed .exit), now (text .exit))
         ≡ ofListing (listOf (now (sheet .entry)) (now (text .entry))) (now (row .entry)) (now (column .entry)) ⌝ }
 {
     let listed = listing::list(sheet, text);
-    *length = listed.count;
+    *printed = listed.count;
     let answer = listed.answer;
     crate::answers::number_of(answer, row, column)
 }

@@ -30,7 +30,7 @@ use Rattle.listing_text.proofs.PrintedTexts.{all-printed}
 use Rattle.listing.specs.Listing.{listed, listedUnless, listOf}
 use Rattle.refusal.proofs.RefusedOutcomes.{giving-given}
 use Rattle.claims.specs.Examples.{values}
-use Rattle.claims.specs.Listings.{exampleSheet}
+use Rattle.claims.specs.Listings.{exampleSheet, longSheet}
 use Rattle.float64.specs.Values.{finite}
 use Rattle.root.specs.Sqrt.{sqrtOf}
 use Rattle.lists.specs.Tabulate.{tabulate}
@@ -49,13 +49,13 @@ use Rattle.runs.specs.State.{identity, startOf}
 use Rattle.plain_run.specs.State.{pairsRotated, after, notFinite, spoiled}
 use Rattle.runs.specs.Outcome.{beforeRun, outcome}
 use Rattle.plain_run.specs.Run.{ranOf}
-use Rattle.sheet.specs.Format.{wordFrom, entryNumber, entriesTo}
-use Rattle.sheet.specs.Codes.{badCodes, badCode}
-use Rattle.sheet_reader.specs.Reader.{storedRow, notFiniteIn}
+use Rattle.sheet.specs.Format.{wordFrom, entryNumber, entriesTo, widthIn, codeIn}
+use Rattle.sheet.specs.Codes.{badCodes, badCode, longCodes}
+use Rattle.sheet_reader.specs.Reader.{longInVain, storedRow, notFiniteIn}
 use Rattle.listing_text.specs.Printed.{valueField, columnOf}
 use Rattle.text.specs.Text.{decimalOf, shownFrom, hexOf}
-use Rattle.claims.specs.Listings.{runIn, ListingAnswers, ListingLeaves, codesPrinted, sheetPrinted, RefusalPrints}
-use Rattle.claims.specs.Listings.{ExamplePrinted, ListingsAsStated}
+use Rattle.claims.specs.Listings.{runIn, ListingAnswers, ListingLeaves, codesPrinted, sheetPrinted, listedAs, RefusalPrints}
+use Rattle.claims.specs.Listings.{examplePrint, ExamplesPrinted, ListingsAsStated}
 
 by-answer : (a : Answered Unit) (p : Printing) (t : List ℕ) → unlessRefused a (listed (given tt) p) (λ (x : Answered Unit). listed x (printing 0 t)) .answer ≡ a
 by-answer (given tt) p t = refl
@@ -137,33 +137,41 @@ module _ (b : List ℕ) where
         (all-printed n (sweepsIn b) ticks (codesIn b) (runIn b .result) (runIn b .vectors) t (w .order) few fewer (codes-count b) result-long
         vectors-long room)
 
-    printed : listOf b t
-        ≡ record {
-          answer = given tt;
-          count = length (sheetPrinted b ticks);
-          bytes = sheetPrinted b ticks ++ drop (length (sheetPrinted b ticks)) t;
-        }
+    printed : listOf b t ≡ listedAs (sheetPrinted b ticks) t
     unfolding listOf listedUnless
     printed = rw (accepted, le-ltb (length t) (roomFor n) room, ran) (ap (listed (given tt)) printer)
 
--- ---- document 01's example
-example-ran : runIn exampleSheet
-    ≡ outcome (given 4) (values (0 ∷ 0 ∷ 0 ∷ 0x4000_0000_0000_0000 ∷ []))
+-- ---- document 01's example, and the same with long codes
+abbrev exampleOutcome : Outcome ℕ
+exampleOutcome =
+    outcome (given 4) (values (0 ∷ 0 ∷ 0 ∷ 0x4000_0000_0000_0000 ∷ []))
     (values (0x3fe6_a09e_667f_3bcc ∷ 0x3fe6_a09e_667f_3bcc ∷ 0xbfe6_a09e_667f_3bcc ∷ 0x3fe6_a09e_667f_3bcc ∷ []))
+
+example-ran : runIn exampleSheet ≡ exampleOutcome
 unfolding sqrtOf ofBits toBits finite tabulate any slot cameFrom intoLast prior lineAt inOrderAt inOrder column registersOf registersAt isOrder at
     flat first notFiniteAt notMirroredAt finiteRow mirrorRow turnedAt rowTurn columnTurn columnTurnAll ofAngle ofTangent tangentOfPair tangentOf
     cosineOf quotient signum rootOf ofPair identity place pairBlock matrixBlock pairTurned pairRotated pairsRotated after notFinite spoiled
-    beforeRun startOf ranOf runOf zeros patternIn entryIn codesIn wordFrom entryNumber entriesTo sheetAnswer badCodes badCode storedRow
-    notFiniteIn codesPrinted valueField columnOf decimalOf shownFrom hexOf add sub mul div lt neg
+    beforeRun startOf ranOf runOf zeros patternIn entryIn widthIn orderIn wordFrom entryNumber entriesTo add sub mul div lt neg
 example-ran = agrees exampleSheet ∙ refl
 
-example : ExamplePrinted
-unfolding sqrtOf ofBits toBits finite tabulate any slot cameFrom intoLast prior lineAt inOrderAt inOrder column registersOf registersAt isOrder at
-    flat first notFiniteAt notMirroredAt finiteRow mirrorRow turnedAt rowTurn columnTurn columnTurnAll ofAngle ofTangent tangentOfPair tangentOf
-    cosineOf quotient signum rootOf ofPair identity place pairBlock matrixBlock pairTurned pairRotated pairsRotated after notFinite spoiled
-    beforeRun startOf ranOf runOf zeros patternIn entryIn codesIn wordFrom entryNumber entriesTo sheetAnswer badCodes badCode storedRow
-    notFiniteIn codesPrinted valueField columnOf decimalOf shownFrom hexOf add sub mul div lt neg
-example t room = printed exampleSheet t 4 refl (ap (λ (o : Outcome ℕ). o .answer) example-ran) room ∙ rw example-ran
+-- the same matrix
+long-ran : runIn longSheet ≡ exampleOutcome
+unfolding ofBits tabulate flat patternIn entryIn widthIn orderIn wordFrom entryNumber entriesTo
+long-ran = example-ran
+
+module _ (t : List ℕ) (room : roomFor 2 ≤ length t) where
+  short-printed : listOf exampleSheet t ≡ listedAs (examplePrint (0x37 ∷ []) (0x39 ∷ [])) t
+  unfolding ofBits toBits finite tabulate any isOrder at flat first zeros patternIn entryIn widthIn orderIn codeIn codesIn wordFrom entryNumber
+      entriesTo sheetAnswer badCodes badCode longCodes longInVain storedRow notFiniteIn codesPrinted valueField columnOf decimalOf shownFrom hexOf
+  short-printed = printed exampleSheet t 4 refl (ap (λ (o : Outcome ℕ). o .answer) example-ran) room ∙ rw example-ran
+
+  long-printed : listOf longSheet t ≡ listedAs (examplePrint (0x33 ∷ 0x30 ∷ 0x30 ∷ []) (0x37 ∷ [])) t
+  unfolding ofBits toBits finite tabulate any isOrder at flat first zeros patternIn entryIn widthIn orderIn codeIn codesIn wordFrom entryNumber
+      entriesTo sheetAnswer badCodes badCode longCodes longInVain storedRow notFiniteIn codesPrinted valueField columnOf decimalOf shownFrom hexOf
+  long-printed = printed longSheet t 4 refl (ap (λ (o : Outcome ℕ). o .answer) long-ran) room ∙ rw long-ran
+
+  examples : ExamplesPrinted t
+  examples = record { short = short-printed; long = long-printed }
 
 -- ---- a refusal
 refusal : RefusalPrints
@@ -171,4 +179,4 @@ unfolding refusalOf
 refusal k t h = rw (le-ltb (length t) 13 h)
 
 pub listings-as-stated : ListingsAsStated
-listings-as-stated = record { answers = answers; leaves = leaves; prints = printed; example = example; refusal-prints = refusal }
+listings-as-stated = record { answers = answers; leaves = leaves; prints = printed; examples = examples; refusal-prints = refusal }

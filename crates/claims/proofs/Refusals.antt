@@ -13,7 +13,7 @@ use Rattle.step_records.proofs.LeftRows.{records-answer, row-kept, row-tail}
 use Rattle.tile_schedule.specs.Answers.{progressOf}
 use Rattle.array.proofs.RefusedRecords.{start-none, tick-back}
 use Rattle.array_agreement.proofs.Agreement.{whole-agrees}
-use Rattle.sheet_reader.specs.Reader.{sheetAnswer, readAnswer}
+use Rattle.sheet_reader.specs.Reader.{longInVain, sheetAnswer, readAnswer}
 use Rattle.sheet_reader.proofs.SheetContents.{read-answers, lent-kept}
 use Rattle.sheet_reader.proofs.Tables.{lent-right}
 use Rattle.sheet_writer.specs.Writer.{writeAnswer}
@@ -52,7 +52,7 @@ runs-leave n sweeps l r v fit = (
 )
 
 pub refused-as-tabled : RefusedAsTabled
-unfolding beforeRun beforeRecords sheetAnswer readAnswer writeAnswer progressOf sizesAnswer
+unfolding beforeRun beforeRecords longInVain sheetAnswer readAnswer writeAnswer progressOf sizesAnswer
 refused-as-tabled =
     record {
       numbers-as-tabled = numbers;

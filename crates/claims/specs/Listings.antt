@@ -1,5 +1,5 @@
--- Document 01, "The printed sheet": what the listing of a sheet answers and leaves in the lent text. Text is a list of
--- ASCII codes. Definitions only.
+-- Document 01, "The printed sheet", and document 02 (i): what the listing of a sheet answers and leaves in the lent
+-- text. Text is a list of ASCII codes. Definitions only.
 use Prim.Native.Nat.{ℕ, zero, suc, _+_, _*_, _≤_}
 use mathlib.Core.Path.{_≡_}
 use mathlib.Core.List.{List, [], _∷_, _++_}
@@ -15,7 +15,7 @@ use Rattle.sheet.specs.Format.{orderIn, sweepsIn, codesIn, entryIn}
 use Rattle.sheet_reader.specs.Reader.{sheetAnswer}
 use Rattle.text.specs.Text.{decimalOf, hexOf, space, newline}
 use Rattle.listing_text.specs.Printed.{valueField, columnOf, roomFor, printing, refusalOf}
-use Rattle.listing.specs.Listing.{listOf}
+use Rattle.listing.specs.Listing.{ListingOutcome, listOf}
 use Rattle.claims.specs.Refusals.{when}
 
 -- The array's run on what the sheet b holds; its results hold zeros before it.
@@ -28,7 +28,7 @@ ListingAnswers =
     (b t : List ℕ)
     → listOf b t .answer ≡ table
     (sheetAnswer b
-    ∷ when (ltb (length t) (15 + orderIn b * (22 + 17 * orderIn b))) 7
+    ∷ when (ltb (length t) (15 + orderIn b * (23 + 17 * orderIn b))) 7
     ∷ giving tt (runIn b .answer)
     ∷ [])
 
@@ -60,6 +60,10 @@ sheetPrinted b ticks =
     let n = orderIn b in
     headPrinted n (sweepsIn b) ticks ++ codesPrinted n (codesIn b) (at n (runIn b .result)) (at n (runIn b .vectors)) n
 
+-- Accepted, with s put into the lent text t, whose rest stays.
+abbrev pub listedAs : List ℕ → List ℕ → ListingOutcome
+listedAs s t = record { answer = given tt; count = length s; bytes = s ++ drop (length s) t }
+
 -- The print of an accepted sheet whose run is not refused, and after it the rest of the lent text.
 abbrev pub ListingPrints : Type 0
 ListingPrints =
@@ -67,36 +71,34 @@ ListingPrints =
     → sheetAnswer b ≡ given tt
     → runIn b .answer ≡ given ticks
     → roomFor (orderIn b) ≤ length t
-    → listOf b t
-    ≡ record {
-      answer = given tt;
-      count = length (sheetPrinted b ticks);
-      bytes = sheetPrinted b ticks ++ drop (length (sheetPrinted b ticks)) t;
-    }
+    → listOf b t ≡ listedAs (sheetPrinted b ticks) t
 
 -- ---- document 01's example
--- Its sheet, 02 01 07 09 and three entries of 1, and its print.
+-- Its sheet, 02 01 07 09 and three entries of 1, and its print. And the same with the codes 300 and 7, which is a long
+-- sheet: 82 01 01 2C 00 07 and the entries.
 abbrev pub one8 : List ℕ
 one8 = 0x3f ∷ 0xf0 ∷ 0 ∷ 0 ∷ 0 ∷ 0 ∷ 0 ∷ 0 ∷ []
 
 abbrev pub exampleSheet : List ℕ
 exampleSheet = 0x02 ∷ 0x01 ∷ 0x07 ∷ 0x09 ∷ (one8 ++ (one8 ++ one8))
 
+abbrev pub longSheet : List ℕ
+longSheet = 0x82 ∷ 0x01 ∷ 0x01 ∷ 0x2c ∷ 0x00 ∷ 0x07 ∷ (one8 ++ (one8 ++ one8))
+
 abbrev pub field : ℕ → List ℕ
 field w = space ++ hexOf 16 w
 
-abbrev pub examplePrint : List ℕ
-examplePrint =
+-- With the codes c and d, as they are printed.
+abbrev pub examplePrint : List ℕ → List ℕ → List ℕ
+examplePrint c d =
     (decimalOf 2 ++ (space ++ (decimalOf 1 ++ (space ++ (decimalOf 4 ++ newline)))))
-    ++ ((decimalOf 7 ++ (field 0 ++ (field 0x3FE6A09E667F3BCC ++ (field 0xBFE6A09E667F3BCC ++ newline))))
-    ++ (decimalOf 9 ++ (field 0x4000000000000000
+    ++ ((c ++ (field 0 ++ (field 0x3FE6A09E667F3BCC ++ (field 0xBFE6A09E667F3BCC ++ newline))))
+    ++ (d ++ (field 0x4000000000000000
     ++ (field 0x3FE6A09E667F3BCC ++ (field 0x3FE6A09E667F3BCC ++ newline)))))
 
-abbrev pub ExamplePrinted : Type 0
-ExamplePrinted =
-    (t : List ℕ) → roomFor 2 ≤ length t
-    → listOf exampleSheet t
-    ≡ record { answer = given tt; count = length examplePrint; bytes = examplePrint ++ drop (length examplePrint) t }
+pub record ExamplesPrinted (t : List ℕ) : Type 0 where
+  pub short : listOf exampleSheet t ≡ listedAs (examplePrint (0x37 ∷ []) (0x39 ∷ [])) t
+  pub long : listOf longSheet t ≡ listedAs (examplePrint (0x33 ∷ 0x30 ∷ 0x30 ∷ []) (0x37 ∷ [])) t
 
 -- ---- a refusal
 -- What is printed for the refusal with the number k: `refused`, a space and the number, no more.
@@ -113,5 +115,5 @@ pub record ListingsAsStated : Type 0 where
   pub answers : ListingAnswers
   pub leaves : ListingLeaves
   pub prints : ListingPrints
-  pub example : ExamplePrinted
+  pub examples : (t : List ℕ) → roomFor 2 ≤ length t → ExamplesPrinted t
   pub refusal-prints : RefusalPrints

@@ -32,8 +32,8 @@ use Rattle.array.specs.Arrays.{Ticks}
 use Rattle.tile_schedule.specs.Answers.{made, stopped, progressAnswered}
 use Rattle.array.specs.Runs.{noArray, Starts}
 use Rattle.array_run.specs.Whole.{wholeOf}
-use Rattle.sheet.specs.Format.{sheetLength, orderIn, sweepsIn, patternIn}
-use Rattle.sheet.specs.Codes.{badCodes}
+use Rattle.sheet.specs.Format.{sheetLength, widthIn, orderIn, sweepsIn, codesIn, patternIn}
+use Rattle.sheet.specs.Codes.{badCodes, longCodes, widthFor}
 use Rattle.sheet_reader.specs.Reader.{storedRow, sheetAnswer, readAnswer, readOf}
 use Rattle.sheet_writer.specs.Writer.{writeOf}
 use Rattle.claims.specs.Histories.{Binary64}
@@ -185,7 +185,9 @@ RecordsLeave =
     × (drop (processorsOf n) (recordsOf n l step ys .row) ≡ drop (processorsOf n) ys)
 
 -- ---- sheets
--- `badCodes b o n`: of the n codes from byte o on, one is zero or used before. long says that all lengths are right.
+-- `badCodes`: one of the codes is zero or used before; `longCodes`: one is above 255; `widthIn`: the bytes of a code by
+-- the sheet's first byte, `widthFor` by the codes. long says that all lengths are right. Refusal 4 is for a bad code,
+-- and then for a long sheet whose codes all fit a byte.
 abbrev pub sheetTable : List ℕ → Bool → Answered Unit
 sheetTable b long =
     table
@@ -193,20 +195,24 @@ sheetTable b long =
     ∷ when (not (isOrder (orderIn b))) 1
     ∷ when (ltb 16 (sweepsIn b)) 2
     ∷ when (not long) 3
-    ∷ when (badCodes b 2 (orderIn b)) 4
+    ∷ when (badCodes (codesIn b)) 4
+    ∷ when (eqb (widthIn b) 2 && not (longCodes (codesIn b))) 4
     ∷ storedRow b
     ∷ [])
+
+-- The length of its form.
+abbrev pub lengthIs : List ℕ → Bool
+lengthIs b = eqb (length b) (sheetLength (widthIn b) (orderIn b))
 
 abbrev pub ReaderAnswers : Type 0
 ReaderAnswers =
     (b c : List ℕ) (m : List Float)
     → readOf b c m .answer ≡ giving (orderIn b, sweepsIn b)
-    (sheetTable b
-    (eqb (length c) (orderIn b) && (square (orderIn b) (length m) && eqb (length b) (sheetLength (orderIn b)))))
+    (sheetTable b (eqb (length c) (orderIn b) && (square (orderIn b) (length m) && lengthIs b)))
 
 -- Lent what the order asks for, a reader refuses a sheet by its bytes alone.
 pub record SheetAnswers : Type 0 where
-  pub by-bytes : (b : List ℕ) → sheetAnswer b ≡ sheetTable b (eqb (length b) (sheetLength (orderIn b)))
+  pub by-bytes : (b : List ℕ) → sheetAnswer b ≡ sheetTable b (lengthIs b)
   pub lent-right : (b : List ℕ) → readAnswer b (orderIn b) (orderIn b * orderIn b) ≡ sheetAnswer b
 
 abbrev pub ReaderLeaves : Type 0
@@ -215,18 +221,20 @@ ReaderLeaves =
     → readOf b c m .answer ≡ refused k values
     → (readOf b c m .codes ≡ c) × (readOf b c m .matrix ≡ m)
 
+-- It answers how many bytes it wrote, and 7 by the length of the form that it writes.
 abbrev pub WriterAnswers : Type 0
 WriterAnswers =
     (n sweeps : ℕ) (codes : List ℕ) (l : List Float) (b : List ℕ)
-    → writeOf n sweeps codes l b .answer ≡ table
+    → writeOf n sweeps codes l b .answer ≡ giving (sheetLength (widthFor codes) n)
+    (table
     (when (not (isOrder n)) 1
     ∷ when (ltb 16 sweeps) 2
     ∷ when (not (eqb (length codes) n && square n (length l))) 3
-    ∷ when (badCodes codes 0 n) 4
+    ∷ when (badCodes codes) 4
     ∷ finiteRow n l
     ∷ mirrorRow n l
-    ∷ when (ltb (length b) (sheetLength n)) 7
-    ∷ [])
+    ∷ when (ltb (length b) (sheetLength (widthFor codes) n)) 7
+    ∷ []))
 
 -- A refusal changes nothing, and longer bytes keep their tail.
 abbrev pub WriterLeaves : Type 0
@@ -234,7 +242,7 @@ WriterLeaves =
     (n sweeps : ℕ) (codes : List ℕ) (l : List Float) (b : List ℕ)
     → ((k : ℕ) (values : List ℕ) → writeOf n sweeps codes l b .answer ≡ refused k values
     → writeOf n sweeps codes l b .bytes ≡ b)
-    × (drop (sheetLength n) (writeOf n sweeps codes l b .bytes) ≡ drop (sheetLength n) b)
+    × (let count = sheetLength (widthFor codes) n in drop count (writeOf n sweeps codes l b .bytes) ≡ drop count b)
 
 pub record RefusedAsTabled : Type 0 where
   pub numbers-as-tabled : NumbersAsTabled

@@ -40,8 +40,10 @@ fn explain() {
     let bytes = os::arg(1, &mut argument);
     let text = b"list_sheet < SHEET
 
-Reads a sheet on standard input: the order n, the sweeps and n codes, a byte each, and then the
-lower triangle of a symmetric matrix row by row, each entry a float64, the highest byte first.
+Reads a sheet on standard input: the order n and the sweeps, a byte each, then n codes, a byte
+each, and then the lower triangle of a symmetric matrix row by row, each entry a float64, the
+highest byte first. A sheet with a code above 255 has the long form: its first byte is n + 128,
+and each of its codes has two bytes, the highest first.
 Prints n, the sweeps and the ticks of the array, and then a line for each code: the code, its
 diagonal entry and its eigenvector, as the hexadecimal digits of their bits. A sheet or a run
 that is refused prints the word refused and the number of the refusal.

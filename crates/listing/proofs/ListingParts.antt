@@ -6,7 +6,7 @@ use mathlib.Core.List.{List, [], _∷_}
 use native.Mathlib.Omega.{arith}
 use borrow.Author.Tests.{lt-ltb, le-ltb, ltb-false}
 use lib.Dec.{ltb}
-use lib.ListN.{length, List·getD-eq-default}
+use lib.ListN.{length}
 use lib.Ieee.{Float}
 use Rattle.refusal.specs.Answers.{Answered, given, refused, refusedBy, giving, valueOr, unlessRefused, orElse, row, table}
 use Rattle.refusal.specs.declared.Refusal.{Refusal}
@@ -32,14 +32,11 @@ use Rattle.listing.specs.Listing.{ListingOutcome, listed, listedUnless, 
 
 -- ---- the order
 module _ (b : List ℕ) where
-  pub no-order-in : length b ≡ 0 → 0 ≡ cond (ltb largestOrder (orderIn b)) 0 (orderIn b)
-  no-order-in e = rw (List·getD-eq-default b 0 {n = 0} (omega (arith, e)))
+  pub too-large : {n : ℕ} → n ≡ orderIn b → largestOrder < n → 0 ≡ cond (ltb largestOrder (orderIn b)) 0 (orderIn b)
+  too-large e h = rw (lt-ltb largestOrder (orderIn b) (omega arith))
 
-  pub too-large : largestOrder < orderIn b → 0 ≡ cond (ltb largestOrder (orderIn b)) 0 (orderIn b)
-  too-large h = rw (lt-ltb _ _ h)
-
-  pub not-too-large : orderIn b ≤ largestOrder → orderIn b ≡ cond (ltb largestOrder (orderIn b)) 0 (orderIn b)
-  not-too-large h = rw (le-ltb _ _ h)
+  pub not-too-large : {n : ℕ} → n ≡ orderIn b → n ≤ largestOrder → n ≡ cond (ltb largestOrder (orderIn b)) 0 (orderIn b)
+  not-too-large e h = rw (le-ltb largestOrder (orderIn b) (omega arith)) e
 
   pub order-few : {n : ℕ} → n ≡ cond (ltb largestOrder (orderIn b)) 0 (orderIn b) → n ≤ largestOrder
   order-few e = rw e (go (ltb largestOrder (orderIn b)) refl)
@@ -49,7 +46,7 @@ module _ (b : List ℕ) where
       go false z = ltb-false largestOrder (orderIn b) z
 
   pub order-there : {n : ℕ} → n ≡ cond (ltb largestOrder (orderIn b)) 0 (orderIn b) → isOrder (orderIn b) ≡ true → n ≡ orderIn b
-  order-there e z = e ∙ sym (not-too-large (order-is (orderIn b) z .2))
+  order-there e z = e ∙ sym (not-too-large refl (order-is (orderIn b) z .2))
 
 -- ---- the run
 module _ (n sweeps : ℕ) (codes t : List ℕ) (o : Outcome ℕ) where

@@ -30,7 +30,7 @@ pub fn list(sheet: &[u8], text: &mut [u8]) -> Listing
 {
     let n = order(sheet);
     let entries = n * n;
-    let mut codes = [0u8; LARGEST_ORDER];
+    let mut codes = [0u16; LARGEST_ORDER];
     let mut matrix = [0.0; MOST_ENTRIES];
     let mut result = [0.0; MOST_ENTRIES];
     let mut vectors = [0.0; MOST_ENTRIES];
@@ -48,10 +48,7 @@ pub fn list(sheet: &[u8], text: &mut [u8]) -> Listing
 fn order(sheet: &[u8]) -> usize
     ensures { λ r. ⌜ r ≡ cond (ltb largestOrder (orderIn (now (sheet .entry)))) 0 (orderIn (now (sheet .entry))) ⌝ }
 {
-    if sheet.len() == 0 {
-        return 0;
-    }
-    let n = sheet[0] as usize;
+    let n = sheet::order_in(sheet);
     if n > LARGEST_ORDER {
         return 0;
     }
@@ -61,7 +58,7 @@ fn order(sheet: &[u8]) -> usize
 // Lists a sheet by way of buffers of these sizes.
 fn list_in(
     sheet: &[u8],
-    codes: &mut [u8],
+    codes: &mut [u16],
     matrix: &mut [f64],
     result: &mut [f64],
     vectors: &mut [f64],
@@ -83,7 +80,7 @@ fn list_in(
 fn run(
     n: usize,
     sweeps: usize,
-    codes: &[u8],
+    codes: &[u16],
     matrix: &[f64],
     result: &mut [f64],
     vectors: &mut [f64],

@@ -4,7 +4,7 @@ use mathlib.Core.Path.{_≡_, refl, sym, ap, _∙_}
 use mathlib.Core.Bool.{Bool, true, false, _&&_, true≢false}
 use mathlib.Core.List.{List, [], _∷_, _++_}
 use native.Mathlib.Omega.{arith}
-use borrow.Author.Tests.{lt-ltb, le-ltb, eq-eqb, ne-eqb, eqb-true, leb-true}
+use borrow.Author.Tests.{lt-ltb, le-ltb, ltb-true, eq-eqb, ne-eqb, eqb-true, leb-true}
 use lib.Dec.{leb, ltb, eqb}
 use lib.ListN.{length, getD, drop}
 use lib.Ieee.{Float, binary64, toBits}
@@ -83,30 +83,42 @@ module _ (n sweeps ticks codes matrix vectors room : ℕ) where
             unfolding printable
             by-room h z = rw (z, o, lt-ltb sweeps 10000 s, lt-ltb ticks 10000 t, eq-eqb codes n c, eq-eqb matrix (n * n) m, eq-eqb vectors (n * n) h)
 
-pub record Sizes (n codes matrix vectors room : ℕ) : Type 0 where
+pub record Sizes (n sweeps ticks codes matrix vectors room : ℕ) : Type 0 where
   pub order : isOrder n ≡ true
+  pub few-sweeps : sweeps < 10000
+  pub few-ticks : ticks < 10000
   pub codes-long : codes ≡ n
   pub matrix-long : matrix ≡ n * n
   pub vectors-long : vectors ≡ n * n
   pub enough : roomFor n ≤ room
 
-pub sizes : (n sweeps ticks codes matrix vectors room : ℕ) → printable n sweeps ticks codes matrix vectors room ≡ true → Sizes n codes matrix vectors room
+pub sizes : (n sweeps ticks codes matrix vectors room : ℕ) → printable n sweeps ticks codes matrix vectors room ≡ true
+    → Sizes n sweeps ticks codes matrix vectors room
 unfolding printable
 sizes n sweeps ticks codes matrix vectors room e =
     go (isOrder n) (ltb sweeps 10000) (ltb ticks 10000) (eqb codes n) (eqb matrix (n * n)) (eqb vectors (n * n)) (leb (roomFor n) room)
-    refl refl refl refl refl e
+    refl refl refl refl refl refl refl e
   where
-    go : (a b c d f g h : Bool) → isOrder n ≡ a → eqb codes n ≡ d → eqb matrix (n * n) ≡ f → eqb vectors (n * n) ≡ g → leb (roomFor n) room ≡ h
-        → (a && (b && (c && (d && (f && (g && h)))))) ≡ true → Sizes n codes matrix vectors room
-    go false b c d f g h o p q r s e = absurd (true≢false (sym e))
-    go true false c d f g h o p q r s e = absurd (true≢false (sym e))
-    go true true false d f g h o p q r s e = absurd (true≢false (sym e))
-    go true true true false f g h o p q r s e = absurd (true≢false (sym e))
-    go true true true true false g h o p q r s e = absurd (true≢false (sym e))
-    go true true true true true false h o p q r s e = absurd (true≢false (sym e))
-    go true true true true true true false o p q r s e = absurd (true≢false (sym e))
-    go true true true true true true true o p q r s e =
-        record { order = o; codes-long = eqb-true _ _ p; matrix-long = eqb-true _ _ q; vectors-long = eqb-true _ _ r; enough = leb-true _ _ s }
+    go : (a b c d f g h : Bool) → isOrder n ≡ a → ltb sweeps 10000 ≡ b → ltb ticks 10000 ≡ c → eqb codes n ≡ d → eqb matrix (n * n) ≡ f
+        → eqb vectors (n * n) ≡ g → leb (roomFor n) room ≡ h
+        → (a && (b && (c && (d && (f && (g && h)))))) ≡ true → Sizes n sweeps ticks codes matrix vectors room
+    go false b c d f g h o p q r s t u e = absurd (true≢false (sym e))
+    go true false c d f g h o p q r s t u e = absurd (true≢false (sym e))
+    go true true false d f g h o p q r s t u e = absurd (true≢false (sym e))
+    go true true true false f g h o p q r s t u e = absurd (true≢false (sym e))
+    go true true true true false g h o p q r s t u e = absurd (true≢false (sym e))
+    go true true true true true false h o p q r s t u e = absurd (true≢false (sym e))
+    go true true true true true true false o p q r s t u e = absurd (true≢false (sym e))
+    go true true true true true true true o p q r s t u e =
+        record {
+          order = o;
+          few-sweeps = ltb-true _ _ p;
+          few-ticks = ltb-true _ _ q;
+          codes-long = eqb-true _ _ r;
+          matrix-long = eqb-true _ _ s;
+          vectors-long = eqb-true _ _ t;
+          enough = leb-true _ _ u;
+        }
 
 -- ---- the whole
 whole : (b s r : List ℕ) (f : ℕ) → Put b 0 s r f → printing f r ≡ printing (length s) (s ++ drop (length s) b)

@@ -34,15 +34,15 @@ textLinesOf n codes A E (suc k) = textLinesOf n codes A E k ++ textLineOf n (get
 unfoldable pub printedOf : ℕ → ℕ → ℕ → List ℕ → (ℕ → ℕ → Float) → (ℕ → ℕ → Float) → List ℕ
 printedOf n sweeps ticks codes A E = headOf n sweeps ticks ++ textLinesOf n codes A E n
 
--- Bytes that are enough for the text line of a code: 4 for the code, 17 for the diagonal entry, 17 for each value of the column, and a newline.
+-- Bytes that are enough for the text line of a code: 5 for the code, 17 for the diagonal entry, 17 for each value of the column, and a newline.
 abbrev pub textLineRoom : ℕ → ℕ
-textLineRoom n = 22 + 17 * n
+textLineRoom n = 23 + 17 * n
 
 -- Bytes that are enough for a first text line of 15 and n text lines of codes.
 abbrev pub roomFor : ℕ → ℕ
 roomFor n = 15 + n * textLineRoom n
 
--- The sizes are those of a run, the numbers have at most 4 digits, and the bytes are enough.
+-- The sizes are those of a run, the sweeps and the ticks have at most 4 digits, and the bytes are enough.
 unfoldable pub printable : ℕ → ℕ → ℕ → ℕ → ℕ → ℕ → ℕ → Bool
 printable n sweeps ticks codes matrix vectors room =
     isOrder n && (ltb sweeps 10000 && (ltb ticks 10000 && (eqb codes n && (eqb matrix (n * n) && (eqb vectors (n * n) && leb (roomFor n) room)))))

@@ -1,6 +1,6 @@
 // The printed sheet (document 01).
 ghost use mathlib.Core.Path.{_≡_};
-ghost use Prim.Native.Nat.{_+_, _*_, _≤_};
+ghost use Prim.Native.Nat.{_+_, _*_, _<_, _≤_};
 ghost use lib.ListN.{length};
 ghost use Rattle.refusal.specs.Refusal.{numberOf};
 ghost use Rattle.matrix.specs.Matrix.{at};
@@ -12,7 +12,7 @@ use refusal::Refusal;
 use sizes::LARGEST_ORDER;
 
 // The room for the printed sheet of the largest order.
-pub const LONGEST: usize = 15 + LARGEST_ORDER * (22 + 17 * LARGEST_ORDER);
+pub const LONGEST: usize = 15 + LARGEST_ORDER * (23 + 17 * LARGEST_ORDER);
 
 // Prints what a run has given into lent bytes, and answers how many they are. Nothing is printed where the order, the numbers or the
 // lengths are not those of a run, or there may be too little room.
@@ -20,7 +20,7 @@ pub fn print(
     n: usize,
     sweeps: usize,
     ticks: usize,
-    codes: &[u8],
+    codes: &[u16],
     matrix: &[f64],
     vectors: &[f64],
     out: &mut [u8],
@@ -60,7 +60,7 @@ pub fn room_for(n: usize) -> usize
     requires { ⌜ n ≤ largestOrder ⌝ }
     ensures { λ r. ⌜ r ≡ roomFor n ⌝ }
 {
-    15 + n * (22 + 17 * n)
+    15 + n * (23 + 17 * n)
 }
 
 // The word refused, and a space.
@@ -114,7 +114,7 @@ fn is_printable(
 
 // The first text line.
 fn put_head(n: usize, sweeps: usize, ticks: usize, out: &mut [u8]) -> usize
-    requires { ⌜ 15 ≤ length (now out) ⌝ }
+    requires { ⌜ (n < 10000) × (sweeps < 10000) × (ticks < 10000) × (15 ≤ length (now out)) ⌝ }
     ensures { λ r. ⌜ Put (now (out .entry)) 0 (headOf n sweeps ticks) (now (out .exit)) r ⌝ }
     ensures { λ r. ⌜ r ≤ 15 ⌝ }
 {
@@ -129,7 +129,7 @@ fn put_head(n: usize, sweeps: usize, ticks: usize, out: &mut [u8]) -> usize
 // A text line for each code.
 fn put_text_lines(
     n: usize,
-    codes: &[u8],
+    codes: &[u16],
     matrix: &[f64],
     vectors: &[f64],
     from: usize,
@@ -151,7 +151,7 @@ fn put_text_lines(
 fn put_text_line(
     n: usize,
     k: usize,
-    code: u8,
+    code: u16,
     matrix: &[f64],
     vectors: &[f64],
     from: usize,

@@ -1,3 +1,4 @@
-pub mod Words
-pub mod Triangle
 pub mod BadCodes
+pub mod Forms
+pub mod Triangle
+pub mod Words

@@ -2,7 +2,7 @@
 use Prim.Native.Nat.{ℕ, zero, suc, _+_, _-_, _*_, _/_, _<_, _≤_}
 use mathlib.Core.Path.{_≡_, refl, ap, _∙_}
 use mathlib.Core.Bool.{Bool, true, false, cond}
-use native.Mathlib.Nat.{mul-add, mul-one, suc-mul, mul-assoc, mul-comm, mul-le-mul}
+use native.Mathlib.Nat.{mul-add, mul-one, suc-mul, mul-assoc, mul-comm, mul-le-mul, mul-le-mul-left, div-lt-iff-lt-mul}
 use native.Mathlib.Omega.{arith}
 use borrow.Author.Tests.{lt-ltb, le-ltb, ltb-true, ltb-false}
 use lib.Dec.{ltb}
@@ -22,8 +22,8 @@ closed (suc i) =
     let e : i * (suc i + 1) ≡ i * (i + 1) + i = ap (λ (x : ℕ). i * x) b ∙ c ∙ ap (λ (x : ℕ). i * (i + 1) + x) d in
     omega arith
 
-pub length-is : (n : ℕ) → sheetLength n ≡ entriesFrom n + 8 * entriesTo n
-length-is n =
+pub length-is : (w n : ℕ) → sheetLength w n ≡ entriesFrom w n + 8 * entriesTo n
+length-is w n =
     let h = closed n in
     let a : 4 * n * (n + 1) ≡ 4 * (n * (n + 1)) = mul-assoc 4 n (n + 1) in
     omega arith
@@ -33,6 +33,21 @@ few-entries n h =
     let a : 4 * n ≤ 4 * largestOrder = omega arith in
     let b : n + 1 ≤ largestOrder + 1 = omega arith in
     (mul-le-mul h h, mul-le-mul a b)
+
+pub few-codes : (w n : ℕ) → w ≤ 2 → n ≤ largestOrder → w * n ≤ 2 * largestOrder
+few-codes w n h k = mul-le-mul h k
+
+-- code k ends before the entries begin
+pub code-ends : (w n k : ℕ) → k < n → 2 + w * k + w ≤ entriesFrom w n
+code-ends w n k h =
+    let next : k + 1 ≤ n = omega arith in
+    let a : w * (k + 1) ≤ w * n = mul-le-mul-left w next in
+    let b : w * (k + 1) ≡ w * k + w = mul-add w k 1 ∙ ap (λ (x : ℕ). w * k + x) (mul-one w) in
+    omega arith
+
+-- the number of the code that a byte before the entries is of
+pub code-number : (w n k : ℕ) → 1 ≤ w → k < w * n → k / w < n
+code-number w n k h o = div-lt-iff-lt-mul h .1 (let e = mul-comm w n in omega arith)
 
 row-length : (i : ℕ) → 1 ≤ i → entriesTo i ≡ entriesTo (i - 1) + i
 row-length zero h = absurd (omega arith)
@@ -45,6 +60,17 @@ half-of r h =
     let a : r - 1 + 1 ≡ r = omega arith in
     let b : (r - 1) * (r - 1 + 1) ≡ r * (r - 1) = ap (λ (x : ℕ). (r - 1) * x) a ∙ mul-comm (r - 1) r in
     omega arith
+
+pub row-more : (i : ℕ) → entriesTo (i + 1) ≡ entriesTo i + (i + 1)
+row-more i = let e : i + 1 ≡ suc i = omega arith in rw e (unfold entriesTo in refl)
+
+-- ---- an offset that goes from entry to entry
+pub offset-start : (w n : ℕ) → 2 + w * n ≡ entriesFrom w n + 8 * entriesTo 0
+unfolding entriesTo
+offset-start w n = omega arith
+
+pub offset-row : (w n i : ℕ) {o o′ : ℕ} → o ≡ entriesFrom w n + 8 * entriesTo i → o′ ≡ o + 8 * (i + 1) → o′ ≡ entriesFrom w n + 8 * entriesTo (i + 1)
+offset-row w n i e f = let z = row-more i in omega arith
 
 pub rows-below : (i n : ℕ) → i < n → entriesTo i + suc i ≤ entriesTo n
 unfolding entriesTo

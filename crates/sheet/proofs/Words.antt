@@ -1,4 +1,4 @@
--- Words of 8 bytes. Assumes nothing.
+-- Words of m bytes. Assumes nothing.
 use Prim.Native.Nat.{ℕ, zero, suc, _+_, _-_, _*_, _/_, _%_, _^_, _<_, _≤_}
 use mathlib.Core.Path.{_≡_, refl, sym, ap, _∙_}
 use mathlib.Core.List.{List}
@@ -39,25 +39,25 @@ last-byte w d =
     rw e (omega arith)
 
 module _ (b : List ℕ) (o : ℕ) where
-  word-part : (w : ℕ) → w < 256 ^ 8 → ((k : ℕ) → k < 8 → getD b (o + k) 0 ≡ byteOf w k) → (k : ℕ) → k ≤ 8 → wordFrom b o k ≡ w / 256 ^ (8 - k)
+  word-part : (m v : ℕ) → v < 256 ^ m → ((k : ℕ) → k < m → getD b (o + k) 0 ≡ byteOf m v k) → (k : ℕ) → k ≤ m → wordFrom b o k ≡ v / 256 ^ (m - k)
   unfolding wordFrom byteOf
-  word-part w h e zero l = sym (div-eq-of-lt h)
-  word-part w h e (suc k) l =
-      let a : 8 - k ≡ suc (7 - k) = omega arith in
-      let c : 8 - suc k ≡ 7 - k = omega arith in
-      rw (word-part w h e k (omega arith), e k (omega arith), a, c) (last-byte w (7 - k))
+  word-part m v h e zero l = let z : m - 0 ≡ m = omega arith in rw z (sym (div-eq-of-lt h))
+  word-part m v h e (suc k) l =
+      let a : m - k ≡ suc (m - 1 - k) = omega arith in
+      let c : m - suc k ≡ m - 1 - k = omega arith in
+      rw (word-part m v h e k (omega arith), e k (omega arith), a, c) (last-byte v (m - 1 - k))
 
-  pub word-whole : (w : ℕ) → w < 2 ^ 64 → ((k : ℕ) → k < 8 → getD b (o + k) 0 ≡ byteOf w k) → wordFrom b o 8 ≡ w
-  word-whole w h e = let z : w / 1 ≡ w = omega arith in word-part w h e 8 (omega arith) ∙ z
+  pub word-whole : (m v : ℕ) → v < 256 ^ m → ((k : ℕ) → k < m → getD b (o + k) 0 ≡ byteOf m v k) → wordFrom b o m ≡ v
+  word-whole m v h e =
+      let y : m - m ≡ 0 = omega arith in
+      let z : v / 1 ≡ v = omega arith in
+      word-part m v h e m (omega arith) ∙ rw y z
 
   module _ (small : (i : ℕ) → getD b i 0 < 256) where
-    word-below : (k : ℕ) → wordFrom b o k < 256 ^ k
+    pub word-below : (k : ℕ) → wordFrom b o k < 256 ^ k
     unfolding wordFrom
     word-below zero = lit< tt
     word-below (suc k) = let e : k + 1 ≡ suc k = omega arith in rw e at (word-grows (wordFrom b o k) (getD b (o + k) 0) k (word-below k) (small (o + k)))
-
-    pub word-small : wordFrom b o 8 < 2 ^ 64
-    word-small = word-below 8
 
     one-less : (k : ℕ) → wordFrom b o (suc k) / 256 ≡ wordFrom b o k
     unfolding wordFrom
@@ -75,9 +75,10 @@ module _ (b : List ℕ) (o : ℕ) where
         let e : suc d + k ≡ suc (d + k) = omega arith in
         rw e (shorter (wordFrom b o (suc (d + k))) d ∙ ap (λ (x : ℕ). x / 256 ^ d) (one-less (d + k)) ∙ word-front d k)
 
-    pub byte-back : (k : ℕ) → k < 8 → byteOf (wordFrom b o 8) k ≡ getD b (o + k) 0
+    pub byte-back : (m k : ℕ) → k < m → byteOf m (wordFrom b o m) k ≡ getD b (o + k) 0
     unfolding byteOf
-    byte-back k h =
-        let e : 7 - k + (k + 1) ≡ 8 = omega arith in
-        let f : wordFrom b o 8 / 256 ^ (7 - k) ≡ wordFrom b o (k + 1) = ap (λ (x : ℕ). wordFrom b o x / 256 ^ (7 - k)) (sym e) ∙ word-front (7 - k) (k + 1) in
+    byte-back m k h =
+        let e : m - 1 - k + (k + 1) ≡ m = omega arith in
+        let f : wordFrom b o m / 256 ^ (m - 1 - k) ≡ wordFrom b o (k + 1)
+        = ap (λ (x : ℕ). wordFrom b o x / 256 ^ (m - 1 - k)) (sym e) ∙ word-front (m - 1 - k) (k + 1) in
         rw f (last-of k)

@@ -1,15 +1,23 @@
--- Document 01, "A sheet": the line codes. Definitions only.
-use Prim.Native.Nat.{ℕ, _+_}
-use mathlib.Core.Bool.{Bool, _||_}
+-- Document 01, "A sheet", and document 02 (i): the line codes, and how many bytes each of them has. Definitions only.
+use Prim.Native.Nat.{ℕ}
+use mathlib.Core.Bool.{Bool, cond, _||_}
 use mathlib.Core.List.{List}
-use lib.Dec.{eqb}
-use lib.ListN.{getD}
+use lib.Dec.{eqb, ltb}
+use lib.ListN.{length, getD}
 use Rattle.lists.specs.Bounded.{any}
 
--- Of the bytes from o on, number k is zero or stands before it. A byte that is not there is zero.
-unfoldable pub badCode : List ℕ → ℕ → ℕ → Bool
-badCode b o k = eqb (getD b (o + k) 0) 0 || any k (λ i. eqb (getD b (o + i) 0) (getD b (o + k) 0))
+-- Code k, from 0, is zero, or one of those before it.
+unfoldable pub badCode : List ℕ → ℕ → Bool
+badCode codes k = eqb (getD codes k 0) 0 || any k (λ i. eqb (getD codes i 0) (getD codes k 0))
 
--- One of n codes from o on is zero, or used before.
-unfoldable pub badCodes : List ℕ → ℕ → ℕ → Bool
-badCodes b o n = any n (badCode b o)
+-- One of the codes is zero, or used before.
+unfoldable pub badCodes : List ℕ → Bool
+badCodes codes = any (length codes) (badCode codes)
+
+-- One of the codes does not fit a byte.
+unfoldable pub longCodes : List ℕ → Bool
+longCodes codes = any (length codes) (λ k. ltb 255 (getD codes k 0))
+
+-- The bytes of each code in the sheet of these codes: one wherever every code fits a byte.
+unfoldable pub widthFor : List ℕ → ℕ
+widthFor codes = cond (longCodes codes) 2 1

@@ -1,2 +1,4 @@
+pub mod OneForm
 pub mod RoundTrip
 pub mod SheetPlaces
+pub mod ShortForm

@@ -9,15 +9,16 @@ use lib.Ieee.{Float, binary64, toBits}
 use Rattle.refusal.specs.Answers.{given}
 use Rattle.matrix.specs.Matrix.{at}
 use Rattle.matrix.proofs.SameEntries.{read-again}
-use Rattle.sheet.specs.Format.{sheetLength, entriesFrom, entryNumber, byteOf, sheetOf, orderIn, patternIn, entryIn}
-use Rattle.sheet.proofs.Triangle.{length-is, number-below, half-of}
-use Rattle.sheet_reader.specs.Reader.{contentOf, readOf}
+use Rattle.sheet.specs.Codes.{widthFor}
+use Rattle.sheet.specs.Format.{entriesFrom, entryNumber, byteOf, firstByte, lengthFor, sheetOf, widthIn, orderIn, patternIn, entryIn}
+use Rattle.sheet.proofs.Forms.{first-kept}
+use Rattle.sheet.proofs.Triangle.{code-ends, length-is, number-below, half-of}
 use Rattle.sheet.proofs.Words.{byte-back as byte-of-word}
-use Rattle.sheet_reader.proofs.SheetContents.{code-at}
+use Rattle.sheet_reader.specs.Reader.{contentOf, readOf}
 use Rattle.sheet_reader.proofs.Tables.{readable}
 use Rattle.sheet_writer.specs.Writer.{writtenOver, writeOf}
 use Rattle.sheet_writer.proofs.SheetBytes.{sheet-long}
-use Rattle.sheet_agreement.proofs.RoundTrip.{order-back, sweeps-back, code-back, byte-back, pattern-kept, writes, reads}
+use Rattle.sheet_agreement.proofs.RoundTrip.{first-back, sweeps-back, code-byte, entry-byte, code-again, pattern-kept, writes, reads}
 
 -- the number of an entry in closed form
 pub number-is : (i j : ℕ) → 1 ≤ i → entryNumber i j ≡ i * (i - 1) / 2 + (j - 1)
@@ -25,58 +26,67 @@ unfolding entryNumber
 number-is i j h = ap (λ k. k + (j - 1)) (sym (half-of i h))
 
 -- ---- written
-module _ (n sweeps : ℕ) (codes : List ℕ) (l : List Float) (b : List ℕ) (e : writeOf n sweeps codes l b .answer ≡ given tt) where
+module _ (n sweeps : ℕ) (codes : List ℕ) (l : List Float) (b : List ℕ) (count : ℕ) (e : writeOf n sweeps codes l b .answer ≡ given count) where
   abbrev bytes : List ℕ
   bytes = writeOf n sweeps codes l b .bytes
 
-  kept : (k : ℕ) → k < sheetLength n → getD bytes k 0 ≡ getD (sheetOf n sweeps codes (at n l)) k 0
+  abbrev w : ℕ
+  w = widthFor codes
+
+  kept : (k : ℕ) → k < lengthFor n codes → getD bytes k 0 ≡ getD (sheetOf n sweeps codes (at n l)) k 0
   unfolding writtenOver
   kept k h =
-      ap (λ (x : List ℕ). getD x k 0) (writes n sweeps codes l b e .1)
-      ∙ List·getD-append (sheetOf n sweeps codes (at n l)) (drop (sheetLength n) b) 0 k (rw (sheet-long n sweeps codes (at n l)) h)
+      ap (λ (x : List ℕ). getD x k 0) (writes n sweeps codes l b count e .1)
+      ∙ List·getD-append (sheetOf n sweeps codes (at n l)) (drop (lengthFor n codes) b) 0 k (rw (sheet-long n sweeps codes (at n l)) h)
 
-  pub written-order : getD bytes 0 0 ≡ n
-  written-order = kept 0 (omega arith) ∙ order-back n sweeps codes (at n l)
+  pub written-first : getD bytes 0 0 ≡ firstByte w n
+  written-first = kept 0 (omega arith) ∙ first-back n sweeps codes (at n l)
 
   pub written-sweeps : getD bytes 1 0 ≡ sweeps
   written-sweeps = kept 1 (omega arith) ∙ sweeps-back n sweeps codes (at n l)
 
-  pub written-code : (k : ℕ) → k < n → getD bytes (2 + k) 0 ≡ getD codes k 0
-  written-code k h = kept (2 + k) (omega (arith, length-is n)) ∙ code-back n sweeps codes (at n l) k h
+  pub written-code : (k : ℕ) → k < n → (q : ℕ) → q < w → getD bytes (2 + w * k + q) 0 ≡ getD codes k 0 / 256 ^ (w - 1 - q) % 256
+  unfolding byteOf
+  written-code k h q o = kept (2 + w * k + q) (omega (arith, code-ends w n k h)) ∙ code-byte n sweeps codes (at n l) k q h o
 
   pub written-byte : (i j : ℕ) → 1 ≤ j → j ≤ i → i ≤ n → (r : ℕ) → r < 8
-      → getD bytes (2 + n + 8 * entryNumber i j + r) 0 ≡ toBits binary64 (at n l i j) / 256 ^ (7 - r) % 256
+      → getD bytes (2 + w * n + 8 * entryNumber i j + r) 0 ≡ toBits binary64 (at n l i j) / 256 ^ (7 - r) % 256
   unfolding byteOf
   written-byte i j h k o r p =
-      kept (2 + n + 8 * entryNumber i j + r) (omega (arith, length-is n, number-below n i j h k o)) ∙ byte-back n sweeps codes (at n l) i j h k o r p
+      kept (2 + w * n + 8 * entryNumber i j + r) (omega (arith, length-is w n, number-below n i j h k o))
+      ∙ entry-byte n sweeps codes (at n l) i j h k o r p
 
 -- ---- read
 module _ (b c : List ℕ) (m : List Float) (n sweeps : ℕ) (e : readOf b c m .answer ≡ given (n, sweeps)) where
-  pub read-order : n ≡ getD b 0 0
-  read-order = sym (reads b c m n sweeps e .2)
+  pub read-first : getD b 0 0 ≡ firstByte (widthIn b) n
+  read-first = sym (first-kept b) ∙ ap (firstByte (widthIn b)) (reads b c m n sweeps e .2)
 
   pub read-sweeps : sweeps ≡ getD b 1 0
   read-sweeps = sym (reads b c m n sweeps e .3)
 
-  pub read-code : (k : ℕ) → k < n → getD (readOf b c m .codes) k 0 ≡ getD b (2 + k) 0
-  unfolding contentOf
-  read-code k h = let w = reads b c m n sweeps e in rw (w .1) (code-at b k (omega (arith, w .2)))
+  pub read-code : ((i : ℕ) → getD b i 0 < 256) → (k : ℕ) → k < n → (q : ℕ) → q < widthIn b
+      → getD b (2 + widthIn b * k + q) 0 ≡ getD (readOf b c m .codes) k 0 / 256 ^ (widthIn b - 1 - q) % 256
+  unfolding contentOf byteOf
+  read-code small k h q o =
+      let v = reads b c m n sweeps e in
+      let good = readable b (length c) (length m) (v .0) in
+      rw (v .1) (sym (code-again b small (length c) (length m) good k q (omega (arith, v .2)) o))
 
   entry : (i j : ℕ) → (1 ≤ i) × (i ≤ n) → (1 ≤ j) × (j ≤ n) → at n (readOf b c m .matrix) i j ≡ entryIn b i j
   unfolding contentOf
-  entry i j hi hj = let w = reads b c m n sweeps e in rw (w .1, w .2) (read-again n (entryIn b) i j hi hj)
+  entry i j hi hj = let v = reads b c m n sweeps e in rw (v .1, v .2) (read-again n (entryIn b) i j hi hj)
 
   -- the entries that the sheet stores, byte by byte
   pub read-byte : ((i : ℕ) → getD b i 0 < 256) → (i j : ℕ) → 1 ≤ j → j ≤ i → i ≤ n → (r : ℕ) → r < 8
-      → getD b (2 + n + 8 * entryNumber i j + r) 0 ≡ toBits binary64 (at n (readOf b c m .matrix) i j) / 256 ^ (7 - r) % 256
+      → getD b (2 + widthIn b * n + 8 * entryNumber i j + r) 0 ≡ toBits binary64 (at n (readOf b c m .matrix) i j) / 256 ^ (7 - r) % 256
   unfolding entryIn byteOf patternIn
   read-byte small i j h k o r p =
-      let w = reads b c m n sweeps e in
-      let readable-as = readable b (length c) (length m) (w .0) in
-      sym (ap (λ (x : Float). byteOf (toBits binary64 x) r) (entry i j (omega arith, o) (h, omega arith) ∙ rw (le-ltb i j k))
-      ∙ ap (λ (x : ℕ). byteOf x r) (pattern-kept b small (length c) (length m) readable-as i j h k (omega (arith, w .2)))
-      ∙ byte-of-word b (entriesFrom (orderIn b) + 8 * entryNumber i j) small r p
-      ∙ ap (λ (x : ℕ). getD b (entriesFrom x + 8 * entryNumber i j + r) 0) (w .2))
+      let v = reads b c m n sweeps e in
+      let good = readable b (length c) (length m) (v .0) in
+      sym (ap (λ (x : Float). byteOf 8 (toBits binary64 x) r) (entry i j (omega arith, o) (h, omega arith) ∙ rw (le-ltb i j k))
+      ∙ ap (λ (x : ℕ). byteOf 8 x r) (pattern-kept b small (length c) (length m) good i j h k (omega (arith, v .2)))
+      ∙ byte-of-word b (entriesFrom (widthIn b) (orderIn b) + 8 * entryNumber i j) small 8 r p
+      ∙ ap (λ (x : ℕ). getD b (entriesFrom (widthIn b) x + 8 * entryNumber i j + r) 0) (v .2))
 
   -- and their mirrors
   pub read-mirror : (i j : ℕ) → 1 ≤ i → i < j → j ≤ n → at n (readOf b c m .matrix) i j ≡ at n (readOf b c m .matrix) j i

@@ -1,2 +1,3 @@
+pub mod MirroredEntries
 pub mod SheetContents
 pub mod Tables

@@ -1,13 +1,13 @@
 -- What is read from a sheet. Assumes nothing.
-use Prim.Native.Nat.{ℕ, _+_, _-_, _*_, _/_, _%_, _<_, _≤_}
+use Prim.Native.Nat.{ℕ, _+_, _-_, _*_, _<_, _≤_}
 use mathlib.Core.Path.{_≡_, refl, sym, ap}
-use mathlib.Core.Bool.{Bool, true, false}
+use mathlib.Core.Bool.{Bool, true, false, not, _||_}
 use mathlib.Core.List.{List}
-use native.Mathlib.Nat.{mul-le-mul}
 use native.Mathlib.Omega.{arith}
-use borrow.Author.Tests.{lt-ltb, le-ltb}
+use borrow.Author.Tests.{lt-ltb, le-ltb, ltb-true, ltb-false}
+use lib.Dec.{ltb}
 use lib.ListN.{length, getD}
-use lib.Ieee.{Float, nan, binary64, ofBits}
+use lib.Ieee.{Float, binary64, ofBits}
 use Rattle.float64.specs.Values.{finite}
 use Rattle.refusal.specs.Answers.{Answered, given, refused, refusedBy, giving, first}
 use Rattle.refusal.specs.declared.Refusal.the-variants.{NotFinite}
@@ -16,28 +16,27 @@ use Rattle.refusal.proofs.RefusedOutcomes.{outcome-answers, outcome-left}
 use Rattle.refusal.proofs.FirstPlaces.{Searched, searched, place}
 use Rattle.lists.proofs.Tabulated.{length-tabulate, getD-tabulate}
 use Rattle.lists.proofs.Filled.{Filled, filled-all}
-use Rattle.sizes.specs.Sizes.{largestOrder}
 use Rattle.matrix.specs.Matrix.{flat}
-use Rattle.sheet.specs.Format.{sheetLength, orderIn, sweepsIn, codesIn, entryNumber, wordFrom, patternIn, entryIn}
-use Rattle.sheet.proofs.Triangle.{length-is, half-of, number-below}
-use Rattle.sheet_reader.specs.Reader.{notFiniteIn, storedRow, readAnswer, ReadOutcome, readOutcome, contentOf, readOf}
+use Rattle.sheet.specs.Format.{sheetLength, entriesFrom, entriesTo, entryNumber, wordFrom, widthIn, orderIn, sweepsIn, codeIn, codesIn, patternIn, entryIn}
+use Rattle.sheet.specs.Codes.{badCodes, longCodes}
+use Rattle.sheet.proofs.Triangle.{length-is, rows-below}
+use Rattle.sheet_reader.specs.Reader.{OfForm, longInVain, notFiniteIn, storedRow, readAnswer, ReadOutcome, readOutcome, contentOf, readOf}
 
 -- ---- one stored entry
-pub few-before : (r : ℕ) → r ≤ largestOrder → r * (r - 1) ≤ largestOrder * largestOrder
-few-before r h = let k : r - 1 ≤ largestOrder = omega arith in mul-le-mul h k
-
-module _ (n r c : ℕ) (c1 : 1 ≤ c) (cr : c ≤ r) (rn : r ≤ n) where
-  pub offset-is : r * (r - 1) / 2 + (c - 1) ≡ entryNumber r c
-  unfolding entryNumber
-  offset-is = rw (half-of r (omega arith))
-
-  pub offset-within : 2 + n + 8 * (r * (r - 1) / 2 + (c - 1)) + 8 ≤ sheetLength n
-  offset-within = let e = offset-is in let w = number-below n r c c1 cr rn in let l = length-is n in omega arith
+module _ (w n i j : ℕ) (ji : j ≤ i) (below : i < n) where
+  -- there is room for it
+  pub entry-within : {o : ℕ} → o ≡ entriesFrom w n + 8 * (entriesTo i + j) → o + 8 ≤ sheetLength w n
+  entry-within e = let z = rows-below i n below in let l = length-is w n in omega arith
 
 module _ (b : List ℕ) where
-  pub pattern-read : {n w o : ℕ} (r c : ℕ) → n ≡ orderIn b → o ≡ entryNumber r c → w ≡ wordFrom b (2 + n + 8 * o) 8 → w ≡ patternIn b r c
-  unfolding patternIn
-  pattern-read r c e f g = rw (← e, ← f) g
+  -- rows and columns from 0
+  pub pattern-read : {w n o v : ℕ} (i j : ℕ) → OfForm w n b → o ≡ entriesFrom w n + 8 * (entriesTo i + j) → v ≡ wordFrom b o 8
+      → v ≡ patternIn b (i + 1) (j + 1)
+  unfolding patternIn entryNumber
+  pattern-read i j f e g =
+      let x : i + 1 - 1 ≡ i = omega arith in
+      let y : j + 1 - 1 ≡ j = omega arith in
+      rw (x, y, ← (f .0), ← (f .1), ← e) g
 
   -- ---- both triangles
   pub above-diagonal : {w : ℕ} (r c : ℕ) → r < c → w ≡ patternIn b c r → ofBits binary64 w ≡ entryIn b r c
@@ -47,6 +46,14 @@ module _ (b : List ℕ) where
   pub up-to-diagonal : {w : ℕ} (r c : ℕ) → c ≤ r → w ≡ patternIn b r c → ofBits binary64 w ≡ entryIn b r c
   unfolding entryIn
   up-to-diagonal r c h e = rw (le-ltb r c h, ← e)
+
+  -- an entry at its mirror place
+  pub mirror-read : {w : ℕ} (r c : ℕ) → c ≤ r → w ≡ patternIn b r c → ofBits binary64 w ≡ entryIn b c r
+  mirror-read {w} r c h e = go (ltb c r) refl
+    where
+      go : (x : Bool) → ltb c r ≡ x → ofBits binary64 w ≡ entryIn b c r
+      go true z = above-diagonal c r (ltb-true _ _ z) e
+      go false z = let y : r ≤ c = ltb-false _ _ z in let d : c ≡ r = omega arith in rw d (up-to-diagonal r r (omega arith) (rw d at e))
 
   -- ---- the test
   pub tested-as : {w : ℕ} {t : Bool} (r c : ℕ) → w ≡ patternIn b r c → t ≡ finite (ofBits binary64 w) → finite (ofBits binary64 (patternIn b r c)) ≡ t
@@ -90,23 +97,44 @@ module _ (b : List ℕ) where
   unfolding codesIn
   codes-count = length-tabulate (orderIn b) _
 
-  pub code-at : (k : ℕ) → k < orderIn b → getD (codesIn b) k 0 ≡ getD b (2 + k) 0
+  pub code-at : (k : ℕ) → k < orderIn b → getD (codesIn b) k 0 ≡ codeIn (widthIn b) b k
   unfolding codesIn
   code-at k h = getD-tabulate (orderIn b) _ k 0 h
 
+  pub code-of-one : (k : ℕ) → getD b (2 + k) 0 ≡ codeIn 1 b k
+  unfolding codeIn wordFrom
+  code-of-one k = let e : 2 + 1 * k + 0 ≡ 2 + k = omega arith in rw e (omega arith)
+
+  pub code-of-two : (k : ℕ) → getD b (2 + 2 * k) 0 * 256 + getD b (3 + 2 * k) 0 ≡ codeIn 2 b k
+  unfolding codeIn wordFrom
+  code-of-two k =
+      let e : 2 + 2 * k + 0 ≡ 2 + 2 * k = omega arith in
+      let f : 2 + 2 * k + 1 ≡ 3 + 2 * k = omega arith in
+      rw (e, f) (omega arith)
+
+  -- ---- the test of the codes
+  module _ {codes : List ℕ} (read : codes ≡ codesIn b) where
+    pub codes-bad : true ≡ badCodes codes → true ≡ (badCodes (codesIn b) || longInVain b)
+    codes-bad e = rw (← read, ← e)
+
+    module _ {w : ℕ} (form : w ≡ widthIn b) (good : false ≡ badCodes codes) where
+      pub codes-short : w ≡ 1 → false ≡ (badCodes (codesIn b) || longInVain b)
+      unfolding longInVain
+      codes-short e = rw (← read, ← good, ← form, e)
+
+      pub codes-long : {t : Bool} → w ≡ 2 → t ≡ longCodes codes → not t ≡ (badCodes (codesIn b) || longInVain b)
+      unfolding longInVain
+      codes-long e f = rw (← read, ← good, ← form, e, ← f)
+
   -- ---- the whole of it
-  pub codes-read : (k : ℕ) (l : List ℕ) → Filled 0 (λ k. getD b (2 + k) 0) (orderIn b) k l → orderIn b ≤ k → l ≡ codesIn b
+  pub codes-read : {w n : ℕ} (k : ℕ) (l : List ℕ) → OfForm w n b → Filled 0 (codeIn w b) n k l → n ≤ k → l ≡ codesIn b
   unfolding codesIn
-  codes-read k l h o = filled-all k l h o
+  codes-read k l f h o = rw (← (f .0), ← (f .1)) (filled-all k l h o)
 
-  pub entries-read : (n k : ℕ) (l : List Float) → Filled nan (λ i. entryIn b (i / n + 1) (i % n + 1)) (n * n) k l → n * n ≤ k → l ≡ flat n (entryIn b)
-  unfolding flat
-  entries-read n k l h o = filled-all k l h o
-
-  pub all-read : {c : List ℕ} {m : List Float} → c ≡ codesIn b → m ≡ flat (orderIn b) (entryIn b)
-      → readOutcome (given (orderIn b, sweepsIn b)) c m ≡ contentOf b
+  pub all-read : {n : ℕ} {c : List ℕ} {m : List Float} → n ≡ orderIn b → c ≡ codesIn b → m ≡ flat n (entryIn b)
+      → readOutcome (given (n, sweepsIn b)) c m ≡ contentOf b
   unfolding contentOf
-  all-read e f = rw (e, f)
+  all-read h e f = rw (e, f, h)
 
 -- ---- a refused reading, and one that is not
 module _ (b c : List ℕ) (m : List Float) where

@@ -1,15 +1,16 @@
-// The reader of sheets (document 01, "A sheet").
+// The reader of sheets (document 01, "A sheet"; document 02 (i)).
 ghost use mathlib.Core.Path.{_≡_};
+ghost use mathlib.Core.Bool.{_||_};
 ghost use Prim.Native.Nat.{_+_, _*_, _≤_};
 ghost use lib.ListN.{length};
-ghost use lib.Ieee.{binary64, ofBits};
 ghost use Rattle.refusal.specs.Answers.{given, answered};
 ghost use Rattle.matrix.specs.Matrix.{flat};
-ghost use Rattle.sizes.specs.Sizes.{largestOrder};
-ghost use Rattle.sheet.specs.Format.{sheetLength, orderIn, codesIn, wordFrom, patternIn, entryIn};
-ghost use Rattle.sheet_reader.specs.Reader.{storedRow, readAnswer, readOutcome, readingAnswered, contentOf, readOf};
+ghost use Rattle.sheet.specs.Format.{codeIn, codesIn, wordFrom, entryIn};
+ghost use Rattle.sheet.specs.Codes.{badCodes};
+ghost use Rattle.sheet_reader.specs.Reader.{OfForm, storedRow, longInVain, readAnswer, readOutcome, readingAnswered, contentOf, readOf};
 use refusal::Answer;
 use refusal::Refusal;
+use sizes::LARGEST_ORDER;
 
 // What a reader answers: the order and the sweeps, or a refusal.
 pub enum Reading {
@@ -18,7 +19,7 @@ pub enum Reading {
 }
 
 // Reads a sheet into lent codes and a lent matrix.
-pub fn read(sheet: &[u8], codes: &mut [u8], matrix: &mut [f64]) -> Reading
+pub fn read(sheet: &[u8], codes: &mut [u16], matrix: &mut [f64]) -> Reading
     ensures { λ r. ⌜ readOutcome (readingAnswered r) (now (codes .exit)) (now (matrix .exit))
         ≡ readOf (now (sheet .entry)) (now (codes .entry)) (now (matrix .entry)) ⌝ }
 {
@@ -35,7 +36,7 @@ fn verdict(sheet: &[u8], codes: usize, matrix: usize) -> Answer
     if sheet.len() < 2 {
         return Answer::Refused(Refusal::Length);
     }
-    let n = sheet[0] as usize;
+    let n = sheet::order_in(sheet);
     match sizes::tested(n, sheet[1] as usize) {
         Answer::Accepted => {}
         Answer::Refused(refused) => {
@@ -48,38 +49,57 @@ fn verdict(sheet: &[u8], codes: usize, matrix: usize) -> Answer
     if matrix != n * n {
         return Answer::Refused(Refusal::Length);
     }
-    if sheet.len() != sheet::length_of(n) {
+    let width = sheet::width_in(sheet);
+    if sheet.len() != sheet::length_of(width, n) {
         return Answer::Refused(Refusal::Length);
     }
-    if sheet::has_bad_code(sheet, 2, n) {
+    if has_refused_code(width, n, sheet) {
         return Answer::Refused(Refusal::Code);
     }
-    first_not_finite(n, sheet)
+    first_not_finite(width, n, sheet)
+}
+
+// Whether a code of a sheet is zero or used before, or the sheet has the long form in vain.
+fn has_refused_code(width: usize, n: usize, sheet: &[u8]) -> bool
+    requires { ⌜ OfForm width n (now sheet) ⌝ }
+    ensures { λ r. ⌜ r ≡ (badCodes (codesIn (now (sheet .entry))) || longInVain (now (sheet .entry))) ⌝ }
+{
+    let mut codes = [0u16; LARGEST_ORDER];
+    refuses_codes(width, n, sheet, &mut codes[..n])
+}
+
+// The same, by way of codes that are lent.
+fn refuses_codes(width: usize, n: usize, sheet: &[u8], codes: &mut [u16]) -> bool
+    requires { ⌜ OfForm width n (now sheet) × (length (now codes) ≡ n) ⌝ }
+    ensures { λ r. ⌜ r ≡ (badCodes (codesIn (now (sheet .entry))) || longInVain (now (sheet .entry))) ⌝ }
+{
+    read_codes(width, n, sheet, codes);
+    if sheet::has_bad_code(codes) {
+        return true;
+    }
+    if width == 1 {
+        return false;
+    }
+    !sheet::has_long_code(codes)
 }
 
 // The first stored entry that is not finite, by its pattern.
-fn first_not_finite(n: usize, sheet: &[u8]) -> Answer
-    requires { ⌜ (n ≡ orderIn (now sheet)) × (n ≤ largestOrder) × (length (now sheet) ≡ sheetLength n) ⌝ }
+fn first_not_finite(width: usize, n: usize, sheet: &[u8]) -> Answer
+    requires { ⌜ OfForm width n (now sheet) ⌝ }
     ensures { λ r. ⌜ answered r ≡ storedRow (now (sheet .entry)) ⌝ }
 {
     let mut found = Answer::Accepted;
+    let mut offset = 2 + width * n;
     'rows: for i in 0..n {
         for j in 0..i + 1 {
-            if !float64::is_finite_pattern(pattern(n, i + 1, j + 1, sheet)) {
+            if !float64::is_finite_pattern(word_at(sheet, offset)) {
                 found = Answer::Refused(Refusal::NotFinite(i + 1, j + 1));
                 break 'rows;
             }
+            offset += 8;
         }
     }
     found
-}
-
-// The pattern of the stored entry in row r and column c, for c up to r.
-fn pattern(n: usize, r: usize, c: usize, sheet: &[u8]) -> u64
-    requires { ⌜ (n ≡ orderIn (now sheet)) × (n ≤ largestOrder) × (length (now sheet) ≡ sheetLength n) × (1 ≤ c) × (c ≤ r) × (r ≤ n) ⌝ }
-    ensures { λ x. ⌜ x ≡ patternIn (now (sheet .entry)) r c ⌝ }
-{
-    word_at(sheet, 2 + n + 8 * (r * (r - 1) / 2 + (c - 1)))
 }
 
 // The word of the 8 bytes from `at` on, the highest first.
@@ -95,41 +115,49 @@ fn word_at(bytes: &[u8], at: usize) -> u64
 }
 
 // Reads a sheet that is not refused.
-fn read_accepted(sheet: &[u8], codes: &mut [u8], matrix: &mut [f64]) -> Reading
+fn read_accepted(sheet: &[u8], codes: &mut [u16], matrix: &mut [f64]) -> Reading
     requires { ⌜ readAnswer (now sheet) (length (now codes)) (length (now matrix)) ≡ given tt ⌝ }
     ensures { λ r. ⌜ readOutcome (readingAnswered r) (now (codes .exit)) (now (matrix .exit)) ≡ contentOf (now (sheet .entry)) ⌝ }
 {
-    let n = sheet[0] as usize;
-    read_codes(sheet, codes);
-    read_entries(n, sheet, matrix);
+    let n = sheet::order_in(sheet);
+    let width = sheet::width_in(sheet);
+    read_codes(width, n, sheet, codes);
+    read_entries(width, n, sheet, matrix);
     Reading::Read(n, sheet[1] as usize)
 }
 
-fn read_codes(sheet: &[u8], codes: &mut [u8])
-    requires { ⌜ (length (now codes) ≡ orderIn (now sheet)) × (2 + orderIn (now sheet) ≤ length (now sheet)) ⌝ }
+fn read_codes(width: usize, n: usize, sheet: &[u8], codes: &mut [u16])
+    requires { ⌜ OfForm width n (now sheet) × (length (now codes) ≡ n) ⌝ }
     ensures { λ _. ⌜ now (codes .exit) ≡ codesIn (now (sheet .entry)) ⌝ }
 {
-    for k in 0..codes.len() {
-        codes[k] = sheet[2 + k];
+    for k in 0..n {
+        codes[k] = code_at(width, k, sheet);
     }
 }
 
-fn read_entries(n: usize, sheet: &[u8], matrix: &mut [f64])
-    requires { ⌜ (n ≡ orderIn (now sheet)) × (n ≤ largestOrder) × (length (now sheet) ≡ sheetLength n) × (length (now matrix) ≡ n * n) ⌝ }
+// Code k of a sheet, from 0.
+fn code_at(width: usize, k: usize, sheet: &[u8]) -> u16
+    requires { ⌜ (1 ≤ width) × (width ≤ 2) × (2 + width * k + width ≤ length (now sheet)) ⌝ }
+    ensures { λ r. ⌜ r ≡ codeIn width (now (sheet .entry)) k ⌝ }
+{
+    if width == 1 {
+        return sheet[2 + k] as u16;
+    }
+    sheet[2 + 2 * k] as u16 * 256 + sheet[3 + 2 * k] as u16
+}
+
+// Each stored entry goes to its place and to the mirror place.
+fn read_entries(width: usize, n: usize, sheet: &[u8], matrix: &mut [f64])
+    requires { ⌜ OfForm width n (now sheet) × (length (now matrix) ≡ n * n) ⌝ }
     ensures { λ _. ⌜ now (matrix .exit) ≡ flat n (entryIn (now (sheet .entry))) ⌝ }
 {
-    for k in 0..matrix.len() {
-        matrix[k] = float64::from_bits(mirrored(n, k / n + 1, k % n + 1, sheet));
+    let mut offset = 2 + width * n;
+    for i in 0..n {
+        for j in 0..i + 1 {
+            let x = float64::from_bits(word_at(sheet, offset));
+            matrix[i * n + j] = x;
+            matrix[j * n + i] = x;
+            offset += 8;
+        }
     }
-}
-
-// The pattern in row r and column c: above the diagonal that of the mirror entry.
-fn mirrored(n: usize, r: usize, c: usize, sheet: &[u8]) -> u64
-    requires { ⌜ (n ≡ orderIn (now sheet)) × (n ≤ largestOrder) × (length (now sheet) ≡ sheetLength n) × (1 ≤ r) × (r ≤ n) × (1 ≤ c) × (c ≤ n) ⌝ }
-    ensures { λ x. ⌜ ofBits binary64 x ≡ entryIn (now (sheet .entry)) r c ⌝ }
-{
-    if r < c {
-        return pattern(n, c, r, sheet);
-    }
-    pattern(n, r, c, sheet)
 }

@@ -13,17 +13,17 @@ use Rattle.refusal.proofs.FirstRefusal.{refused-given, both-given, row-given, t
 use Rattle.sizes.specs.Sizes.{isOrder, mostSweeps, sizesAnswer}
 use Rattle.sizes.proofs.Orders.{sizes-fine, sizes-given, sizes-first}
 use Rattle.matrix.specs.Entries.{isSquare, finiteRow, mirrorRow, entriesOf}
-use Rattle.sheet.specs.Format.{sheetLength}
+use Rattle.sheet.specs.Format.{lengthFor}
 use Rattle.sheet.specs.Codes.{badCodes}
 use Rattle.sheet_writer.specs.Writer.{writeAnswer}
 
 module _ (n sweeps : ℕ) (codes : List ℕ) (l : List Float) (lb : ℕ) where
   -- the last row, and the rows from the codes and from the lengths on
   abbrev roomRows : List (Answered Unit)
-  roomRows = row (ltb lb (sheetLength n)) TooShort ∷ []
+  roomRows = row (ltb lb (lengthFor n codes)) TooShort ∷ []
 
   abbrev codeRows : List (Answered Unit)
-  codeRows = row (badCodes codes 0 n) Code ∷ finiteRow n l ∷ mirrorRow n l ∷ roomRows
+  codeRows = row (badCodes codes) Code ∷ finiteRow n l ∷ mirrorRow n l ∷ roomRows
 
   abbrev lengthRows : List (Answered Unit)
   lengthRows = row (not (eqb (length codes) n && isSquare n (length l))) Length ∷ codeRows
@@ -56,21 +56,21 @@ module _ (n sweeps : ℕ) (codes : List ℕ) (l : List Float) (lb : ℕ) where
         by-codes : {a : Answered Unit} → a ≡ table codeRows → a ≡ writeAnswer n sweeps codes l lb
         by-codes z = by-lengths (rw (eq-eqb (length codes) n codes-long, eq-eqb (length l) (n * n) matrix-long) z)
 
-        pub write-4 : badCodes codes 0 n ≡ true → refusedBy Code ≡ writeAnswer n sweeps codes l lb
+        pub write-4 : badCodes codes ≡ true → refusedBy Code ≡ writeAnswer n sweeps codes l lb
         write-4 e = by-codes (rw e)
 
-        module _ (good : badCodes codes 0 n ≡ false) where
+        module _ (good : badCodes codes ≡ false) where
           by-entries : {a : Answered Unit} → a ≡ orElse (entriesOf n l) (table roomRows) → a ≡ writeAnswer n sweeps codes l lb
           by-entries z = by-codes (rw good (z ∙ entries-first matrix-long))
 
           pub write-5-6 : {k : ℕ} {values : List ℕ} → refused k values ≡ entriesOf n l → refused k values ≡ writeAnswer n sweeps codes l lb
           write-5-6 e = by-entries (rw (← e))
 
-          pub write-7 : given tt ≡ entriesOf n l → lb < sheetLength n → refusedBy TooShort ≡ writeAnswer n sweeps codes l lb
-          write-7 e h = by-entries (rw (← e, lt-ltb lb (sheetLength n) h))
+          pub write-7 : given tt ≡ entriesOf n l → lb < lengthFor n codes → refusedBy TooShort ≡ writeAnswer n sweeps codes l lb
+          write-7 e h = by-entries (rw (← e, lt-ltb lb (lengthFor n codes) h))
 
-          pub write-all : given tt ≡ entriesOf n l → sheetLength n ≤ lb → given tt ≡ writeAnswer n sweeps codes l lb
-          write-all e h = by-entries (rw (← e, le-ltb lb (sheetLength n) h))
+          pub write-all : given tt ≡ entriesOf n l → lengthFor n codes ≤ lb → given tt ≡ writeAnswer n sweeps codes l lb
+          write-all e h = by-entries (rw (← e, le-ltb lb (lengthFor n codes) h))
 
 -- what is known of a sheet that is written
 pub record Writable (n sweeps : ℕ) (codes : List ℕ) (l : List Float) (lb : ℕ) : Type 0 where
@@ -78,9 +78,9 @@ pub record Writable (n sweeps : ℕ) (codes : List ℕ) (l : List Float) (lb : �
   pub few : sweeps ≤ mostSweeps
   pub codes-long : length codes ≡ n
   pub matrix-long : length l ≡ n * n
-  pub codes-good : badCodes codes 0 n ≡ false
+  pub codes-good : badCodes codes ≡ false
   pub entries-good : entriesOf n l ≡ given tt
-  pub room : sheetLength n ≤ lb
+  pub room : lengthFor n codes ≤ lb
 
 both-long : (p q : Bool) → row (not (p && q)) Length ≡ given tt → (p ≡ true) × (q ≡ true)
 both-long false q e = refused-given e
@@ -94,7 +94,7 @@ writable n sweeps codes l lb e =
     let lengths = both-given _ (table (codeRows n sweeps codes l lb)) (below .1) in
     let long = both-long (eqb (length codes) n) (isSquare n (length l)) (lengths .0) in
     let square = eqb-true (length l) (n * n) (long .1) in
-    let content = both-given (row (badCodes codes 0 n) Code) _ (lengths .1) in
+    let content = both-given (row (badCodes codes) Code) _ (lengths .1) in
     let entries = both-given (entriesOf n l) (table (roomRows n sweeps codes l lb)) (entries-first n sweeps codes l lb square ∙ content .1) in
     record {
       order = sizes .0;
@@ -103,5 +103,5 @@ writable n sweeps codes l lb e =
       matrix-long = square;
       codes-good = row-given _ Code (content .0);
       entries-good = entries .0;
-      room = ltb-false _ _ (row-given _ TooShort (both-given (row (ltb lb (sheetLength n)) TooShort) (given tt) (entries .1) .0));
+      room = ltb-false _ _ (row-given _ TooShort (both-given (row (ltb lb (lengthFor n codes)) TooShort) (given tt) (entries .1) .0));
     }

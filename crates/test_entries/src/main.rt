@@ -176,7 +176,7 @@ fn write_sheets() -> bool {
 }
 
 fn write_reading(bytes: &[u8]) -> bool {
-    let mut codes = [9; 2];
+    let mut codes = [9u16; 2];
     let mut matrix = [9.0; 4];
     let reading = sheet_reader::read(bytes, &mut codes, &mut matrix);
     write_sizes(reading) && write_codes(codes) && values::print_values(&matrix)
@@ -192,7 +192,7 @@ fn write_sizes(reading: Reading) -> bool {
     }
 }
 
-fn write_codes(codes: [u8; 2]) -> bool {
+fn write_codes(codes: [u16; 2]) -> bool {
     test_io::print_number(b"code", codes[0] as u64)
         && test_io::print_number(b"code", codes[1] as u64)
 }

@@ -1,19 +1,21 @@
 // The buffers that calls are lent parts of.
 use crate::calls;
 use crate::calls::Call;
+use crate::codes;
 use test_io::runs::LIMIT;
 
-const SHEET: usize = 4800;
+const SHEET: usize = 4900;
 
 const CODES: usize = 40;
 
-// Lends a call the first parts of filled buffers. A length above that of its buffer ends the program.
+// Lends a call the first parts of buffers: bytes and codes are filled with the lowest bits of a word. A length above that of its buffer ends
+// the program.
 pub fn lend(
     call: Call,
     sheet_size: usize,
     codes_size: usize,
     matrix_size: usize,
-    byte: u8,
+    fill: u64,
     value: f64,
 ) -> bool {
     if sheet_size > SHEET {
@@ -25,8 +27,10 @@ pub fn lend(
     if matrix_size > LIMIT {
         return false;
     }
+    let byte = (fill % 256) as u8;
+    let code = codes::code_in(fill);
     let mut sheet = [byte; SHEET];
-    let mut codes = [byte; CODES];
+    let mut codes = [code; CODES];
     let mut matrix = [value; LIMIT];
     calls::answer(
         call,

@@ -1,6 +1,9 @@
 // The calls: what they take is read into the lent buffers, and then what they answer and give is written.
+use crate::codes::print_codes;
+use crate::codes::read_codes;
 use crate::packed;
 use sheet_reader::Reading;
+use sheet_writer::Writing;
 use test_io::refusals;
 use test_io::values;
 
@@ -10,7 +13,7 @@ pub enum Call {
     Write(usize, usize),
 }
 
-pub fn answer(call: Call, sheet: &mut [u8], codes: &mut [u8], matrix: &mut [f64]) -> bool {
+pub fn answer(call: Call, sheet: &mut [u8], codes: &mut [u16], matrix: &mut [f64]) -> bool {
     match call {
         Call::Read => answer_read(sheet, codes, matrix),
         Call::Write(n, sweeps) => answer_write(n, sweeps, codes, matrix, sheet),
@@ -19,12 +22,12 @@ pub fn answer(call: Call, sheet: &mut [u8], codes: &mut [u8], matrix: &mut [f64]
 
 // Reads a sheet, and writes the order and the sweeps, or the refusal, and in both cases the codes and the
 // matrix.
-fn answer_read(sheet: &mut [u8], codes: &mut [u8], matrix: &mut [f64]) -> bool {
+fn answer_read(sheet: &mut [u8], codes: &mut [u16], matrix: &mut [f64]) -> bool {
     if !packed::read_bytes(sheet) {
         return false;
     }
     let reading = sheet_reader::read(sheet, codes, matrix);
-    print_reading(reading) && packed::print_bytes(codes) && values::print_values(matrix)
+    print_reading(reading) && print_codes(codes) && values::print_values(matrix)
 }
 
 fn print_reading(reading: Reading) -> bool {
@@ -36,20 +39,28 @@ fn print_reading(reading: Reading) -> bool {
     }
 }
 
-// Reads codes and a matrix, and writes the refusal, if there is one, and in both cases the sheet.
+// Reads codes and a matrix, and writes how many bytes are written, or the refusal, and in both cases the
+// sheet.
 fn answer_write(
     n: usize,
     sweeps: usize,
-    codes: &mut [u8],
+    codes: &mut [u16],
     matrix: &mut [f64],
     sheet: &mut [u8],
 ) -> bool {
-    if !packed::read_bytes(codes) {
+    if !read_codes(codes) {
         return false;
     }
     if !values::read_values(matrix) {
         return false;
     }
-    let answer = sheet_writer::write(n, sweeps, codes, matrix, sheet);
-    refusals::print_answer(answer) && packed::print_bytes(sheet)
+    let writing = sheet_writer::write(n, sweeps, codes, matrix, sheet);
+    print_writing(writing) && packed::print_bytes(sheet)
+}
+
+fn print_writing(writing: Writing) -> bool {
+    match writing {
+        Writing::Written(count) => test_io::print_word(count as u64),
+        Writing::Refused(refused) => refusals::print_refusal(refused),
+    }
 }

@@ -6,6 +6,7 @@ use test_io::TextLine;
 
 mod buffers;
 mod calls;
+mod codes;
 mod packed;
 
 // A proved loop has to end, so it counts its turns down, from a number that no run uses up.
@@ -39,7 +40,7 @@ fn answer_reading() -> bool {
     let TextLine::Word(matrix) = test_io::read_word() else {
         return false;
     };
-    let TextLine::Word(byte) = test_io::read_word() else {
+    let TextLine::Word(fill) = test_io::read_word() else {
         return false;
     };
     let TextLine::Word(pattern) = test_io::read_word() else {
@@ -50,7 +51,7 @@ fn answer_reading() -> bool {
         sheet as usize,
         codes as usize,
         matrix as usize,
-        (byte % 256) as u8,
+        fill,
         float64::from_bits(pattern),
     )
 }
@@ -73,7 +74,7 @@ fn answer_writing() -> bool {
     let TextLine::Word(sheet) = test_io::read_word() else {
         return false;
     };
-    let TextLine::Word(byte) = test_io::read_word() else {
+    let TextLine::Word(fill) = test_io::read_word() else {
         return false;
     };
     buffers::lend(
@@ -81,7 +82,7 @@ fn answer_writing() -> bool {
         sheet as usize,
         codes as usize,
         matrix as usize,
-        (byte % 256) as u8,
+        fill,
         0.0,
     )
 }

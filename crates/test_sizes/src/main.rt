@@ -1,5 +1,6 @@
 // Writes the sizes that include/weimrukas.h has too: the limits, the words of an array, the longest sheet and listing, and for each number up
-// to the largest order the length of its sheet and the room for its listing. tools/compare_header writes the expected output, from the header.
+// to the largest order the length of its sheet in the short and in the long form and the room for its listing. tools/compare_header writes
+// the expected output, from the header.
 use sizes::LARGEST_ORDER;
 use sizes::MOST_PROCESSORS;
 use sizes::MOST_SWEEPS;
@@ -21,7 +22,8 @@ fn print_limits() -> bool {
 
 fn print_lengths() {
     for k in 0..LARGEST_ORDER {
-        test_io::print_number(b"sheet", sheet::length_of(k + 1) as u64);
+        test_io::print_number(b"sheet", sheet::length_of(1, k + 1) as u64);
+        test_io::print_number(b"long sheet", sheet::length_of(2, k + 1) as u64);
         test_io::print_number(b"text", listing_text::room_for(k + 1) as u64);
     }
 }

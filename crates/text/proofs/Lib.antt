@@ -1,1 +1,2 @@
 pub mod TextPieces
+pub mod Decimals

@@ -49,10 +49,10 @@ pub shown : (u n : ℕ) → u ≤ n → codeOf (n / u % 10) ∷ [] ≡ shownFrom
 unfolding shownFrom
 shown u n h = rw (le-ltb n u h)
 
-pub decimal-put : {l₀ l₁ l₂ l₃ l₄ : List ℕ} {at a b c d : ℕ} (n : ℕ) → Put l₀ at (shownFrom 1000 n) l₁ a → Put l₁ a (shownFrom 100 n) l₂ b
-    → Put l₂ b (shownFrom 10 n) l₃ c → Put l₃ c (codeOf (n % 10) ∷ []) l₄ d → Put l₀ at (decimalOf n) l₄ d
+pub decimal-put : {l₀ l₁ l₂ l₃ l₄ l₅ : List ℕ} {at a b c d e : ℕ} (n : ℕ) → Put l₀ at (shownFrom 10000 n) l₁ a → Put l₁ a (shownFrom 1000 n) l₂ b
+    → Put l₂ b (shownFrom 100 n) l₃ c → Put l₃ c (shownFrom 10 n) l₄ d → Put l₄ d (codeOf (n % 10) ∷ []) l₅ e → Put l₀ at (decimalOf n) l₅ e
 unfolding decimalOf
-decimal-put n p q r s = put-then p (put-then q (put-then r s))
+decimal-put n p q r s t = put-then p (put-then q (put-then r (put-then s t)))
 
 -- ---- hexadecimal digits, from the last: k of them are still to be put, those of the rest
 from-set : (l : List ℕ) (i a : ℕ) → i < length l → drop i (set l i a) ≡ a ∷ drop (suc i) l

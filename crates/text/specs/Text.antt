@@ -14,9 +14,9 @@ codeOf d = cond (ltb d 10) (48 + d) (55 + d)
 unfoldable pub shownFrom : ℕ → ℕ → List ℕ
 shownFrom u n = cond (ltb n u) [] (codeOf (n / u % 10) ∷ [])
 
--- A number below 10,000 in decimal, without zeros in front.
+-- A number below 100,000 in decimal, without zeros in front.
 unfoldable pub decimalOf : ℕ → List ℕ
-decimalOf n = shownFrom 1000 n ++ (shownFrom 100 n ++ (shownFrom 10 n ++ (codeOf (n % 10) ∷ [])))
+decimalOf n = shownFrom 10000 n ++ (shownFrom 1000 n ++ (shownFrom 100 n ++ (shownFrom 10 n ++ (codeOf (n % 10) ∷ []))))
 
 -- The last k hexadecimal digits of w.
 unfoldable pub hexOf : ℕ → ℕ → List ℕ

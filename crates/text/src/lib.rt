@@ -27,9 +27,8 @@ fn code(digit: u64) -> u8
 
 // The digit of n at a unit, and nothing where n is below it.
 fn put_shown(unit: u64, n: u64, at: usize, text: &mut [u8]) -> usize
-    requires { ⌜ (0 < unit) × (at < length (now text)) ⌝ }
+    requires { ⌜ (0 < unit) × (at + length (shownFrom unit n) ≤ length (now text)) ⌝ }
     ensures { λ r. ⌜ Put (now (text .entry)) at (shownFrom unit n) (now (text .exit)) r ⌝ }
-    ensures { λ r. ⌜ r ≤ at + 1 ⌝ }
 {
     if n < unit {
         return at;
@@ -37,13 +36,13 @@ fn put_shown(unit: u64, n: u64, at: usize, text: &mut [u8]) -> usize
     put(code(n / unit % 10), at, text)
 }
 
-// A number below 10,000 in decimal.
+// A number below 100,000 in decimal.
 pub fn put_decimal(n: u64, at: usize, text: &mut [u8]) -> usize
-    requires { ⌜ at + 4 ≤ length (now text) ⌝ }
+    requires { ⌜ at + length (decimalOf n) ≤ length (now text) ⌝ }
     ensures { λ r. ⌜ Put (now (text .entry)) at (decimalOf n) (now (text .exit)) r ⌝ }
-    ensures { λ r. ⌜ r ≤ at + 4 ⌝ }
 {
-    let thousands = put_shown(1000, n, at, text);
+    let ten_thousands = put_shown(10000, n, at, text);
+    let thousands = put_shown(1000, n, ten_thousands, text);
     let hundreds = put_shown(100, n, thousands, text);
     let tens = put_shown(10, n, hundreds, text);
     put(code(n % 10), tens, text)

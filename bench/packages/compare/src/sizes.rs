@@ -16,7 +16,8 @@ pub fn compare(_: &mut Random) -> bool {
         tally.count("alone", one == other);
     }
     for n in (2..=sizes::MOST_LINES).step_by(2) {
-        let same_sheet = weimrukas::sheet_length(n) == sizes::sheet_length(n);
+        let same_sheet = weimrukas::sheet_length(n) == sizes::sheet_length(n)
+            && weimrukas::long_sheet_length(n) == sizes::long_sheet_length(n);
         let same_text = weimrukas::text_length(n) == sizes::text_length(n);
         tally.count("of an order", same_sheet && same_text);
     }

@@ -19,10 +19,11 @@ pub fn compare(random: &mut Random) -> bool {
         compare_step(&Lent::any(k, random), random, &mut tally);
         compare_runs(Lent::any(k, random), &mut tally);
         compare_by_hand(&Lent::any(k, random), &mut tally);
-        let sheet = draw::sheet(k, random);
+        let form = random.form();
+        let sheet = draw::sheet(k, form, random);
         compare_read(&sheet, random, &mut tally);
         compare_list(&sheet, random, &mut tally);
-        compare_write(Contents::any(k, random), &mut tally);
+        compare_write(Contents::any(k, form, random), &mut tally);
     }
     tally.report()
 }

@@ -1,23 +1,28 @@
-//! Reading and writing sheets.
+//! Reading and writing sheets of both forms.
 use crate::orders::{self, Call};
 use crate::runs::SWEEPS;
 use draw::{Contents, Lent, Random};
-
-use reference::sheet;
+use reference::sheet::{self, Form};
 
 const SHEETS: usize = 64;
 
 pub fn measure(random: &mut Random) {
     let calls: [Call<Contents>; 4] = [library_read, reference_read, library_write, reference_write];
-    orders::measure(["read sheet", "write sheet"], calls, |n| {
-        (0..SHEETS).map(|_| drawn(n, random)).collect()
-    });
+    let forms = [
+        (Form::Short, ["read short sheet", "write short sheet"]),
+        (Form::Long, ["read long sheet", "write long sheet"]),
+    ];
+    for (form, names) in forms {
+        orders::measure(names, calls, |n| {
+            (0..SHEETS).map(|_| drawn(n, form, random)).collect()
+        });
+    }
 }
 
 /// Contents, and their sheet.
-fn drawn(n: usize, random: &mut Random) -> Contents {
+fn drawn(n: usize, form: Form, random: &mut Random) -> Contents {
     let lent = Lent::drawn(n, SWEEPS, random, Random::unit);
-    let mut contents = Contents::of_run(lent, random);
+    let mut contents = Contents::of_run(lent, form, random);
     assert!(reference_write(&mut contents), "the contents are valid");
     contents
 }

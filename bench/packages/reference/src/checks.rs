@@ -1,4 +1,5 @@
 //! What is tested before a call does anything (document 01, "Refused, by place").
+use crate::sheet::Form;
 use crate::sizes::{MOST_LINES, MOST_SWEEPS};
 use crate::Refusal;
 
@@ -15,9 +16,14 @@ pub fn lengths(pairs: &[(usize, usize)]) -> Result<(), Refusal> {
     accepted_if(pairs.iter().all(|(found, asked)| found == asked), 3)
 }
 
-pub fn codes(codes: &[u8]) -> Result<(), Refusal> {
-    let is_bad = |(k, code): (usize, &u8)| *code == 0 || codes[..k].contains(code);
+pub fn codes(codes: &[u16]) -> Result<(), Refusal> {
+    let is_bad = |(k, code): (usize, &u16)| *code == 0 || codes[..k].contains(code);
     accepted_if(!codes.iter().enumerate().any(is_bad), 4)
+}
+
+/// The form that codes were found in beside the one that they are written in.
+pub fn form(found: Form, written: Form) -> Result<(), Refusal> {
+    accepted_if(found == written, 4)
 }
 
 /// All entries are tested for 5 before any for 6.

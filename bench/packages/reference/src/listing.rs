@@ -12,7 +12,7 @@ pub fn list(sheet: &[u8], text: &mut [u8]) -> Result<usize, Refusal> {
 }
 
 fn printed(bytes: &[u8], room: usize) -> Result<String, Refusal> {
-    let n = sheet::order_in(bytes);
+    let (_, n) = sheet::head_in(bytes);
     let (mut codes, mut matrix) = (vec![0; n], vec![0.0; n * n]);
     let (n, sweeps) = sheet::read(bytes, &mut codes, &mut matrix)?;
     checks::room(room, text_length(n))?;

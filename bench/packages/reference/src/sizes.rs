@@ -11,14 +11,19 @@ pub const HEAD_WORDS: usize = 3;
 pub const TILE_WORDS: usize = 19;
 pub const ARRAY_WORDS: usize = HEAD_WORDS + MOST_TILES * MOST_TILES * TILE_WORDS;
 
-/// The length of a sheet of order n.
+/// The length of a sheet of order n whose codes have one byte each.
 pub const fn sheet_length(n: usize) -> usize {
     2 + n + 4 * n * (n + 1)
 }
 
+/// The length of a sheet of order n whose codes have two bytes each.
+pub const fn long_sheet_length(n: usize) -> usize {
+    2 + 2 * n + 4 * n * (n + 1)
+}
+
 /// Bytes that are enough for the listing of a sheet of order n.
 pub const fn text_length(n: usize) -> usize {
-    15 + n * (22 + 17 * n)
+    15 + n * (23 + 17 * n)
 }
 
 /// Where the tile in row i and column j, both from 0, begins in the words of an array.

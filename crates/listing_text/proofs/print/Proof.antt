@@ -3,6 +3,7 @@ use mathlib.Core.Bool.{true}
 use native.Mathlib.Omega.{arith}
 use borrow.Author.Tests.{not-true, not-false}
 use lib.ListN.{length}
+use Rattle.sizes.proofs.Orders.{order-is}
 use Rattle.listing_text.specs.Printed.{printable}
 use Rattle.listing_text.proofs.Pieces.{Sizes, sizes, not-printed, printed}
 use borrow.Author.Needs.{needs}
@@ -18,7 +19,7 @@ passed : (c : tie.Else1) → let a = at-start c .args in
 passed c = sym (c .before .is-printable .ensures) ∙ not-false _ (c .if1 .left)
 
 fine : (c : tie.Else1) → let a = at-start c .args in
-    Sizes (a .n) (length (a .codes .now)) (length (a .matrix .now)) (length (a .vectors .now)) (length (a .out .now))
+    Sizes (a .n) (a .sweeps) (a .ticks) (length (a .codes .now)) (length (a .matrix .now)) (length (a .vectors .now)) (length (a .out .now))
 fine c = sizes _ _ _ _ _ _ _ (passed c)
 
 is-printable-requires : tie.Need-is-printable-requires
@@ -28,7 +29,9 @@ returns : tie.Need-returns
 returns c = not-printed _ _ _ _ _ _ _ (sym (c .before .is-printable .ensures) ∙ not-true _ (c .if1 .taken))
 
 put-head-requires : tie.Need-put-head-requires
-put-head-requires c κs = let z = fine (c .before) in omega (arith, z .enough)
+put-head-requires c κs =
+    let z = fine (c .before) in
+    (omega (arith, order-is _ (z .order) .2), z .few-sweeps, z .few-ticks, omega (arith, z .enough))
 
 put-text-lines-requires : tie.Need-put-text-lines-requires
 put-text-lines-requires c κs =

@@ -28,6 +28,9 @@ loop-holds c = (omega arith, omega arith, omega arith, text-lines-none _ _ _ _ _
 add-put-text-line : tie.Need-add-put-text-line Inv-loop μ-loop
 add-put-text-line c = omega arith
 
+mul-put-text-line : tie.Need-mul-put-text-line Inv-loop μ-loop
+mul-put-text-line c = omega arith
+
 shared-slice-read-put-text-line : tie.Need-shared-slice-read-put-text-line Inv-loop μ-loop
 shared-slice-read-put-text-line c = omega arith
 
@@ -68,6 +71,7 @@ put-text-lines-spec =
     μ-loop
     loop-holds
     add-put-text-line
+    mul-put-text-line
     shared-slice-read-put-text-line
     put-text-line-requires
     add-k

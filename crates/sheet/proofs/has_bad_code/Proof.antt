@@ -2,7 +2,7 @@ use Prim.Native.Nat.{_-_, _≤_}
 use mathlib.Core.Path.{_≡_, sym, _∙_}
 use mathlib.Core.Bool.{false}
 use native.Mathlib.Omega.{arith}
-use borrow.Author.Needs.{needs}
+use lib.ListN.{length}
 use Rattle.lists.specs.Bounded.{any}
 use Rattle.lists.proofs.Bounded.{any-none, any-more}
 use Rattle.sheet.specs.Codes.{badCode}
@@ -10,21 +10,21 @@ use Rattle.sheet.proofs.BadCodes.{one-bad, none-bad}
 use Rattle.sheet.proofs.has_bad_code.Statement.{statement}
 use Rattle.sheet.proofs.has_bad_code.Tie as tie
 
--- None of the first k codes is bad; n - k are left.
+-- None of the first k codes is bad; the other codes are left.
 abbrev Inv-loop : tie.InvT-loop
-Inv-loop bytes first n k₀ k = (k ≤ n) × (any k (badCode bytes first) ≡ false)
+Inv-loop codes k₀ k-end k = (k ≤ length codes) × (any k (badCode codes) ≡ false)
 
 abbrev μ-loop : tie.MeasureT-loop
-μ-loop bytes first n k₀ k = n - k
+μ-loop codes k₀ k-end k = length codes - k
 
 loop-holds : tie.Need-loop-holds Inv-loop μ-loop
 loop-holds c = (omega arith, any-none _)
 
 is-bad-requires : tie.Need-is-bad-requires Inv-loop μ-loop
-is-bad-requires c κs = search needs
+is-bad-requires c κs = omega arith
 
 returns : tie.Need-returns Inv-loop μ-loop
-returns c = one-bad _ _ _ _ (omega arith) (sym (c .before .is-bad .ensures) ∙ c .if1 .taken)
+returns c = one-bad _ _ (omega arith) (sym (c .before .is-bad .ensures) ∙ c .if1 .taken)
 
 add-k : tie.Need-add-k Inv-loop μ-loop
 add-k c = omega arith
@@ -38,7 +38,7 @@ loop-again c =
     (omega arith, any-more _ _ (at-loop .loop .inv .1) (sym (c .before .is-bad .ensures) ∙ c .if1 .left))
 
 returns-2 : tie.Need-returns-2 Inv-loop μ-loop
-returns-2 c = none-bad _ _ _ _ (c .before .loop .inv .1) (omega arith)
+returns-2 c = none-bad _ _ (c .before .loop .inv .1) (omega arith)
 
 pub has-bad-code-spec : {M : Type 1} → statement M
 has-bad-code-spec =

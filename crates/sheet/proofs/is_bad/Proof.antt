@@ -1,8 +1,7 @@
 use Prim.Native.Nat.{_-_, _≤_}
-use mathlib.Core.Path.{_≡_, sym, _∙_}
+use mathlib.Core.Path.{_≡_}
 use mathlib.Core.Bool.{false}
 use native.Mathlib.Omega.{arith}
-use borrow.Author.Needs.{needs}
 use borrow.Author.Tests.{ne-eqb}
 use Rattle.lists.proofs.Bounded.{any-none, any-more}
 use Rattle.sheet.proofs.BadCodes.{usedBefore, code-zero, code-used, code-new}
@@ -11,28 +10,33 @@ use Rattle.sheet.proofs.is_bad.Tie as tie
 
 -- Code k, which is not zero, is none of the first i codes; k - i are left.
 abbrev Inv-loop : tie.InvT-loop
-Inv-loop bytes first k code i₀ i = (i ≤ k) × (usedBefore bytes first k i ≡ false)
+Inv-loop codes k code i₀ i = (i ≤ k) × (usedBefore codes k i ≡ false)
 
 abbrev μ-loop : tie.MeasureT-loop
-μ-loop bytes first k code i₀ i = k - i
+μ-loop codes k code i₀ i = k - i
 
-code-at-requires : tie.Need-code-at-requires Inv-loop μ-loop
-code-at-requires c κs = search needs
+mul-code : tie.Need-mul-code Inv-loop μ-loop
+mul-code c = omega arith
+
+shared-slice-read-code : tie.Need-shared-slice-read-code Inv-loop μ-loop
+shared-slice-read-code c = omega arith
 
 returns : tie.Need-returns Inv-loop μ-loop
-returns c = code-zero _ _ _ (sym (c .before .code-at .ensures) ∙ c .if1 .taken)
+returns c = code-zero _ _ (c .if1 .taken)
 
 loop-holds : tie.Need-loop-holds Inv-loop μ-loop
 loop-holds c = (omega arith, any-none _)
 
-code-at-requires-2 : tie.Need-code-at-requires-2 Inv-loop μ-loop
-code-at-requires-2 c κs = search needs
+mul-if2 : tie.Need-mul-if2 Inv-loop μ-loop
+mul-if2 c = omega arith
+
+shared-slice-read-if2 : tie.Need-shared-slice-read-if2 Inv-loop μ-loop
+shared-slice-read-if2 c = omega arith
 
 returns-2 : tie.Need-returns-2 Inv-loop μ-loop
 returns-2 c =
     let at-loop = c .before .before .before in
-    let code = at-loop .before .before .code-at .ensures in
-    code-used _ _ _ (at-loop .loop .i) (λ z. at-loop .before .if1 .left (code ∙ z)) (omega arith) (sym (c .before .code-at2 .ensures) ∙ c .if2 .taken ∙ code)
+    code-used _ _ (at-loop .loop .i) (at-loop .before .if1 .left) (omega arith) (c .if2 .taken)
 
 add-i : tie.Need-add-i Inv-loop μ-loop
 add-i c = omega arith
@@ -43,13 +47,10 @@ loop-less c = omega arith
 loop-again : tie.Need-loop-again Inv-loop μ-loop
 loop-again c =
     let at-loop = c .before .before .before in
-    let code = at-loop .before .before .code-at .ensures in
-    (omega arith, any-more _ _ (at-loop .loop .inv .1) (ne-eqb _ _ (λ z. c .if2 .left (c .before .code-at2 .ensures ∙ z ∙ sym code))))
+    (omega arith, any-more _ _ (at-loop .loop .inv .1) (ne-eqb _ _ (c .if2 .left)))
 
 returns-3 : tie.Need-returns-3 Inv-loop μ-loop
-returns-3 c =
-    let t = c .before .before in
-    code-new _ _ _ _ (λ z. t .if1 .left (t .before .code-at .ensures ∙ z)) (c .before .loop .inv .1) (omega arith)
+returns-3 c = code-new _ _ _ (c .before .before .if1 .left) (c .before .loop .inv .1) (omega arith)
 
 pub is-bad-spec : {M : Type 1} → statement M
 is-bad-spec =
@@ -57,10 +58,12 @@ is-bad-spec =
     (tie.spec
     Inv-loop
     μ-loop
-    code-at-requires
+    mul-code
+    shared-slice-read-code
     returns
     loop-holds
-    code-at-requires-2
+    mul-if2
+    shared-slice-read-if2
     returns-2
     add-i
     loop-less

@@ -1,50 +1,50 @@
-use mathlib.Core.Path.{refl}
+use borrow.Author.Needs.{needs}
+use Prim.Native.Nat.{ℕ, _*_}
+use mathlib.Core.Path.{sym, ap, _∙_}
 use native.Mathlib.Omega.{arith}
 use lib.ListN.{length}
-use Rattle.sizes.proofs.Orders.{order-is}
-use Rattle.sheet.specs.Format.{orderIn}
-use Rattle.sheet.proofs.Triangle.{length-is}
+use Rattle.sheet_reader.specs.Reader.{OfForm}
 use Rattle.sheet_reader.proofs.SheetContents.{all-read}
-use Rattle.sheet_reader.proofs.Tables.{Readable, readable}
-use borrow.Author.Needs.{needs}
+use Rattle.sheet_reader.proofs.Tables.{Readable, readable, readable-form}
 use Rattle.sheet_reader.proofs.read_accepted.Statement.{statement}
 use Rattle.sheet_reader.proofs.read_accepted.Tie as tie
 
 known : (c : tie.Start) → Readable (c .args .sheet .now) (length (c .args .codes .now)) (length (c .args .matrix .now))
 known c = readable _ _ _ (c .pre)
 
-abbrev at-start : tie.After-read-codes-arg → tie.Start
+abbrev at-start : tie.After-width-in → tie.Start
 at-start c = c .before .before .before .before .before
 
-abbrev at-codes : tie.After-read-entries-arg → tie.After-read-codes-arg
-at-codes c = c .before .before .before .before
+abbrev at-width : tie.After-read-entries-arg → tie.After-width-in
+at-width c = c .before .before .before .before .before
 
-shared-slice-read-n : tie.Need-shared-slice-read-n
-shared-slice-read-n c =
-    let start = c .before .before .before .before in
-    omega (arith, known start .head)
+-- the form of the sheet, as it was found
+form : (c : tie.After-width-in) → OfForm (c .width-in .result) (c .before .order-in .result) (at-start c .args .sheet .now)
+form c = readable-form _ _ _ (known (at-start c)) (c .width-in .ensures) (c .before .order-in .ensures)
 
-cast-n : tie.Need-cast-n
-cast-n c = omega (arith, c .shared-slice-known2 .given 0)
+order-in-requires : tie.Need-order-in-requires
+order-in-requires c κs = search needs
+
+width-in-requires : tie.Need-width-in-requires
+width-in-requires c κs = search needs
 
 read-codes-requires : tie.Need-read-codes-requires
 read-codes-requires c κs =
-    let start = at-start c in
-    let r = known start in
-    (r .codes-long, omega (arith, r .sheet-long, length-is (orderIn (start .args .sheet .now))))
+    let found = c .before in
+    (form found, known (at-start found) .codes-long ∙ sym (found .before .order-in .ensures))
 
 read-entries-requires : tie.Need-read-entries-requires
 read-entries-requires c κs =
-    let r = known (at-start (at-codes c)) in
-    (refl, order-is _ (r .order) .2, r .sheet-long, r .matrix-long)
+    let found = at-width c in
+    (form found, known (at-start found) .matrix-long ∙ ap (λ (n : ℕ). n * n) (sym (found .before .order-in .ensures)))
 
-shared-slice-read-t6 : tie.Need-shared-slice-read-t6
-shared-slice-read-t6 c =
+shared-slice-read-t12 : tie.Need-shared-slice-read-t12
+shared-slice-read-t12 c =
     let at-entries = c .before .before .before .before in
-    omega (arith, known (at-start (at-codes at-entries)) .head)
+    omega (arith, known (at-start (at-width at-entries)) .head)
 
 cast-t13 : tie.Need-cast-t13
-cast-t13 c = omega (arith, c .shared-slice-known3 .given 1)
+cast-t13 c = omega (arith, c .shared-slice-known2 .given 1)
 
 same-length : tie.Need-same-length
 same-length c = search needs
@@ -56,17 +56,17 @@ returns : tie.Need-returns
 returns c =
     let entries = c .before .before .before in
     let codes = entries .before .before .before .before in
-    all-read _ (codes .read-codes .ensures) (entries .read-entries .ensures)
+    all-read _ (at-width (entries .before) .before .order-in .ensures) (codes .read-codes .ensures) (entries .read-entries .ensures)
 
 pub read-accepted-spec : {M : Type 1} → statement M
 read-accepted-spec =
     tie.close
     (tie.spec
-    shared-slice-read-n
-    cast-n
+    order-in-requires
+    width-in-requires
     read-codes-requires
     read-entries-requires
-    shared-slice-read-t6
+    shared-slice-read-t12
     cast-t13
     same-length
     same-length-2

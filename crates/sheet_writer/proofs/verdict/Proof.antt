@@ -1,4 +1,4 @@
-use Prim.Native.Nat.{_≤_}
+use Prim.Native.Nat.{ℕ, _≤_}
 use mathlib.Core.Path.{_≡_, sym, ap, _∙_}
 use mathlib.Core.Bool.{true}
 use native.Mathlib.Omega.{arith}
@@ -6,6 +6,8 @@ use borrow.Author.Needs.{needs}
 use Rattle.refusal.specs.Answers.{answered}
 use Rattle.sizes.specs.Sizes.{isOrder, largestOrder, mostSweeps}
 use Rattle.sizes.proofs.Orders.{order-is, sizes-given}
+use Rattle.sheet.specs.Format.{sheetLength, lengthFor}
+use Rattle.sheet.proofs.Forms.{width-for-fits}
 use Rattle.sheet.proofs.Triangle.{few-entries}
 use Rattle.sheet_writer.proofs.Tables.{sizes-refused, write-3, write-3-too, write-4, write-5-6, write-7, write-all}
 use Rattle.sheet_writer.proofs.verdict.Statement.{statement}
@@ -78,33 +80,43 @@ returns-5 c =
     write-5-6 _ _ _ _ _ (s .0) (s .1) (codes .if1 .left) (matrix .if2 .left) (sym (good .before .has-bad-code .ensures) ∙ good .if3 .left)
     (ap answered (sym (at-match .refused2 .given .1)) ∙ tested .tested2 .ensures)
 
+abbrev at-sized : tie.After-width-for → tie.After-enum-told
+at-sized c = c .before .before .before .before .before .before .before .before
+
+width-for-requires : tie.Need-width-for-requires
+width-for-requires c κs = search needs
+
 length-of-requires : tie.Need-length-of-requires
-length-of-requires c κs =
-    let good = c .before .before .before in
-    let codes = good .before .before .before in
-    small (codes .before)
+length-of-requires c κs = (rw (c .width-for .ensures) (width-for-fits _ .1), small (at-sized c))
+
+-- the length that is compared
+form-long : (c : tie.After-length-of) → let a = at-start (at-sized (c .before)) .args in
+    c .length-of .result ≡ lengthFor (a .n) (a .codes .now)
+form-long c =
+    let n = at-start (at-sized (c .before)) .args .n in
+    c .length-of .ensures ∙ ap (λ (w : ℕ). sheetLength w n) (c .before .width-for .ensures)
 
 returns-6 : tie.Need-returns-6
 returns-6 c =
-    let at-match = c .before .before in
+    let at-match = c .before .before .before in
     let tested = at-match .before .before in
     let good = tested .before in
     let matrix = good .before .before in
     let codes = matrix .before in
     let s = sized (codes .before) in
     write-7 _ _ _ _ _ (s .0) (s .1) (codes .if1 .left) (matrix .if2 .left) (sym (good .before .has-bad-code .ensures) ∙ good .if3 .left)
-    (ap answered (sym (at-match .enum-told2 .given .1)) ∙ tested .tested2 .ensures) (rw (c .before .length-of .ensures) at (c .if4 .taken))
+    (ap answered (sym (at-match .enum-told2 .given .1)) ∙ tested .tested2 .ensures) (rw (form-long (c .before)) at (c .if4 .taken))
 
 returns-7 : tie.Need-returns-7
 returns-7 c =
-    let at-match = c .before .before in
+    let at-match = c .before .before .before in
     let tested = at-match .before .before in
     let good = tested .before in
     let matrix = good .before .before in
     let codes = matrix .before in
     let s = sized (codes .before) in
     write-all _ _ _ _ _ (s .0) (s .1) (codes .if1 .left) (matrix .if2 .left) (sym (good .before .has-bad-code .ensures) ∙ good .if3 .left)
-    (ap answered (sym (at-match .enum-told2 .given .1)) ∙ tested .tested2 .ensures) (rw (c .before .length-of .ensures) at (c .if4 .left))
+    (ap answered (sym (at-match .enum-told2 .given .1)) ∙ tested .tested2 .ensures) (rw (form-long (c .before)) at (c .if4 .left))
 
 pub verdict-spec : {M : Type 1} → statement M
 verdict-spec =
@@ -123,6 +135,7 @@ verdict-spec =
     enum-told-2
     enum-known-refused-2
     returns-5
+    width-for-requires
     length-of-requires
     returns-6
     returns-7)

@@ -14,6 +14,12 @@ returns-2 c = search needs
 returns-3 : tie.Need-returns-3
 returns-3 c = search needs
 
+cast-byte : tie.Need-cast-byte
+cast-byte c = search needs
+
+code-in-requires : tie.Need-code-in-requires
+code-in-requires c κs = search needs
+
 array-borrow-prefix-sheet : tie.Need-array-borrow-prefix-sheet
 array-borrow-prefix-sheet c = search needs
 
@@ -45,6 +51,8 @@ lend-spec =
     returns
     returns-2
     returns-3
+    cast-byte
+    code-in-requires
     array-borrow-prefix-sheet
     slice-aggregate-answer
     array-borrow-prefix-codes
