@@ -1,6 +1,6 @@
 -- Demand 2 on sheets, each part by the law that proves it. Assumes nothing.
-use Prim.Native.Nat.{ℕ, _-_}
-use mathlib.Core.Path.{refl, sym, _∙_}
+use Prim.Native.Nat.{ℕ, _+_, _-_, _*_}
+use mathlib.Core.Path.{_≡_, refl, sym, _∙_}
 use mathlib.Core.List.{List}
 use native.Mathlib.Omega.{arith}
 use Rattle.sheet.proofs.Forms as forms
@@ -21,12 +21,15 @@ forms-read b =
     }
 
 written : WrittenInPlace
-written n sweeps codes l b count e =
+written n sweeps codes l b count fit e =
     record {
       short-order = λ w. places.written-first n sweeps codes l b count e ∙ forms.first-of-one _ n w;
       long-order = λ w. places.written-first n sweeps codes l b count e ∙ sym (forms.first-long _ n w);
       sweep-count = places.written-sweeps n sweeps codes l b count e;
-      code = λ k a h. places.written-code n sweeps codes l b count e (k - 1) (omega arith);
+      short-code = λ w k a h. let z : 1 + k ≡ 2 + (k - 1) = omega arith in
+          rw z (places.written-short n sweeps codes l b count e fit w (k - 1) (omega arith));
+      long-code = λ w k a h. let y : 2 * k ≡ 2 + 2 * (k - 1) = omega arith in let z : 2 * k + 1 ≡ 3 + 2 * (k - 1) = omega arith in
+          rw (z, y) (places.written-long n sweeps codes l b count e fit w (k - 1) (omega arith));
       entry = λ i j a h o q r. rw (← (places.number-is i j (omega arith))) (places.written-byte n sweeps codes l b count e i j a h o q r);
     }
 
@@ -36,15 +39,17 @@ read b c m n sweeps small e = (
     short-order = λ w. places.read-first b c m n sweeps e ∙ forms.first-of-one _ n w;
     long-order = λ w. places.read-first b c m n sweeps e ∙ sym (forms.first-long _ n w);
     sweep-count = sym (places.read-sweeps b c m n sweeps e);
-    code = λ k a h. places.read-code b c m n sweeps e small (k - 1) (omega arith);
+    short-code = λ w k a h. let z : 1 + k ≡ 2 + (k - 1) = omega arith in rw z (places.read-short b c m n sweeps e w (k - 1) (omega arith));
+    long-code = λ w k a h. let y : 2 * k ≡ 2 + 2 * (k - 1) = omega arith in let z : 2 * k + 1 ≡ 3 + 2 * (k - 1) = omega arith in
+        rw (z, y) (places.read-long b c m n sweeps e w (k - 1) (omega arith));
     entry = λ i j a h o q r. rw (← (places.number-is i j (omega arith))) (places.read-byte b c m n sweeps e small i j a h o q r);
   },
   places.read-mirror b c m n sweeps e,
 )
 
 same : OneContentASheet
-same n n′ sweeps sweeps′ codes codes′ l l′ lb lb′ f f′ g g′ a a′ e =
-    let w = sheets.same-sheet n n′ sweeps sweeps′ codes codes′ l l′ lb lb′ f f′ g g′ a a′ e in
+same n n′ sweeps sweeps′ codes codes′ l l′ b b′ count count′ f f′ g g′ a a′ e =
+    let w = sheets.same-written n n′ sweeps sweeps′ codes codes′ l l′ b b′ count count′ f f′ g g′ a a′ e in
     record { orders = w .0; sweep-counts = w .1; code-lists = w .2; matrices = w .3 }
 
 one : OneSheetAContent

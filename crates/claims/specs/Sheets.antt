@@ -8,9 +8,9 @@ use lib.Ieee.{Float, binary64, toBits}
 use Rattle.refusal.specs.Answers.{given, refused}
 use Rattle.matrix.specs.Matrix.{at}
 use Rattle.sheet.specs.Codes.{widthFor}
-use Rattle.sheet.specs.Format.{sheetLength, sheetOf, widthIn, orderIn}
+use Rattle.sheet.specs.Format.{sheetLength, widthIn, orderIn}
 use Rattle.sheet_reader.specs.Reader.{readOutcome, readOf}
-use Rattle.sheet_writer.specs.Writer.{writeAnswer, writeOutcome, writeOf}
+use Rattle.sheet_writer.specs.Writer.{writeOutcome, writeOf}
 use Rattle.sheet_agreement.specs.ShortReader.{shortReadOf}
 use Rattle.claims.specs.Histories.{Binary64}
 
@@ -34,16 +34,15 @@ pub record FormsRead (b : List ℕ) : Type 0 where
   pub long : 128 ≤ getD b 0 0 → (widthIn b ≡ 2) × (orderIn b ≡ getD b 0 0 - 128)
 
 -- ---- place by place
--- Sizes first: n, in the long form n + 128, then S, one byte each. Then the line codes 1 to n, w bytes each. Then the
--- rows, row i being i entries of the lower triangle up to its diagonal, 8 bytes each. Codes and entries have their
--- highest byte first. Bytes are counted from 0; q is 0 for the highest.
+-- Sizes first: n, in the long form n + 128, then S, one byte each. Then the line codes 1 to n, w bytes each, one in the
+-- short form and two in the long form. Then the rows, row i being i entries of the lower triangle up to its diagonal, 8
+-- bytes each. Codes and entries have their highest byte first. Bytes are counted from 0; q is 0 for the highest.
 pub record SheetHolds (w : ℕ) (b : List ℕ) (n sweeps : ℕ) (codes : List ℕ) (l : List Float) : Type 0 where
   pub short-order : w ≡ 1 → getD b 0 0 ≡ n
   pub long-order : w ≡ 2 → getD b 0 0 ≡ n + 128
   pub sweep-count : getD b 1 0 ≡ sweeps
-  pub code : (k : ℕ) → 1 ≤ k → k ≤ n
-      → (q : ℕ) → q < w
-      → getD b (2 + w * (k - 1) + q) 0 ≡ getD codes (k - 1) 0 / 256 ^ (w - 1 - q) % 256
+  pub short-code : w ≡ 1 → (k : ℕ) → 1 ≤ k → k ≤ n → getD b (1 + k) 0 ≡ getD codes (k - 1) 0
+  pub long-code : w ≡ 2 → (k : ℕ) → 1 ≤ k → k ≤ n → getD b (2 * k) 0 * 256 + getD b (2 * k + 1) 0 ≡ getD codes (k - 1) 0
   pub entry : (i j : ℕ) → 1 ≤ j → j ≤ i → i ≤ n
       → (q : ℕ) → q < 8
       → getD b (2 + w * n + 8 * (i * (i - 1) / 2 + (j - 1)) + q) 0 ≡ toBits binary64 (at n l i j) / 256 ^ (7 - q) % 256
@@ -52,6 +51,7 @@ pub record SheetHolds (w : ℕ) (b : List ℕ) (n sweeps : ℕ) (codes : List �
 abbrev pub WrittenInPlace : Type 0
 WrittenInPlace =
     (n sweeps : ℕ) (codes : List ℕ) (l : List Float) (b : List ℕ) (count : ℕ)
+    → Codes codes
     → writeOf n sweeps codes l b .answer ≡ given count
     → SheetHolds (widthFor codes) (writeOf n sweeps codes l b .bytes) n sweeps codes l
 
@@ -93,17 +93,17 @@ pub record SameContent (n n′ sweeps sweeps′ : ℕ) (codes codes′ : List �
   pub code-lists : codes ≡ codes′
   pub matrices : l ≡ l′
 
--- Two different accepted contents have different sheets.
+-- Two different accepted contents have different sheets: what is written alike is one.
 abbrev pub OneContentASheet : Type 0
 OneContentASheet =
-    (n n′ sweeps sweeps′ : ℕ) (codes codes′ : List ℕ) (l l′ : List Float) (lent lent′ : ℕ)
+    (n n′ sweeps sweeps′ : ℕ) (codes codes′ : List ℕ) (l l′ : List Float) (b b′ : List ℕ) (count count′ : ℕ)
     → Binary64 l
     → Binary64 l′
     → Codes codes
     → Codes codes′
-    → writeAnswer n sweeps codes l lent ≡ given tt
-    → writeAnswer n′ sweeps′ codes′ l′ lent′ ≡ given tt
-    → sheetOf n sweeps codes (at n l) ≡ sheetOf n′ sweeps′ codes′ (at n′ l′)
+    → writeOf n sweeps codes l b .answer ≡ given count
+    → writeOf n′ sweeps′ codes′ l′ b′ .answer ≡ given count′
+    → take count (writeOf n sweeps codes l b .bytes) ≡ take count′ (writeOf n′ sweeps′ codes′ l′ b′ .bytes)
     → SameContent n n′ sweeps sweeps′ codes codes′ l l′
 
 -- Each set of codes has one form: two accepted sheets that are read alike are one.

@@ -17,19 +17,21 @@ use Rattle.sheet.specs.Format.{longForm, firstByte, widthIn, orderIn}
 abbrev pub Width : ℕ → Type 0
 Width w = (1 ≤ w) × (w ≤ 2)
 
-one-or-two : (b : Bool) → Width (cond b 1 2)
-one-or-two true = (omega arith, omega arith)
-one-or-two false = (omega arith, omega arith)
+either : (b : Bool) {v w : ℕ} → Width v → Width w → Width (cond b v w)
+either true p q = p
+either false p q = q
 
-two-or-one : (b : Bool) → Width (cond b 2 1)
-two-or-one true = (omega arith, omega arith)
-two-or-one false = (omega arith, omega arith)
+one : Width 1
+one = (omega arith, omega arith)
+
+two : Width 2
+two = (omega arith, omega arith)
 
 -- ---- of a sheet
 module _ (b : List ℕ) where
   pub width-fits : Width (widthIn b)
   unfolding widthIn
-  width-fits = one-or-two (ltb (getD b 0 0) longForm)
+  width-fits = either (ltb (getD b 0 0) longForm) one two
 
   pub width-short : getD b 0 0 < longForm → 1 ≡ widthIn b
   unfolding widthIn
@@ -71,7 +73,7 @@ module _ (b : List ℕ) where
 module _ (codes : List ℕ) where
   pub width-for-fits : Width (widthFor codes)
   unfolding widthFor
-  width-for-fits = two-or-one (longCodes codes)
+  width-for-fits = either (longCodes codes) two one
 
   pub width-two : true ≡ longCodes codes → 2 ≡ widthFor codes
   unfolding widthFor

@@ -229,7 +229,7 @@ module _ (b : List ℕ) (small : (i : ℕ) → getD b i 0 < 256) (lc lm : ℕ) (
               rw (code-at b k (omega (arith, codes-count b)), ← one) (omega arith)
 
   -- byte q of code k
-  pub code-again : (k q : ℕ) → k < n → q < widthIn b → byteOf (widthIn b) (getD (codesIn b) k 0) q ≡ getD b (2 + widthIn b * k + q) 0
+  code-again : (k q : ℕ) → k < n → q < widthIn b → byteOf (widthIn b) (getD (codesIn b) k 0) q ≡ getD b (2 + widthIn b * k + q) 0
   unfolding codeIn
   code-again k q h o = ap (λ (v : ℕ). byteOf (widthIn b) v q) (code-at b k h) ∙ byte-of-word b (2 + widthIn b * k) small (widthIn b) q o
 
@@ -349,15 +349,20 @@ writes n sweeps codes l b count = go (writeAnswer n sweeps codes l (length b)) (
     go (given tt) new long e = (refl, refl, ap (λ (x : Answered ℕ). valueOr x 0) (sym e))
     go (refused k values) new long e = refused-given e
 
+-- the bytes that it wrote are the sheet
+left : (n sweeps : ℕ) (codes : List ℕ) (l : List Float) (b : List ℕ) (count : ℕ) → writeOf n sweeps codes l b .answer ≡ given count
+    → take count (writeOf n sweeps codes l b .bytes) ≡ sheetOf n sweeps codes (at n l)
+unfolding writtenOver
+left n sweeps codes l b count e =
+    let v = writes n sweeps codes l b count e in
+    rw (v .1, v .2) (take-at (sheetOf n sweeps codes (at n l)) (drop (lengthFor n codes) b) (lengthFor n codes) (sheet-long n sweeps codes (at n l)))
+
 pub written-back : (n sweeps : ℕ) (codes : List ℕ) (l : List Float) (b : List ℕ) (count : ℕ) → Codes16 codes
     → ((k : ℕ) → T (fits binary64 (getD l k nan))) → writeOf n sweeps codes l b .answer ≡ given count
     → (c : List ℕ) (m : List Float) → length c ≡ n → length m ≡ n * n
     → readOf (take count (writeOf n sweeps codes l b .bytes)) c m ≡ readOutcome (given (n, sweeps)) codes l
-unfolding writtenOver
 written-back n sweeps codes l b count fit fitting e c m lc lm =
-    let v = writes n sweeps codes l b count e in
-    rw (v .1, v .2, take-at (sheetOf n sweeps codes (at n l)) (drop (lengthFor n codes) b) (lengthFor n codes) (sheet-long n sweeps codes (at n l)))
-    (read-back n sweeps codes l (length b) fit fitting (v .0) c m lc lm)
+    rw (left n sweeps codes l b count e) (read-back n sweeps codes l (length b) fit fitting (writes n sweeps codes l b count e .0) c m lc lm)
 
 -- and that of a reading
 pub reads : (b c : List ℕ) (m : List Float) (n sweeps : ℕ) → readOf b c m .answer ≡ given (n, sweeps)
@@ -400,3 +405,16 @@ module _ (n n′ sweeps sweeps′ : ℕ) (codes codes′ : List ℕ) (l l′ : L
         sym (entries-back n sweeps codes l lb fitting accepted) ∙ ap (λ (b : List ℕ). flat (orderIn b) (entryIn b)) e
             ∙ entries-back n′ sweeps′ codes′ l′ lb′ fitting′ accepted′,
       )
+
+-- And so are two that are written as the same sheet.
+module _ (n n′ sweeps sweeps′ : ℕ) (codes codes′ : List ℕ) (l l′ : List Float) (b b′ : List ℕ) (count count′ : ℕ)
+    (fitting : (k : ℕ) → T (fits binary64 (getD l k nan))) (fitting′ : (k : ℕ) → T (fits binary64 (getD l′ k nan)))
+    (fit : Codes16 codes) (fit′ : Codes16 codes′)
+    (accepted : writeOf n sweeps codes l b .answer ≡ given count) (accepted′ : writeOf n′ sweeps′ codes′ l′ b′ .answer ≡ given count′) where
+  pub same-written : take count (writeOf n sweeps codes l b .bytes) ≡ take count′ (writeOf n′ sweeps′ codes′ l′ b′ .bytes)
+      → (n ≡ n′) × (sweeps ≡ sweeps′) × (codes ≡ codes′) × (l ≡ l′)
+  same-written e =
+      let v = writes n sweeps codes l b count accepted in
+      let v′ = writes n′ sweeps′ codes′ l′ b′ count′ accepted′ in
+      same-sheet n n′ sweeps sweeps′ codes codes′ l l′ (length b) (length b′) fitting fitting′ fit fit′ (v .0) (v′ .0)
+      (sym (left n sweeps codes l b count accepted) ∙ e ∙ left n′ sweeps′ codes′ l′ b′ count′ accepted′)

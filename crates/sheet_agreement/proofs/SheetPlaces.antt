@@ -10,15 +10,17 @@ use Rattle.refusal.specs.Answers.{given}
 use Rattle.matrix.specs.Matrix.{at}
 use Rattle.matrix.proofs.SameEntries.{read-again}
 use Rattle.sheet.specs.Codes.{widthFor}
-use Rattle.sheet.specs.Format.{entriesFrom, entryNumber, byteOf, firstByte, lengthFor, sheetOf, widthIn, orderIn, patternIn, entryIn}
-use Rattle.sheet.proofs.Forms.{first-kept}
+use Rattle.sheet.specs.Format.{entriesFrom, entryNumber, byteOf, firstByte, lengthFor, sheetOf, widthIn, orderIn, codeIn, patternIn, entryIn}
+use Rattle.sheet.proofs.Forms.{first-kept, codes-fit}
 use Rattle.sheet.proofs.Triangle.{code-ends, length-is, number-below, half-of}
-use Rattle.sheet.proofs.Words.{byte-back as byte-of-word}
+use Rattle.sheet.proofs.Words.{word-whole, byte-back as byte-of-word}
 use Rattle.sheet_reader.specs.Reader.{contentOf, readOf}
+use Rattle.sheet_reader.proofs.SheetContents.{code-at, code-of-one, code-of-two}
 use Rattle.sheet_reader.proofs.Tables.{readable}
 use Rattle.sheet_writer.specs.Writer.{writtenOver, writeOf}
 use Rattle.sheet_writer.proofs.SheetBytes.{sheet-long}
-use Rattle.sheet_agreement.proofs.RoundTrip.{first-back, sweeps-back, code-byte, entry-byte, code-again, pattern-kept, writes, reads}
+use Rattle.sheet_writer.proofs.Tables.{writable}
+use Rattle.sheet_agreement.proofs.RoundTrip.{Codes16, first-back, sweeps-back, code-byte, entry-byte, pattern-kept, writes, reads}
 
 -- the number of an entry in closed form
 pub number-is : (i j : ℕ) → 1 ≤ i → entryNumber i j ≡ i * (i - 1) / 2 + (j - 1)
@@ -45,9 +47,23 @@ module _ (n sweeps : ℕ) (codes : List ℕ) (l : List Float) (b : List ℕ) (co
   pub written-sweeps : getD bytes 1 0 ≡ sweeps
   written-sweeps = kept 1 (omega arith) ∙ sweeps-back n sweeps codes (at n l)
 
-  pub written-code : (k : ℕ) → k < n → (q : ℕ) → q < w → getD bytes (2 + w * k + q) 0 ≡ getD codes k 0 / 256 ^ (w - 1 - q) % 256
-  unfolding byteOf
+  -- byte q of code k
+  written-code : (k : ℕ) → k < n → (q : ℕ) → q < w → getD bytes (2 + w * k + q) 0 ≡ byteOf w (getD codes k 0) q
   written-code k h q o = kept (2 + w * k + q) (omega (arith, code-ends w n k h)) ∙ code-byte n sweeps codes (at n l) k q h o
+
+  module _ (fit : Codes16 codes) where
+    code-below : (k : ℕ) → k < n → getD codes k 0 < 256 ^ w
+    code-below k h = codes-fit codes fit k (omega (arith, writable n sweeps codes l (length b) (writes n sweeps codes l b count e .0) .codes-long))
+
+    code-word : (k : ℕ) → k < n → codeIn w bytes k ≡ getD codes k 0
+    unfolding codeIn
+    code-word k h = word-whole bytes (2 + w * k) w (getD codes k 0) (code-below k h) (written-code k h)
+
+    pub written-short : w ≡ 1 → (k : ℕ) → k < n → getD bytes (2 + k) 0 ≡ getD codes k 0
+    written-short z k h = code-of-one bytes k ∙ rw z at (code-word k h)
+
+    pub written-long : w ≡ 2 → (k : ℕ) → k < n → getD bytes (2 + 2 * k) 0 * 256 + getD bytes (3 + 2 * k) 0 ≡ getD codes k 0
+    written-long z k h = code-of-two bytes k ∙ rw z at (code-word k h)
 
   pub written-byte : (i j : ℕ) → 1 ≤ j → j ≤ i → i ≤ n → (r : ℕ) → r < 8
       → getD bytes (2 + w * n + 8 * entryNumber i j + r) 0 ≡ toBits binary64 (at n l i j) / 256 ^ (7 - r) % 256
@@ -64,13 +80,15 @@ module _ (b c : List ℕ) (m : List Float) (n sweeps : ℕ) (e : readOf b c m .a
   pub read-sweeps : sweeps ≡ getD b 1 0
   read-sweeps = sym (reads b c m n sweeps e .3)
 
-  pub read-code : ((i : ℕ) → getD b i 0 < 256) → (k : ℕ) → k < n → (q : ℕ) → q < widthIn b
-      → getD b (2 + widthIn b * k + q) 0 ≡ getD (readOf b c m .codes) k 0 / 256 ^ (widthIn b - 1 - q) % 256
-  unfolding contentOf byteOf
-  read-code small k h q o =
-      let v = reads b c m n sweeps e in
-      let good = readable b (length c) (length m) (v .0) in
-      rw (v .1) (sym (code-again b small (length c) (length m) good k q (omega (arith, v .2)) o))
+  read-code : (k : ℕ) → k < n → getD (readOf b c m .codes) k 0 ≡ codeIn (widthIn b) b k
+  unfolding contentOf
+  read-code k h = let v = reads b c m n sweeps e in rw (v .1) (code-at b k (omega (arith, v .2)))
+
+  pub read-short : widthIn b ≡ 1 → (k : ℕ) → k < n → getD b (2 + k) 0 ≡ getD (readOf b c m .codes) k 0
+  read-short z k h = code-of-one b k ∙ sym (rw z at (read-code k h))
+
+  pub read-long : widthIn b ≡ 2 → (k : ℕ) → k < n → getD b (2 + 2 * k) 0 * 256 + getD b (3 + 2 * k) 0 ≡ getD (readOf b c m .codes) k 0
+  read-long z k h = code-of-two b k ∙ sym (rw z at (read-code k h))
 
   entry : (i j : ℕ) → (1 ≤ i) × (i ≤ n) → (1 ≤ j) × (j ≤ n) → at n (readOf b c m .matrix) i j ≡ entryIn b i j
   unfolding contentOf

@@ -1,3 +1,4 @@
+use native.Mathlib.Omega.{arith}
 use borrow.Author.Needs.{needs}
 use Rattle.sheet.proofs.Forms.{first-long, first-short}
 use Rattle.sheet.proofs.first_byte.Statement.{statement}
@@ -10,7 +11,7 @@ add-result : tie.Need-add-result
 add-result c = search needs
 
 returns : tie.Need-returns
-returns c = first-long _ _ (c .if1 .taken)
+returns c = first-long _ _ (omega arith)
 
 cast-result-2 : tie.Need-cast-result-2
 cast-result-2 c = search needs

@@ -22,7 +22,7 @@ shared-slice-read-code : tie.Need-shared-slice-read-code Inv-loop μ-loop
 shared-slice-read-code c = omega arith
 
 returns : tie.Need-returns Inv-loop μ-loop
-returns c = code-zero _ _ (c .if1 .taken)
+returns c = code-zero _ _ (omega arith)
 
 loop-holds : tie.Need-loop-holds Inv-loop μ-loop
 loop-holds c = (omega arith, any-none _)

@@ -11,7 +11,7 @@ shared-slice-read-if2 : tie.Need-shared-slice-read-if2
 shared-slice-read-if2 c = search needs
 
 returns-2 : tie.Need-returns-2
-returns-2 c = width-short _ (c .if2 .taken)
+returns-2 c = width-short _ (omega arith)
 
 returns-3 : tie.Need-returns-3
 returns-3 c = width-long _ (omega arith)
