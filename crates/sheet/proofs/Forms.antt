@@ -71,10 +71,6 @@ module _ (b : List ℕ) where
 
 -- ---- of codes
 module _ (codes : List ℕ) where
-  pub width-for-fits : Width (widthFor codes)
-  unfolding widthFor
-  width-for-fits = either (longCodes codes) two one
-
   pub width-two : true ≡ longCodes codes → 2 ≡ widthFor codes
   unfolding widthFor
   width-two e = rw (← e)
@@ -82,6 +78,10 @@ module _ (codes : List ℕ) where
   pub width-one : false ≡ longCodes codes → 1 ≡ widthFor codes
   unfolding widthFor
   width-one e = rw (← e)
+
+  pub width-for-fits : Width (widthFor codes)
+  unfolding widthFor
+  width-for-fits = either (longCodes codes) two one
 
   -- the codes fit it
   pub codes-fit : ((k : ℕ) → getD codes k 0 < 65536) → (k : ℕ) → k < length codes → getD codes k 0 < 256 ^ widthFor codes

@@ -36,7 +36,7 @@ shared-slice-read-if2 c = omega arith
 returns-2 : tie.Need-returns-2 Inv-loop μ-loop
 returns-2 c =
     let at-loop = c .before .before .before in
-    code-used _ _ (at-loop .loop .i) (at-loop .before .if1 .left) (omega arith) (c .if2 .taken)
+    code-used _ _ (at-loop .loop .i) (at-loop .before .if1 .left) (omega arith) (omega arith)
 
 add-i : tie.Need-add-i Inv-loop μ-loop
 add-i c = omega arith
