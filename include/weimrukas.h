@@ -6,9 +6,9 @@
  * installs it as libweimrukas.
  *
  * Answers. Where nothing else is said a function answers 0, or the number of a refusal in document 01's table, with
- * what document 02 adds to 4:
+ * what document 02 adds to 4 and takes from 1:
  *
- *      1  order: not even, or outside 2 to WEIMRUKAS_MOST_LINES
+ *      1  order: outside 2 to WEIMRUKAS_MOST_LINES
  *      2  sweeps: above WEIMRUKAS_MOST_SWEEPS
  *      3  a slice or a sheet has another length
  *      4  line code: zero, or used before; a sheet of the long form of which no code is above 255
@@ -28,6 +28,11 @@
  * it is lent, which gives wrong results. Any other argument, whatever its value, is answered. Nothing is allocated or
  * kept, and no function calls any but memcpy, memmove and memset; threads may call them at the same time. 256 KiB of
  * stack are enough.
+ *
+ * Orders. n may be even or odd. There are N = (n + 1) / 2 processors, rounded down. A sweep has n - 1 steps where n is
+ * even and n where it is odd. Where n is odd, a line 0 stands in the left register of processor 1, +0 throughout at
+ * first, and processor 1 is always still, whatever its cells hold. Line 0 is in the list of pairs, as 0, and in the
+ * tiles of an array by hand; matrices, results, sheets and listings have the lines 1 to n alone.
  *
  * A matrix is n * n doubles, row by row. A double that is not a number is always given back as 7FF8000000000000.
  *
@@ -53,11 +58,11 @@ extern "C" {
 #define WEIMRUKAS_RESTRICT restrict
 #endif
 
-#define WEIMRUKAS_VERSION "0.3.0"
+#define WEIMRUKAS_VERSION "0.4.0"
 
 #define WEIMRUKAS_MOST_LINES 32 /* the largest order */
 #define WEIMRUKAS_MOST_SWEEPS 16
-#define WEIMRUKAS_MOST_PROCESSORS (WEIMRUKAS_MOST_LINES / 2)
+#define WEIMRUKAS_MOST_PROCESSORS ((WEIMRUKAS_MOST_LINES + 1) / 2)
 
 /*
  * The length of a sheet of order n: in the short form, where no code is above 255 and each has one byte, and in the
@@ -91,14 +96,16 @@ void weimrukas_parameters(double a, double d, double b, uint8_t *WEIMRUKAS_RESTR
 
 /*
  * The list of pairs of order n in a step, from 0: left[k - 1] and right[k - 1] become the registers of processor k, and
- * 0 above processor n / 2. 1, which sets all to 0; 7 where left or right has fewer than n / 2 values.
+ * 0 above processor N. Where n is odd left[0] is 0, as line 0 always stands there. 1, which sets all to 0; 7 where left
+ * or right has fewer than N values.
  */
 uint8_t weimrukas_pairs(size_t n, size_t step, size_t *WEIMRUKAS_RESTRICT left, size_t left_length,
                         size_t *WEIMRUKAS_RESTRICT right, size_t right_length);
 
 /*
- * The parameters of the n / 2 pairs of a step, from 0, found from the matrix as lent: t, c and s of processor k become
- * records[3 k - 3], [3 k - 2] and [3 k - 1]; still is +0, 1, +0. What follows stays. 1, 3, 5, 6, 7.
+ * The parameters of the N pairs of a step, from 0, found from the matrix as lent: t, c and s of processor k become
+ * records[3 k - 3], [3 k - 2] and [3 k - 1]; still is +0, 1, +0, as processor 1 always is where n is odd. What follows
+ * stays. 1, 3, 5, 6; 7 where there are fewer than 3 N values.
  */
 uint8_t weimrukas_records(size_t n, const double *matrix, size_t matrix_length, size_t step,
                           double *WEIMRUKAS_RESTRICT records, size_t records_length, size_t *WEIMRUKAS_RESTRICT row,
@@ -149,17 +156,17 @@ uint8_t weimrukas_list(const uint8_t *sheet, size_t sheet_length, uint8_t *WEIMR
 
 /*
  * The array by hand. Its record is WEIMRUKAS_ARRAY_WORDS words: n, sweeps and the number of the next tick, and then
- * WEIMRUKAS_MOST_PROCESSORS rows of as many tiles, of which the first n / 2 of the first n / 2 rows are in use. A tile
+ * WEIMRUKAS_MOST_PROCESSORS rows of as many tiles, of which the first N of the first N rows are in use. A tile
  * has WEIMRUKAS_TILE_WORDS: the cells of the matrix (alpha, beta, gamma, delta: row by row) and of the eigenvectors,
  * the wires of the matrix and of the eigenvectors by the same corners, the tangents that it sends along its row and its
  * column, all as bits of doubles, and its mark.
  *
  * The mark of a tile in use is 1 if one of its cells was not finite after some tick, and stays so; otherwise it is 0.
  * Where a tile is marked at the end, the whole run by one call answers 8. Otherwise entry (r, c) of the results, both
- * from 1, stands at the end with processor (r - 1) / 2, register (r - 1) % 2 by rows and processor (c - 1) / 2,
- * register (c - 1) % 2 by columns, processors from 0: that of the matrix is the cell
- * words[WEIMRUKAS_TILE((r - 1) / 2, (c - 1) / 2) + 2 * ((r - 1) % 2) + (c - 1) % 2], that of the eigenvectors 4 words
- * further.
+ * from 1, stands at the end where it stood at first. Let i be r - 1 and j be c - 1 where n is even, and i = r and j = c
+ * where it is odd: the first row and the first column of cells are then line 0's. The entry is with processor i / 2,
+ * register i % 2 by rows and processor j / 2, register j % 2 by columns, processors from 0: that of the matrix is the
+ * cell words[WEIMRUKAS_TILE(i / 2, j / 2) + 2 * (i % 2) + j % 2], that of the eigenvectors 4 words further.
  *
  * A record that a caller wrote may hold any words: each pattern of no number counts as 7FF8000000000000, each mark but
  * 0 as 1, and a tick that is made writes all words anew in that form.
@@ -179,9 +186,9 @@ uint8_t weimrukas_array_start(size_t n, size_t sweeps, const double *matrix, siz
                               size_t *WEIMRUKAS_RESTRICT column);
 
 /*
- * One tick: *made becomes 1. After the last tick, 3 sweeps (n - 1) + n / 2 in all, the array has stopped: the words
- * stay and *made becomes 0. 3 for other than WEIMRUKAS_ARRAY_WORDS words; 1, 2, by the record's n and sweeps; each sets
- * *made to 0.
+ * One tick: *made becomes 1. After the last tick, 3 sweeps (n - 1) + N in all where n is even and 3 sweeps n + N where
+ * it is odd, the array has stopped: the words stay and *made becomes 0. 3 for other than WEIMRUKAS_ARRAY_WORDS words;
+ * 1, 2, by the record's n and sweeps; each sets *made to 0.
  */
 uint8_t weimrukas_array_tick(uint64_t *WEIMRUKAS_RESTRICT words, size_t words_length, uint8_t *WEIMRUKAS_RESTRICT made);
 

@@ -1,11 +1,13 @@
 #!/usr/bin/env python3
 """Writes crates/test_runs/stdin and crates/test_runs/stdout: whole runs of the array, runs by hand, single
-ticks of wild records and runs by plain sweeps, and what comes of them by document 01, "The array".
+ticks of wild records and runs by plain sweeps, and what comes of them by document 01, "The array", and document
+02, odd orders.
 
 The tiles, the wires and the ticks follow the documents: document 01, "The array"; document 000, the
 connections and Algorithm Interchange; document 003, Program 3. Tiles, rows and columns are counted from 1
 as there. The parameters of a pair, the turn of two values and the matrices are those of plain_vectors.py.
-Before anything is written, runs of the array are held against the plain run of that file.
+Before anything is written, runs of the array are held against the plain run of that file. Of each kind of cases but
+the plain runs, which come last, the even orders come first and then the odd ones.
 
 A case begins with a word for its kind.
 
@@ -26,6 +28,7 @@ column, and the mark.
 """
 import argparse
 import functools
+import itertools
 import math
 import pathlib
 import random
@@ -63,11 +66,11 @@ class Array:
 
     @property
     def N(self):
-        return self.n // 2
+        return plain.processors(self.n)
 
     @property
     def K(self):
-        return self.sweeps * (self.n - 1)
+        return plain.steps_of(self.n, self.sweeps)
 
     def places(self):
         return places(self.N)
@@ -81,7 +84,7 @@ def places(N):
 def start(n, sweeps, matrix):
     """The record of a start that is not refused."""
     array = Array(n, sweeps, 0, 0.0)
-    wholes = plain.rows_of(n, matrix), plain.identity(n)
+    wholes = plain.first_rows(n, matrix)
     for i, j in array.places():
         for part, rows in zip(array.tiles[i, j].cells, wholes):
             for corner, (r, c) in OFFSETS.items():
@@ -190,10 +193,10 @@ def column_turn(angle, x):
     return {"α": alpha, "β": beta, "γ": gamma, "δ": delta}
 
 
-def rotate_diagonal(tile):
+def rotate_diagonal(tile, is_still):
     matrix, vectors = tile.cells
     a, b, d = matrix["α"], matrix["β"], matrix["δ"]
-    found = plain.parameters(a, d, b)
+    found = STILL if is_still else plain.parameters(a, d, b)
     t = 0.0
     if found is not STILL:
         t = found[0]
@@ -219,7 +222,7 @@ def rotate_off_diagonal(tile, is_above, row, column):
 
 def refused_by(n, sweeps):
     """The number of a tick's refusal."""
-    if n % 2 == 1 or n < 2 or n > 2 * MOST:
+    if n < 2 or n > 2 * MOST:
         return 1
     return 2 if sweeps > 16 else None
 
@@ -245,7 +248,7 @@ def work(array, i, j, brought):
     if since == last:
         return
     if brought and i == j:
-        rotate_diagonal(tile)
+        rotate_diagonal(tile, plain.always_still(array.n, i))
     elif brought:
         rotate_off_diagonal(tile, i < j, *brought[1])
     for corner in lines_set(array.N, i, j, since % 3):
@@ -289,12 +292,13 @@ def refusal_of(case):
 
 
 def whole(array, part):
-    """The patterns of the matrix or of the vectors in the cells."""
-    rows = [[None] * array.n for _ in range(array.n)]
+    """The patterns of the matrix or of the vectors in the cells of real lines."""
+    lines = range(2 * array.N)
+    rows = [[None] * len(lines) for _ in lines]
     for i, j in array.places():
         for corner, (r, c) in OFFSETS.items():
             rows[2 * i - 2 + r][2 * j - 2 + c] = array.tiles[i, j].cells[part][corner]
-    return plain.patterns_of(rows)
+    return plain.patterns_of(plain.real_lines(array.n, rows))
 
 
 def ran(case):
@@ -340,14 +344,19 @@ def agreed(case):
     outcome, ticks = run(case)
     assert outcome == expected._replace(spoiled=None), case
     is_run = outcome.number in (None, 8)
-    assert ticks == (3 * case.sweeps * (case.n - 1) + case.n // 2 if is_run else 0)
+    assert ticks == (ticks_of(case.n, case.sweeps) if is_run else 0)
     return outcome, ticks
 
 
-def check_runs(rng, rounds):
-    """Runs of all orders and numbers of sweeps."""
-    cases = [drawn for _ in range(rounds) for drawn in plain.runs(rng)]
-    assert {case.n for _, case in cases} == set(range(2, 33, 2))
+def ticks_of(n, sweeps):
+    """3 K + N."""
+    return 3 * plain.steps_of(n, sweeps) + plain.processors(n)
+
+
+def check_runs(rng, orders, rounds):
+    """Runs of these orders and all numbers of sweeps."""
+    cases = [drawn for _ in range(rounds) for drawn in plain.runs(rng, orders)]
+    assert {case.n for _, case in cases} == set(orders)
     assert {case.sweeps for _, case in cases} == set(range(17))
     spoiled = sum(agreed(case)[0].number == 8 for _, case in cases)
     finite = len(cases) - spoiled
@@ -358,22 +367,23 @@ def check_runs(rng, rounds):
 def plain_steps(case):
     """The matrix and the vectors after each step of the plain run, and the lines in the registers."""
     n = case.n
-    a, vectors = plain.rows_of(n, case.matrix), plain.identity(n)
-    left, right = list(range(1, n, 2)), list(range(2, n + 1, 2))
+    a, vectors = plain.first_rows(n, case.matrix)
+    left, right = plain.first_registers(n)
     for _ in plain.make_steps(n, case.sweeps, a, vectors):
         yield [[row[:] for row in rows] for rows in (a, vectors)], list(zip(left, right))
         left, right = plain.moved(left, right)
 
 
-def part_at(a, rows, columns):
-    """The patterns of a matrix at two of its rows and two of its columns."""
-    return {corner: bits(a[rows[r] - 1][columns[c] - 1]) for corner, (r, c) in OFFSETS.items()}
+def part_at(a, first, rows, columns):
+    """The patterns of a matrix that begins with this line at two of its rows and two of its columns."""
+    return {corner: bits(a[rows[r] - first][columns[c] - first]) for corner, (r, c) in OFFSETS.items()}
 
 
 def check_rotations(case):
-    """Holds the cells of each tile, right after each of its rotations, against the plain run after that
-    step, and gives the number of the rotations."""
+    """Holds the cells of each tile, those of line 0 too, right after each of its rotations, against the plain run
+    after that step, and gives the number of the rotations."""
     steps, array, count = list(plain_steps(case)), start(case.n, case.sweeps, case.matrix), 0
+    first = plain.first_line(case.n)
     while tick(array)[0] == MADE:
         for i, j in array.places():
             k, phase = divmod(since_delta(array, i, j) - 1, 3)
@@ -381,13 +391,13 @@ def check_rotations(case):
                 matrices, pairs = steps[k]
                 for cells, rows in zip(array.tiles[i, j].cells, matrices):
                     found = {corner: bits(value) for corner, value in cells.items()}
-                    assert found == part_at(rows, pairs[i - 1], pairs[j - 1]), (case, i, j, k)
+                    assert found == part_at(rows, first, pairs[i - 1], pairs[j - 1]), (case, i, j, k)
                 count += 1
     return count
 
 
-def check_all_rotations(rng):
-    cases = [case for _, case in plain.runs(rng) if case.n <= 14]
+def check_all_rotations(rng, orders):
+    cases = [case for _, case in plain.runs(rng, orders) if case.n <= 14]
     count = sum(check_rotations(case) for case in cases)
     print(f"{count} rotations of tiles in {len(cases)} runs as the plain run's steps, NaNs as one value")
 
@@ -397,12 +407,14 @@ def check_all_rotations(rng):
 
 def amount(n):
     """How many cases an order gets."""
+    if n % 2 == 1:
+        return 17 if n == 3 else 6 if n <= 8 else 2 if n <= 16 else 1
     return 12 if n <= 8 else 5 if n <= 16 else 2
 
 
-def some_runs(rng):
+def some_runs(rng, orders):
     k = 0
-    for n in range(2, 33, 2):
+    for n in orders:
         for _ in range(amount(n)):
             kind, sweeps = plain.kind_for(n, k), k % 17
             if kind is plain.spoiled_late:
@@ -418,22 +430,35 @@ def whole_runs(rng):
         yield case
     for n, sweeps in [(2, 0), (8, 1), (32, 16)]:
         yield plain.case_of(n, sweeps, plain.ordinary(rng, n, sweeps))
-    yield from some_runs(rng)
+    yield from some_runs(rng, plain.EVEN_ORDERS)
     yield from [case for _, case in plain.refusals(rng)][3::6]
 
 
-# Orders, sweeps and ticks by document 01, "The printed sheet" and "Entries to try".
+def odd_whole_runs(rng):
+    """The same of odd orders."""
+    for case, outcome in plain.ODD_EXAMPLES:
+        assert ran(case)[0] == outcome._replace(spoiled=None)
+        yield case
+    for n, sweeps in [(3, 0), (3, 1), (3, 16), (7, 1), (31, 16)]:
+        yield plain.case_of(n, sweeps, plain.ordinary(rng, n, sweeps))
+    yield from some_runs(rng, plain.ODD_ORDERS)
+    yield from [case for _, case in plain.odd_refusals(rng)][::4]
+
+
+# Orders, sweeps and ticks by document 01, "The printed sheet" and "Entries to try", and of orders 3, 7 and 31 as 3 S n
+# and the processors.
 TICKS = {(2, 1, 4), (2, 0, 1), (8, 1, 25)}
+ODD_TICKS = {(3, 0, 2), (3, 1, 11), (3, 16, 146), (7, 1, 25), (31, 16, 1504)}
 
 
-def check_variety(made):
-    """Whole runs of every order and number of sweeps, document 01's ticks, spoiled runs, every refusal."""
+def check_variety(made, orders, known_ticks, known_numbers):
+    """Whole runs of every order and number of sweeps, known ticks, spoiled runs, every refusal."""
     sizes = {(case.n, case.sweeps, ticks) for case, _, ticks in made if ticks > 0}
-    assert {n for n, _, _ in sizes} == set(range(2, 33, 2))
+    assert {n for n, _, _ in sizes} == set(orders)
     assert {sweeps for _, sweeps, _ in sizes} == set(range(17))
-    assert sizes >= TICKS
+    assert sizes >= known_ticks
     numbers = [outcome.number or "none" for _, outcome, _ in made]
-    assert set(numbers) == {"none", 1, 2, 3, 5, 6, 8}
+    assert set(numbers) == {"none", *known_numbers}
     print("whole runs by the number of the refusal: " + plain.summary(numbers))
 
 
@@ -464,13 +489,39 @@ HAND_RUNS = [
 ]
 
 
-def hand_runs(rng):
-    """The cases of the starts and the numbers of ticks."""
-    for n, sweeps, kind, numbers in HAND_RUNS:
+ODD_HAND_RUNS = [
+    (3, 0, plain.ordinary, [0, 1, 2, 3]),
+    (3, 1, plain.ordinary, [0, 1, 2, 3, 4, 5, 9, 10, 11, 12]),
+    (3, 1, plain.signed_zeros, [1, 2, 3, 8]),
+    (3, 2, plain.spoiled_by_turn, [1, 3, 7, 20]),
+    (3, 2, plain.spoiled_by_nan, [1, 2, 20]),
+    (3, 16, plain.whole_numbers, [146, 500]),
+    (5, 0, plain.sparse, [1, 3, 4]),
+    (5, 1, plain.ordinary, [1, 2, 3, 4, 17, 18, 19]),
+    (5, 2, plain.signed_zeros, [8, 33]),
+    (5, 3, plain.spoiled_late, [30, 48]),
+    (7, 1, plain.like_sizes, [4, 5, 24, 25, 26]),
+    (9, 2, plain.subnormal, [8, 59]),
+    (11, 1, plain.huge, [7, 39]),
+    (15, 1, plain.covariances, [8, 30]),
+    (19, 1, plain.spoiled_late, [50]),
+    (31, 1, plain.ordinary, [46]),
+    (31, 2, plain.unlike_sizes, [202]),
+]
+
+
+def given_hand_runs(rng, given):
+    """The cases of the starts and the numbers of ticks that are given."""
+    for n, sweeps, kind, numbers in given:
         for ticks in numbers:
             yield plain.case_of(n, sweeps, kind(rng, n, sweeps)), ticks
+
+
+def hand_runs(rng):
+    """Runs by hand, and starts that are refused."""
+    yield from given_hand_runs(rng, HAND_RUNS)
     yield plain.case_of(0, 1, []), 1
-    yield plain.Case(3, 17, plain.ordinary(rng, 3, 0), 9, 9), 2
+    yield plain.Case(33, 17, plain.ordinary(rng, 3, 0), 9, 9), 2
     yield plain.Case(LAST, 1, plain.ordinary(rng, 2, 0), 4, 4), 0
     yield plain.case_of(4, 17, plain.ordinary(rng, 4, 0)), 3
     yield plain.Case(4, 1, plain.ordinary(rng, 4, 0)[:15], 16, 16), 12
@@ -479,7 +530,18 @@ def hand_runs(rng):
     yield plain.unequal(rng, 4, [(4, 3, 0), (4, 2, 63)]), 5
 
 
-# The wild records: an order, sweeps and a tick, each with a word from WILD_WORDS.
+def odd_hand_runs(rng):
+    """The same of odd orders."""
+    yield from given_hand_runs(rng, ODD_HAND_RUNS)
+    yield plain.case_of(3, 17, plain.ordinary(rng, 3, 0)), 2
+    yield plain.Case(3, 1, plain.ordinary(rng, 4, 0), 9, 9), 1
+    yield plain.Case(5, 1, plain.ordinary(rng, 5, 0)[:24], 25, 25), 12
+    yield plain.changed(rng, 5, {(5, 5): INFINITY, (3, 3): NAN}), 0
+    yield plain.unequal(rng, 3, [(3, 2, 0)]), 5
+
+
+# The wild records: an order, sweeps and a tick, each with a word from WILD_WORDS. Those of odd orders that come last
+# have every word.
 
 WILD_SIZES = [
     (0, 0, 0),
@@ -525,6 +587,33 @@ WILD_SIZES = [
     (32, 16, 1488),
     (32, 16, 1489),
     (32, 16, 1503),
+]
+ODD_WILD_SIZES = [
+    (3, 1, 0),
+    (3, 1, 3),
+    (5, 2, 1),
+    (7, 1, 22),
+    (31, 1, 0),
+    (31, 16, 702),
+]
+ODD_WILD_ENDS = [
+    (3, 0, 1),
+    (3, 0, 2),
+    (3, 1, 9),
+    (3, 1, 10),
+    (3, 1, 11),
+    (3, 17, 0),
+    (5, LAST, 0),
+    (7, 1, 24),
+    (7, 1, 25),
+    (31, 0, 15),
+    (31, 0, 16),
+    (31, 16, 701),
+    (31, 16, 703),
+    (31, 16, 1488),
+    (31, 16, 1503),
+    (31, 16, 1504),
+    (31, 16, LAST),
 ]
 WILD_WORDS = [
     ONE,
@@ -589,14 +678,29 @@ def wild_lines(n, sweeps, now, word):
     return plain.lines_of([WILD, n, sweeps, now, word]), plain.lines_of(answer + record)
 
 
-def all_lines(rng):
+def lines_of_wholes(cases, rng, *known):
+    """The lines of whole runs and of their answers."""
+    made = [(case, *agreed(case)) for case in cases]
+    check_variety(made, *known)
+    return [whole_run_lines(*drawn, fill) for drawn, fill in zip(made, plain.finite_patterns(rng))]
+
+
+def lines_of_wilds():
+    """The lines of wild records and of their answers."""
+    words = itertools.cycle(WILD_WORDS)
+    for sizes in WILD_SIZES + ODD_WILD_ENDS:
+        yield wild_lines(*sizes, next(words))
+    for sizes in ODD_WILD_SIZES:
+        for word in WILD_WORDS:
+            yield wild_lines(*sizes, word)
+
+
+def all_lines(rng, odd_rng):
     """The lines of each case and of its answer."""
-    made = [(case, *agreed(case)) for case in whole_runs(rng)]
-    check_variety(made)
-    wholes = [whole_run_lines(*drawn, fill) for drawn, fill in zip(made, plain.finite_patterns(rng))]
-    hands = [hand_run_lines(case, ticks) for case, ticks in hand_runs(rng)]
-    words = [WILD_WORDS[k % len(WILD_WORDS)] for k in range(len(WILD_SIZES))]
-    wilds = [wild_lines(*sizes, word) for sizes, word in zip(WILD_SIZES, words)]
+    wholes = lines_of_wholes(whole_runs(rng), rng, plain.EVEN_ORDERS, TICKS, {1, 2, 3, 5, 6, 8})
+    wholes += lines_of_wholes(odd_whole_runs(odd_rng), odd_rng, plain.ODD_ORDERS, ODD_TICKS, {2, 3, 5, 6, 8})
+    hands = [hand_run_lines(*drawn) for drawn in [*hand_runs(rng), *odd_hand_runs(odd_rng)]]
+    wilds = list(lines_of_wilds())
     print(f"{len(wholes)} whole runs, {len(hands)} runs by hand, {len(wilds)} wild records")
     plains = [(plain.lines_of([PLAIN]) + lines, answer) for lines, answer in plain.all_lines()]
     return wholes + hands + wilds + plains
@@ -604,11 +708,13 @@ def all_lines(rng):
 
 def main():
     argparse.ArgumentParser(description=__doc__.split("\n\n")[0], epilog="It takes no arguments.").parse_args()
-    rng = random.Random(1985)
+    rng, odd_rng = random.Random(1985), random.Random(2003)
     check_wires()
-    check_runs(rng, 3)
-    check_all_rotations(rng)
-    made = all_lines(rng)
+    check_runs(rng, plain.EVEN_ORDERS, 3)
+    check_all_rotations(rng, plain.EVEN_ORDERS)
+    check_runs(odd_rng, plain.ODD_ORDERS, 2)
+    check_all_rotations(odd_rng, plain.ODD_ORDERS)
+    made = all_lines(rng, odd_rng)
     crate = pathlib.Path(__file__).resolve().parent.parent / "crates" / "test_runs"
     for name, side in [("stdin", 0), ("stdout", 1)]:
         text = "".join(line for lines in made for line in lines[side])

@@ -1,6 +1,7 @@
 #!/usr/bin/env python3
 """Writes crates/test_entries/stdout: what the calls of document 01, "Entries to try", answer and leave, by the models of
-the other files here. What document 01 itself says of an entry is asserted.
+the other files here. What document 01 itself says of an entry is asserted, and of the orders 3 and 5 what
+the report's rule gives.
 """
 import argparse
 import pathlib
@@ -31,19 +32,24 @@ LISTS = [
     (4, 1, [(1, 4), (2, 3)]),
     (4, 2, [(1, 3), (4, 2)]),
     (8, 1, [(1, 4), (2, 6), (3, 8), (5, 7)]),
+    (3, 0, [(0, 1), (2, 3)]),
+    (3, 1, [(0, 3), (1, 2)]),
+    (3, 2, [(0, 2), (3, 1)]),
+    (5, 0, [(0, 1), (2, 3), (4, 5)]),
+    (5, 1, [(0, 3), (1, 5), (2, 4)]),
 ]
+NO_ORDERS = [0, 1, 33, 34]
 
-# An order, sweeps and a matrix, with the refusal's number or the ticks that document 01 names.
+# An order, sweeps and a matrix, with the refusal's number or the ticks that the documents name.
 RUNS = [
     (2, 1, [plain.ONE, plain.ZERO, plain.ZERO, plain.THREE], None, None),
     (2, 1, [plain.LARGEST] * 4, 8, None),
     (2, 0, [plain.ONE] * 4, None, 1),
     (8, 1, [plain.ONE] * 64, None, 25),
+    (3, 1, [plain.ONE] * 9, None, 11),
 ]
-REFUSED_RUNS = [
-    (0, 1, [plain.ONE] * 4, 1, None),
-    (3, 1, [plain.ONE] * 9, 1, None),
-    (34, 1, [plain.ONE] * 4, 1, None),
+RUNS_BY_SIZE = [
+    *((n, 1, [plain.ONE] * 4, 1, None) for n in NO_ORDERS),
     (2, 16, [plain.ONE] * 4, None, None),
     (2, 17, [plain.ONE] * 4, 2, None),
 ]
@@ -110,9 +116,9 @@ def all_lines():
         yield from list_lines(n, step, expected)
     for run in RUNS:
         yield from run_lines(*run)
-    for n in (0, 3, 34):
+    for n in NO_ORDERS:
         yield from list_lines(n, 0, None)
-    for run in REFUSED_RUNS:
+    for run in RUNS_BY_SIZE:
         yield from run_lines(*run)
     for data, number in [(SHEET[:27], 3), (SHEET, None), (SHEET + b"\0", 3)]:
         yield from sheet_lines(data, number)

@@ -1,6 +1,6 @@
 #!/usr/bin/env python3
-"""The listing program of document 01, "The printed sheet", with the line codes of document 02, and samples of
-what it prints. Run it as
+"""The listing program of document 01, "The printed sheet", with the line codes and the odd orders of document 02, and
+samples of what it prints. Run it as
 
     python3 tools/listing_vectors.py < SHEET
     python3 tools/listing_vectors.py --samples FOLDER [--seed NUMBER]
@@ -32,6 +32,17 @@ EXAMPLE_PRINT = """\
 
 # The same with the codes 300 and 7.
 LONG_EXAMPLE_PRINT = EXAMPLE_PRINT.replace("\n7 ", "\n300 ").replace("\n9 ", "\n7 ")
+
+# A sheet of three lines: all entries of lines 2 and 3 are 1, and line 1 has 3 on the diagonal and zeros beside it.
+ODD_EXAMPLE = sheets.put_together(
+    1, 1, [4, 7, 9], [plain.THREE, plain.ZERO, plain.ONE, plain.ZERO, plain.ONE, plain.ONE]
+)
+ODD_EXAMPLE_PRINT = """\
+3 1 11
+4 4008000000000000 3FF0000000000000 0000000000000000 0000000000000000
+7 0000000000000000 0000000000000000 3FE6A09E667F3BCC BFE6A09E667F3BCC
+9 4000000000000000 0000000000000000 3FE6A09E667F3BCC 3FE6A09E667F3BCC
+"""
 
 
 # The listing.
@@ -68,7 +79,7 @@ def listing(sheet):
     if outcome.number is not None:
         return fields("refused", outcome.number)
     n, sweeps = run.n, run.sweeps
-    ticks = 3 * sweeps * (n - 1) + n // 2
+    ticks = array.ticks_of(n, sweeps)
     lines = [line_of(n, code, k, outcome) for k, code in enumerate(sheets.codes_of(sheet))]
     return fields(n, sweeps, ticks) + "".join(lines)
 
@@ -128,13 +139,13 @@ def wrong_lengths(rng):
 def wrong_sizes(rng):
     """Sheets with another first or second byte."""
     sheet = sheet_of(rng, 4, 1, plain.ordinary)
-    for n in (0, 1, 3, 5, 31, 33, 34, 255):
+    for n in (0, 1, 35, 37, 63, 33, 34, 255):
         yield 1, "order", bytes([n]) + sheet[1:]
     for n in (2, 6, 32):
         yield 3, "other_order", bytes([n]) + sheet[1:]
     for sweeps in (17, 18, 255):
         yield 2, "sweeps", bytes([4, sweeps]) + sheet[2:]
-    yield 1, "order_and_sweeps", bytes([3, 17])
+    yield 1, "order_and_sweeps", bytes([33, 17])
     yield 2, "sweeps_and_length", bytes([2, 17])
     yield 1, "text", listing(sheets.EXAMPLE).encode("ascii")
 
@@ -200,13 +211,13 @@ def wrong_long_lengths(rng):
 def wrong_long_sizes(rng):
     """Sheets with another order or other sweeps, the 128 being on."""
     sheet = sheet_of(rng, 4, 1, plain.ordinary, sheets.LONG)
-    for n in (0, 1, 3, 5, 31, 33, 34, 64, 127):
+    for n in (0, 1, 35, 37, 63, 33, 34, 64, 127):
         yield 1, "long_order", bytes([128 + n]) + sheet[1:]
     for n in (2, 6, 32):
         yield 3, "long_other_order", bytes([128 + n]) + sheet[1:]
     for sweeps in (17, 255):
         yield 2, "long_sweeps", bytes([132, sweeps]) + sheet[2:]
-    yield 1, "long_order_and_sweeps", bytes([131, 17])
+    yield 1, "long_order_and_sweeps", bytes([161, 17])
     yield 2, "long_sweeps_and_length", bytes([130, 17])
 
 
@@ -225,12 +236,60 @@ def wrong_long_codes(rng):
     yield 4, "long_without_need_and_entry", sheets.with_codes(both, [9, 8, 7, 6])
 
 
+# The samples of odd orders, in both forms.
+
+
+def whole_odd_sheets(rng):
+    """Sheets of every odd order whose runs stay finite, of order 3 with several numbers of sweeps."""
+    yield None, "odd_example", ODD_EXAMPLE
+    kinds = [kind for kind in dict.fromkeys(plain.KINDS) if kind not in plain.MAY_SPOIL]
+    sizes = [(3, 0), (3, 1), (3, 7), (3, 16), (5, 0), (5, 8), (7, 16)]
+    sizes += [(n, n % 7) for n in plain.ODD_ORDERS if n > 7]
+    for k, (n, sweeps) in enumerate(sizes):
+        kind = kinds[k % len(kinds)]
+        yield None, f"odd_{kind.__name__}", sheet_of(rng, n, sweeps, kind)
+    for n, sweeps in [(3, 1), (3, 16), (15, 4), (31, 0), (31, 2)]:
+        yield None, "odd_long", sheet_of(rng, n, sweeps, plain.covariances, sheets.LONG)
+
+
+def spoiled_odd_sheets(rng):
+    kinds = [plain.spoiled_by_sum, plain.spoiled_by_nan, plain.spoiled_by_turn, plain.spoiled_late]
+    for n, sweeps in [(3, 1), (5, 3), (31, 1)]:
+        for kind in kinds:
+            yield 8, f"odd_{kind.__name__}", sheet_of(rng, n, sweeps, kind)
+    yield 8, "odd_largest", sheets.put_together(1, 1, [1, 2, 3], [plain.LARGEST] * 6)
+    yield 8, "odd_long_spoiled", sheet_of(rng, 3, 1, plain.spoiled_by_sum, sheets.LONG)
+
+
+def wrong_odd_sheets(rng):
+    """Each refusal of a sheet."""
+    for form in (sheets.SHORT, sheets.LONG):
+        three, four, large = (sheet_of(rng, n, 1, plain.ordinary, form) for n in (3, 4, 31))
+        mark, word = form.mark, "odd_long" if form.mark else "odd"
+        yield 3, f"{word}_cut", three[:-1]
+        yield 3, f"{word}_byte_added", three + b"\0"
+        yield 3, f"{word}_cut", large[:-1]
+        yield 3, f"{word}_other_order", bytes([mark + 3]) + four[1:]
+        yield 3, f"{word}_other_order", bytes([mark + 4]) + three[1:]
+        yield 3, f"{word}_other_order", bytes([mark + 32]) + large[1:]
+        yield 1, f"{word}_order", bytes([mark + 1]) + three[1:]
+        yield 1, f"{word}_order", bytes([mark + 33]) + large[1:]
+        yield 2, f"{word}_sweeps", bytes([mark + 3, 17]) + three[2:]
+        yield 4, f"{word}_codes", sheets.with_codes(three, sheets.repeated(sheets.codes_of(three), 0, 2))
+        yield 4, f"{word}_codes", sheets.with_codes(large, sheets.zero_at(sheets.codes_of(large), 30))
+        for place in [(1, 1), (3, 2), (3, 3)]:
+            yield 5, f"{word}_entry", sheets.with_entries(three, {place: rng.choice(sheets.NOT_FINITE)})
+    yield 4, "odd_long_without_need", sheets.with_codes(three, [1, 2, 3])
+
+
 def samples(rng):
     """The samples: a name, the sheet, and what is printed of it."""
     made = [(None, "example", sheets.EXAMPLE)]
     for group in (whole_sheets, spoiled_sheets, wrong_lengths, wrong_sizes, wrong_codes, wrong_entries):
         made += group(rng)
     for group in (whole_long_sheets, wrong_long_lengths, wrong_long_sizes, wrong_long_codes):
+        made += group(rng)
+    for group in (whole_odd_sheets, spoiled_odd_sheets, wrong_odd_sheets):
         made += group(rng)
     found = []
     for k, (number, word, sheet) in enumerate(made):
@@ -251,6 +310,7 @@ def number_in(printed):
 def check_example():
     assert listing(sheets.EXAMPLE) == EXAMPLE_PRINT
     assert listing(sheets.LONG_EXAMPLE) == LONG_EXAMPLE_PRINT
+    assert listing(ODD_EXAMPLE) == ODD_EXAMPLE_PRINT
 
 
 def check_by_array(sheet, printed):
@@ -280,8 +340,8 @@ def check_variety(made):
     """Enough sheets, of every order and number of sweeps, and every refusal that a listing can print, in both
     forms."""
     accepted = [sheet[:2] for _, sheet, printed in made if number_in(printed) is None]
-    assert {n for n, _ in accepted if n < 128} == set(range(2, 33, 2))
-    assert {n - 128 for n, _ in accepted if n >= 128} >= {2, 8, 32}
+    assert {n for n, _ in accepted if n < 128} == set(range(2, 33))
+    assert {n - 128 for n, _ in accepted if n >= 128} >= {2, 3, 8, 31, 32}
     assert {sweeps for _, sweeps in accepted} == set(range(17))
     numbers = [number_in(printed) for _, _, printed in made]
     long_numbers = {number_in(printed) for _, sheet, printed in made if sheet[:1] >= b"\x80"}

@@ -1,6 +1,7 @@
 #!/usr/bin/env python3
-"""Orders and steps, and what the list of pairs is by document 01, "Pairs and their movement". call_vectors.py writes
-them to files; run alone, this file only makes and checks them, and prints how many there are.
+"""Orders and steps, and what the list of pairs is by document 01, "Pairs and their movement", and document 02, odd
+orders. call_vectors.py writes them to files; run alone, this file only makes and checks them, and prints how many there
+are.
 
 The registers are moved one by one, until they stand as at first. The lists of later steps repeat
 those.
@@ -11,24 +12,37 @@ import itertools
 PROCESSORS = 16
 LARGEST = (1 << 64) - 1  # of a usize
 
-# The lists of document 01, "Entries to try".
+# The lists of document 01, "Entries to try", and those of order 3, moved by hand.
 EXAMPLES = [
     (4, 0, [(1, 2), (3, 4)]),
     (4, 1, [(1, 4), (2, 3)]),
     (4, 2, [(1, 3), (4, 2)]),
     (8, 1, [(1, 4), (2, 6), (3, 8), (5, 7)]),
+    (3, 0, [(0, 1), (2, 3)]),
+    (3, 1, [(0, 3), (1, 2)]),
+    (3, 2, [(0, 2), (3, 1)]),
+    (3, 3, [(0, 1), (2, 3)]),
 ]
 
 
 # The model. The registers of the processors 1 to N are kept by processor and side.
 
 
-def first_registers(count):
-    """What the registers hold at first, of that many processors."""
+def processors(n):
+    return (n + 1) // 2
+
+
+def sweep_steps(n):
+    return n if n % 2 == 1 else n - 1
+
+
+def first_registers(n):
+    """What the registers hold at first. Those of an odd order begin with line 0."""
+    less = n % 2
     registers = {}
-    for k in range(1, count + 1):
-        registers[k, "left"] = 2 * k - 1
-        registers[k, "right"] = 2 * k
+    for k in range(1, processors(n) + 1):
+        registers[k, "left"] = 2 * k - 1 - less
+        registers[k, "right"] = 2 * k - less
     return registers
 
 
@@ -53,18 +67,18 @@ def moved(count, registers):
     return after
 
 
-def round_trip(count):
+def round_trip(n):
     """The registers in each step, until they stand as at first."""
-    registers = first_registers(count)
+    registers = first_registers(n)
     found = [registers]
     while True:
-        registers = moved(count, registers)
+        registers = moved(processors(n), registers)
         if registers == found[0]:
             return found
         found.append(registers)
 
 
-ROUND_TRIPS = {n: round_trip(n // 2) for n in range(2, 33, 2)}
+ROUND_TRIPS = {n: round_trip(n) for n in range(2, 2 * PROCESSORS + 1)}
 
 
 def pairs(n, step):
@@ -73,29 +87,40 @@ def pairs(n, step):
         return None
     steps = ROUND_TRIPS[n]
     registers = steps[step % len(steps)]
-    return [(registers[k, "left"], registers[k, "right"]) for k in range(1, n // 2 + 1)]
+    return [(registers[k, "left"], registers[k, "right"]) for k in range(1, processors(n) + 1)]
 
 
 def check(n):
-    """In the n - 1 steps of a sweep every two lines meet once."""
-    meetings = [frozenset(pair) for step in range(n - 1) for pair in pairs(n, step)]
-    every_two = {frozenset(two) for two in itertools.combinations(range(1, n + 1), 2)}
+    """In the steps of a sweep every two lines meet once, line 0 of an odd order always in processor 1 and
+    on its left. After a sweep the pairs repeat."""
+    lists = [pairs(n, step) for step in range(sweep_steps(n))]
+    meetings = [frozenset(pair) for listed in lists for pair in listed]
+    every_two = {frozenset(two) for two in itertools.combinations(range(1 - n % 2, n + 1), 2)}
     assert len(meetings) == len(every_two) and set(meetings) == every_two, n
+    assert n % 2 == 0 or all(listed[0][0] == 0 for listed in lists)
+    assert len(ROUND_TRIPS[n]) == sweep_steps(n)
 
 
 # The cases.
 
 
 def cases():
-    """All orders and steps, in order and each once."""
+    """All orders and steps, each once: even orders, those that are refused or odd, and odd orders."""
     found = []
     for n in range(2, 33, 2):
-        steps = [*range(n - 1), n - 1, 2 * n - 3, 1000003, LARGEST]
-        found += [(n, step) for step in steps]
-    refused = [0, *range(1, 36, 2), 34, 36, 64, 256, 258, (1 << 32) + 4, 1 << 63, LARGEST - 1, LARGEST]
-    for n in refused:
+        found += [(n, step) for step in steps_of(n)]
+    others = [0, *range(1, 36, 2), 34, 36, 64, 256, 258, (1 << 32) + 4, 1 << 63, LARGEST - 1, LARGEST]
+    for n in others:
         found += [(n, step) for step in (0, 1, LARGEST)]
+    for n in range(3, 32, 2):
+        found += [(n, step) for step in steps_of(n)]
     return list(dict.fromkeys(found))
+
+
+def steps_of(n):
+    """The steps of a sweep, the first and the last of the next, and some late ones."""
+    sweep = sweep_steps(n)
+    return [*range(sweep), sweep, 2 * sweep - 1, 1000003, LARGEST]
 
 
 # The lines.

@@ -1,6 +1,6 @@
 """Orders, sweeps and matrices, and what the plain run makes of them by document 01, "One rotation",
-"Pairs and their movement" and "Refused, by place". array_vectors.py writes them to files; run alone, this file only
-makes and checks them, and prints how many there are.
+"Pairs and their movement" and "Refused, by place", and document 02, odd orders. array_vectors.py writes them to files;
+run alone, this file only makes and checks them, and prints how many there are.
 
 The arithmetic is that of Python's float, which is binary64 rounded to nearest. No operation here is
 fused with another, and none divides by zero.
@@ -17,6 +17,7 @@ INFINITY = 0x7FF << 52
 NAN = 0x7FF8 << 48
 ZERO = 0
 ONE = 0x3FF << 52
+TWO = 0x4000 << 48
 THREE = 0x4008 << 48
 HALF_ROOT = 0x3FE6A09E667F3BCC  # as document 01 prints it
 LARGEST = INFINITY - 1
@@ -50,7 +51,7 @@ EXAMPLES = [
     (
         case_of(2, 1, [ONE, ONE, ONE, ONE]),
         Outcome(
-            result=[ZERO, ZERO, ZERO, 0x4000 << 48],
+            result=[ZERO, ZERO, ZERO, TWO],
             vectors=[HALF_ROOT, HALF_ROOT, SIGN + HALF_ROOT, HALF_ROOT],
         ),
     ),
@@ -68,8 +69,63 @@ EXAMPLES = [
     ),
 ]
 
+# The same of order 3, by hand: two lines that are alike beside a third. Lines 2 and 3 meet in the first step, 1 and 2
+# in the second, and in the last line 3 is the left one and line 1 the right.
+ODD_EXAMPLES = [
+    (
+        case_of(3, 1, [THREE, ZERO, ZERO, ZERO, ONE, ONE, ZERO, ONE, ONE]),
+        Outcome(
+            result=[THREE, ZERO, ZERO, ZERO, ZERO, ZERO, ZERO, ZERO, TWO],
+            vectors=[ONE, ZERO, ZERO, ZERO, HALF_ROOT, HALF_ROOT, ZERO, SIGN + HALF_ROOT, HALF_ROOT],
+        ),
+    ),
+    (
+        case_of(3, 1, [ONE, ONE, ZERO, ONE, ONE, ZERO, ZERO, ZERO, THREE]),
+        Outcome(
+            result=[ZERO, ZERO, ZERO, ZERO, TWO, ZERO, ZERO, ZERO, THREE],
+            vectors=[HALF_ROOT, HALF_ROOT, ZERO, SIGN + HALF_ROOT, HALF_ROOT, ZERO, ZERO, ZERO, ONE],
+        ),
+    ),
+    (
+        case_of(3, 1, [ONE, ZERO, ONE, ZERO, THREE, ZERO, ONE, ZERO, ONE]),
+        Outcome(
+            result=[TWO, ZERO, ZERO, ZERO, THREE, ZERO, ZERO, ZERO, ZERO],
+            vectors=[HALF_ROOT, ZERO, SIGN + HALF_ROOT, ZERO, ONE, ZERO, HALF_ROOT, ZERO, HALF_ROOT],
+        ),
+    ),
+    (
+        case_of(3, 1, [ONE, SIGN, ZERO, SIGN, THREE, SIGN, ZERO, SIGN, TWO]),
+        Outcome(
+            result=[ONE, ZERO, ZERO, ZERO, THREE, ZERO, ZERO, ZERO, TWO],
+            vectors=[ONE, ZERO, ZERO, ZERO, ONE, ZERO, ZERO, ZERO, ONE],
+        ),
+    ),
+    (
+        case_of(3, 1, [LARGEST] * 9),
+        Outcome(number=8, result=[ZERO] * 9, vectors=[ZERO] * 9, spoiled=0),
+    ),
+]
 
-# The model. A matrix is a list of rows, and its lines are counted from 0.
+
+# The model. A matrix is a list of rows. In a run its lines are those in the registers, counted from 0: of an odd order
+# line 0 and the real ones, of an even order the real ones from line 1 on.
+
+
+def first_line(n):
+    return 1 - n % 2
+
+
+def processors(n):
+    return (n + 1) // 2
+
+
+def steps_of(n, sweeps):
+    return sweeps * (n if n % 2 == 1 else n - 1)
+
+
+def always_still(n, k):
+    """Whether processor k is still whatever its cells hold."""
+    return n % 2 == 1 and k == 1
 
 
 def parameters(a, d, b):
@@ -89,10 +145,10 @@ def turn(c, s, x, y):
     return c * x - s * y, s * x + c * y
 
 
-def turn_pair(a, vectors, p, q):
+def turn_pair(a, vectors, p, q, is_still):
     """Gives the pair of the lines p and q its parameters, its row turn and its column turn."""
     pp, qq, pq = a[p][p], a[q][q], a[p][q]
-    found = parameters(pp, qq, pq)
+    found = STILL if is_still else parameters(pp, qq, pq)
     if found is not STILL:
         t, c, s = found
         others = [r for r in range(len(a)) if r not in (p, q)]
@@ -113,12 +169,17 @@ def moved(left, right):
     return [left[0], right[0], *left[1:-1]], [*right[1:], left[-1]]
 
 
+def first_registers(n):
+    first = first_line(n)
+    return list(range(first, n, 2)), list(range(first + 1, n + 1, 2))
+
+
 def make_steps(n, sweeps, a, vectors):
     """Makes the steps of a run, and stops after each."""
-    left, right = list(range(1, n, 2)), list(range(2, n + 1, 2))
-    for _ in range(sweeps * (n - 1)):
-        for p, q in zip(left, right):
-            turn_pair(a, vectors, p - 1, q - 1)
+    first, (left, right) = first_line(n), first_registers(n)
+    for _ in range(steps_of(n, sweeps)):
+        for k, (p, q) in enumerate(zip(left, right), 1):
+            turn_pair(a, vectors, p - first, q - first, always_still(n, k))
         yield
         left, right = moved(left, right)
 
@@ -132,6 +193,23 @@ def identity(n):
     return [[float(i == j) for j in range(n)] for i in range(n)]
 
 
+def with_line_0(n, rows):
+    """The rows of a run from those of the real lines: of an odd order line 0 is +0 throughout."""
+    if n % 2 == 0:
+        return rows
+    return [[0.0] * (n + 1), *([0.0, *row] for row in rows)]
+
+
+def real_lines(n, rows):
+    """The rows of the real lines."""
+    return [row[n % 2 :] for row in rows[n % 2 :]]
+
+
+def first_rows(n, matrix):
+    """The matrix and the eigenvectors before a run."""
+    return with_line_0(n, rows_of(n, matrix)), with_line_0(n, identity(n))
+
+
 def patterns_of(a):
     return [pattern_of(value) for row in a for value in row]
 
@@ -141,12 +219,14 @@ def all_finite(a):
 
 
 def ran(n, sweeps, matrix):
-    """The outcome of a run that is not refused before it."""
-    a, vectors = rows_of(n, matrix), identity(n)
+    """The outcome of a run that is not refused before it. A real line is not finite wherever line 0 is not."""
+    a, vectors = first_rows(n, matrix)
     for step, _ in enumerate(make_steps(n, sweeps, a, vectors)):
-        if not all_finite(a) or not all_finite(vectors):
+        is_finite = all_finite(a) and all_finite(vectors)
+        assert is_finite == (all_finite(real_lines(n, a)) and all_finite(real_lines(n, vectors)))
+        if not is_finite:
             return Outcome(number=8, result=[ZERO] * n * n, vectors=[ZERO] * n * n, spoiled=step)
-    return Outcome(result=patterns_of(a), vectors=patterns_of(vectors))
+    return Outcome(result=patterns_of(real_lines(n, a)), vectors=patterns_of(real_lines(n, vectors)))
 
 
 def first_place(n, is_bad):
@@ -161,7 +241,7 @@ def first_place(n, is_bad):
 def outcome_of(case):
     """The refusals in the order of document 01's table, and then the run."""
     n, sweeps, matrix = case.n, case.sweeps, case.matrix
-    if n % 2 == 1 or n < 2 or n > 32:
+    if n < 2 or n > 32:
         return Outcome(number=1)
     if sweeps > 16:
         return Outcome(number=2)
@@ -252,7 +332,8 @@ def far_diagonals(rng, n, _):
 
 def first_pairs(rng, n, _):
     """Only the first pairs' entries, so large that twice of each overflows."""
-    return mirrored(n, lambda i, j: within(rng, TOP, TOP) if i // 2 == j // 2 and i < j else 0.0)
+    less = n % 2
+    return mirrored(n, lambda i, j: within(rng, TOP, TOP) if (i + less) // 2 == (j + less) // 2 and i < j else 0.0)
 
 
 def tiny(rng, n, _):
@@ -293,7 +374,7 @@ def put(n, matrix, i, j, pattern):
 def spoiled_by_sum(rng, n, sweeps):
     """A pair of the first step whose new a_qq overflows."""
     matrix = ordinary(rng, n, sweeps)
-    p = 2 * rng.randrange(n // 2)
+    p = n % 2 + 2 * rng.randrange(n // 2)
     for i, j in [(p, p), (p + 1, p + 1), (p, p + 1)]:
         put(n, matrix, i, j, LARGEST - rng.getrandbits(50))
     return matrix
@@ -302,7 +383,7 @@ def spoiled_by_sum(rng, n, sweeps):
 def spoiled_by_nan(rng, n, sweeps):
     """A pair of the first step with both d - a and 2 b infinite, of any sign."""
     matrix = ordinary(rng, n, sweeps)
-    p = 2 * rng.randrange(n // 2)
+    p = n % 2 + 2 * rng.randrange(n // 2)
     sign = rng.getrandbits(1)
     put(n, matrix, p, p, sign * SIGN + LARGEST - rng.getrandbits(50))
     put(n, matrix, p + 1, p + 1, (1 - sign) * SIGN + LARGEST - rng.getrandbits(50))
@@ -312,10 +393,10 @@ def spoiled_by_nan(rng, n, sweeps):
 
 def spoiled_by_turn(rng, n, sweeps):
     """A pair of the first step that turns by 45 degrees, and beside it two large values that no pair
-    before it turns (order 4 on)."""
+    before it turns (order 3 on). Line 1 of an odd order is in no pair that turns."""
     matrix = ordinary(rng, n, sweeps)
-    p = 2 * rng.randrange(n // 2 - 1)
-    r = rng.randrange(p + 2, n)
+    p = n % 2 + 2 * rng.randrange((n - 1) // 2)
+    r = rng.randrange(p + 2, n + n % 2) % n
     put(n, matrix, p, p, ZERO)
     put(n, matrix, p + 1, p + 1, ZERO)
     put(n, matrix, p, p + 1, ONE)
@@ -326,10 +407,10 @@ def spoiled_by_turn(rng, n, sweeps):
 
 def heights(n, sweeps, matrix):
     """The largest size of an entry up to each step, at first and then after each."""
-    a = rows_of(n, matrix)
+    a, vectors = first_rows(n, matrix)
     size = max(abs(value) for row in a for value in row)
     found = [size]
-    for _ in make_steps(n, sweeps, a, identity(n)):
+    for _ in make_steps(n, sweeps, a, vectors):
         size = max(size, *(abs(value) for row in a for value in row))
         found.append(size)
     return found
@@ -337,13 +418,13 @@ def heights(n, sweeps, matrix):
 
 def spoiled_late(rng, n, sweeps):
     """A matrix scaled so that a step after the first spoils it, and none before, often a step after the
-    first sweep (order 4 and a sweep on)."""
+    first sweep (order 3 and a sweep on)."""
     while True:
         v = [rng.uniform(1, 2) for _ in range(n)]
         matrix = mirrored(n, lambda i, j: v[i] * v[j] + rng.uniform(-0.5, 0.5))
         sizes = heights(n, sweeps, matrix)
         grown = [step for step in range(1, len(sizes) - 1) if sizes[step + 1] > sizes[step]]
-        later = [step for step in grown if step >= n - 1]
+        later = [step for step in grown if step >= steps_of(n, 1)]
         if later and rng.randrange(3) > 0:
             grown = later
         if not grown:
@@ -390,8 +471,14 @@ PLAIN = FIRST_STEP | {zero, diagonal, signed_zeros, first_pairs, far_diagonals, 
 LARGE_KINDS = [kind for kind in dict.fromkeys(KINDS) if kind not in PLAIN]
 
 
+EVEN_ORDERS = range(2, 33, 2)
+ODD_ORDERS = range(3, 32, 2)
+
+
 def amount(n):
     """How many cases an order gets."""
+    if n % 2 == 1:
+        return 34 if n == 3 else 17 if n <= 8 else 5 if n <= 16 else 2
     return 36 if n <= 8 else 15 if n <= 16 else 5
 
 
@@ -403,10 +490,10 @@ def kind_for(n, k):
     return spoiled_by_sum if n == 2 and kind in (spoiled_late, spoiled_by_turn) else kind
 
 
-def runs(rng):
-    """The kind and the case of each run, over all orders and all numbers of sweeps."""
+def runs(rng, orders):
+    """The kind and the case of each run, over these orders and all numbers of sweeps."""
     k = 0
-    for n in range(2, 33, 2):
+    for n in orders:
         for _ in range(amount(n)):
             kind = kind_for(n, k)
             sweeps = k % 17
@@ -421,7 +508,7 @@ def runs(rng):
 
 def refused_orders(rng):
     """Some with lengths of n * n, also as a product that wraps around would have it."""
-    small = [(0, 0), (1, 1), (3, 9), (5, 25), (31, 4), (33, 4), (34, 1156), (36, 4), (258, 4)]
+    small = [(0, 0), (1, 1), (33, 9), (35, 25), (63, 4), (33, 4), (34, 1156), (36, 4), (258, 4)]
     large = [(1 << 32, 0), ((1 << 32) + 2, 4), (1 << 63, 0), (LAST - 1, 4), (LAST, 1)]
     for n, size in small + large:
         yield Case(n, 1, [pattern_of(rng.uniform(-1, 1)) for _ in range(size)], size, size)
@@ -511,9 +598,9 @@ def several_reasons(rng):
     unlike = [good[0], good[1] ^ 1, *good[2:]]
     both = [*unlike[:14], INFINITY, unlike[15]]
     large = [LARGEST] * 16
-    yield 1, Case(3, 17, good[:9], 9, 9)
-    yield 1, Case(3, 17, good[:8], 7, 6)
-    yield 1, Case(5, 1, bad, 16, 16)
+    yield 1, Case(33, 17, good[:9], 9, 9)
+    yield 1, Case(1, 17, good[:8], 7, 6)
+    yield 1, Case(33, 1, bad, 16, 16)
     yield 1, Case(34, 1, good, 16, 16)
     yield 1, Case(0, LAST, [], 4, 0)
     yield 2, Case(4, 17, good[:15], 16, 16)
@@ -549,6 +636,33 @@ def refusals(rng):
         for case in group(rng):
             yield number, case
     yield from several_reasons(rng)
+
+
+def odd_refusals(rng):
+    """The same of odd orders, on the diagonal and off it."""
+    yield 2, case_of(3, 17, ordinary(rng, 3, 0))
+    yield 2, case_of(31, LAST, ordinary(rng, 31, 0))
+    for n in (3, 5):
+        whole, less, more = n * n, (n - 1) ** 2, (n + 1) ** 2
+        for place, size in [(0, whole - 1), (0, more), (1, whole + 1), (1, 0), (2, less), (2, whole - 1)]:
+            sizes = [whole] * 3
+            sizes[place] = size
+            yield 3, sized(rng, n, sizes)
+    yield 3, sized(rng, 31, (961, 961, 1024))
+    for n in (3, 5):
+        for place in [(1, 1), (1, 2), (2, 1), (2, 2), (n, n - 1), (n, n), (1, n)]:
+            yield 5, changed(rng, n, {place: rng.choice((NAN, INFINITY, SIGN + INFINITY))})
+    yield 5, changed(rng, 3, {(i, i): NAN for i in (1, 2, 3)})
+    yield 5, changed(rng, 31, {(31, 31): INFINITY})
+    for n in (3, 5):
+        for i, j in [(1, 2), (1, n), (n, 1), (n - 1, n), (n, n - 1)]:
+            yield 6, unequal(rng, n, [(i, j, rng.choice((0, 52, 63)))])
+    yield 6, changed(rng, 3, {(1, 3): ZERO, (3, 1): SIGN})
+    yield 6, unequal(rng, 31, [(31, 30, 0)])
+    good = ordinary(rng, 3, 0)
+    yield 2, Case(3, 17, [NAN, *good[1:]], 8, 9)
+    yield 3, Case(3, 1, [NAN, *good[1:]], 9, 10)
+    yield 5, case_of(3, 1, [good[0], good[1] ^ 1, *good[2:8], INFINITY])
 
 
 # The files.
@@ -610,18 +724,18 @@ def finite_patterns(rng):
             yield pattern
 
 
-def check_variety(kinds, cases, outcomes):
+def check_variety(kinds, cases, outcomes, orders):
     """Every order and number of sweeps is there, in small orders every two of them; and enough runs are
     spoiled, in the first step, after it, and after the first sweep."""
     sizes = {(case.n, case.sweeps) for case in cases}
-    assert sizes >= {(n, sweeps) for n in (2, 4, 6, 8) for sweeps in range(17)}
-    assert {n for n, _ in sizes} == set(range(2, 33, 2))
+    assert sizes >= {(n, sweeps) for n in orders if n <= 8 for sweeps in range(17)}
+    assert {n for n, _ in sizes} == set(orders)
     assert set(kinds) == set(KINDS)
     spoiled = [(case.n, made.spoiled) for case, made in zip(cases, outcomes) if made.number == 8]
     first = sum(step == 0 for _, step in spoiled)
-    later = sum(0 < step < n - 1 for n, step in spoiled)
-    last = sum(step >= n - 1 for n, step in spoiled)
-    assert first >= 10 and later >= 10 and last >= 5
+    later = sum(0 < step < steps_of(n, 1) for n, step in spoiled)
+    last = sum(step >= steps_of(n, 1) for n, step in spoiled)
+    assert first >= 10 and later >= 8 and last >= 5
     print(f"{len(cases)} runs, {len(cases) - len(spoiled)} of them accepted")
     print(f"spoiled in the first step {first}, later in the first sweep {later}, after it {last}")
 
@@ -630,21 +744,21 @@ def summary(names):
     return ", ".join(f"{name} {count}" for name, count in collections.Counter(names).items())
 
 
-def checked_runs(rng):
-    """The runs with their outcomes."""
-    made = list(runs(rng))
+def checked_runs(rng, orders):
+    """The runs of these orders with their outcomes."""
+    made = list(runs(rng, orders))
     kinds, cases = [kind for kind, _ in made], [case for _, case in made]
     outcomes = [outcome_of(case) for case in cases]
     for kind, case, outcome in zip(kinds, cases, outcomes):
         check(kind, case, outcome)
-    check_variety(kinds, cases, outcomes)
+    check_variety(kinds, cases, outcomes, orders)
     print("runs: " + summary(kind.__name__ for kind in kinds))
     return list(zip(cases, outcomes))
 
 
-def checked_refusals(rng):
+def checked_refusals(drawn):
     """The refusals before a run with their outcomes."""
-    made = [(number, case, outcome_of(case)) for number, case in refusals(rng)]
+    made = [(number, case, outcome_of(case)) for number, case in drawn]
     assert all(number == outcome.number for number, _, outcome in made)
     print("refusals by number: " + summary(number for number, _, _ in made))
     return [(case, outcome) for _, case, outcome in made]
@@ -652,12 +766,16 @@ def checked_refusals(rng):
 
 def all_lines():
     """The lines of each case and of its answer."""
-    for case, outcome in EXAMPLES:
+    for case, outcome in EXAMPLES + ODD_EXAMPLES:
         assert outcome_of(case) == outcome, case
     rng = random.Random(1983)
-    cases = [*EXAMPLES, *checked_runs(rng), *checked_refusals(rng)]
-    print(f"{len(cases)} plain runs")
-    for (case, outcome), fill in zip(cases, finite_patterns(rng)):
+    cases = [*EXAMPLES, *checked_runs(rng, EVEN_ORDERS), *checked_refusals(refusals(rng))]
+    filled = list(zip(cases, finite_patterns(rng)))
+    rng = random.Random(562)
+    odd_cases = [*ODD_EXAMPLES, *checked_runs(rng, ODD_ORDERS), *checked_refusals(odd_refusals(rng))]
+    filled += zip(odd_cases, finite_patterns(rng))
+    print(f"{len(filled)} plain runs, {len(odd_cases)} of them of odd orders")
+    for (case, outcome), fill in filled:
         yield lines_of(head(case, fill) + case.matrix), answer_of(case, fill, outcome)
 
 

@@ -1,9 +1,11 @@
 #!/usr/bin/env python3
 """Orders, matrices and steps, and the records of the step by document 01, "One rotation", last paragraph, and "Refused,
-by place". call_vectors.py writes them to files; run alone, this file only makes them, and prints how many there are.
+by place", and document 02, odd orders. call_vectors.py writes them to files; run alone, this file only makes them, and
+prints how many there are.
 
 Matrices of all kinds and the parameters of a pair come from plain_vectors.py. The pair of a processor is found
-here by its own rule: the lines stand on a ring of n - 1 registers, beside line 1, and move by one place a step.
+here by its own rule: the lines stand on a ring of registers, beside line 1, or line 0 of an odd order, and move by
+one place a step.
 """
 import argparse
 import math
@@ -21,11 +23,11 @@ STEPS = [0, 1, 2, 3, 5, 1 << 20, (1 << 63) + 11, (1 << 64) - 1]
 def pairs_at(n, step):
     """The left and the right line of each processor. After left 1 the ring goes along the left registers and
     back along the right ones, which ends beside left 1."""
-    half = n // 2
-    ring = [2 * k - 1 for k in range(2, half + 1)] + [2 * k for k in range(half, 0, -1)]
-    shift = step % (n - 1)
+    half, less = (n + 1) // 2, n % 2
+    ring = [2 * k - 1 - less for k in range(2, half + 1)] + [2 * k - less for k in range(half, 0, -1)]
+    shift = step % len(ring)
     turned = ring[-shift:] + ring[:-shift] if shift else ring
-    left = [1, *turned[: half - 1]]
+    left = [1 - less, *turned[: half - 1]]
     right = turned[half - 1 :][::-1]
     return list(zip(left, right))
 
@@ -43,7 +45,7 @@ def refusal_of(n, matrix, room):
     found = plain.outcome_of(plain.Case(n, 0, matrix, n * n, n * n))
     if found.number:
         return found.number, found.place
-    if room < n // 2:
+    if room < (n + 1) // 2:
         return 7, None
     return None, None
 
@@ -51,7 +53,9 @@ def refusal_of(n, matrix, room):
 def records_of(n, matrix, step):
     a = plain.rows_of(n, matrix)
     for p, q in pairs_at(n, step):
-        found = plain.parameters(a[p - 1][p - 1], a[q - 1][q - 1], a[p - 1][q - 1])
+        found = plain.STILL
+        if p > 0:
+            found = plain.parameters(a[p - 1][p - 1], a[q - 1][q - 1], a[p - 1][q - 1])
         yield [pattern_of(value) for value in record_of(found)]
 
 
@@ -88,12 +92,33 @@ def cases(rng):
         yield 4, [good[0], good[1] ^ 1, *good[2:]], 1, room
         yield 4, good[:15], 1, room
         yield 6, good, 1, room
+        yield 33, good, 1, room
+
+
+def odd_cases(rng):
+    """The same of odd orders: every kind of matrix, every order with steps of more than a sweep, and each refusal."""
+    k = 0
+    for n in range(3, 32, 2):
+        steps = range(n + 2) if n <= 7 else rng.sample(range(n), 2)
+        for step in [*steps, rng.choice(STEPS)]:
+            kind, half = plain.kind_for(n, k), (n + 1) // 2
+            yield n, kind(rng, n, 1), step, rng.choice((half, half, half - 1, ROW, 0, 1 << 63))
+            k += 1
+    for number, case in plain.odd_refusals(rng):
+        if case.sweeps <= 16:
+            yield case.n, case.matrix, rng.randrange(40), rng.choice((0, 1, ROW))
+    good = plain.ordinary(rng, 5, 0)
+    for room in (0, 1, 2, 3, 4):
         yield 5, good, 1, room
+        yield 5, [plain.NAN, *good[1:]], 1, room
+        yield 5, [good[0], good[1] ^ 1, *good[2:]], 1, room
+        yield 5, good[:24], 1, room
+        yield 7, good, 1, room
 
 
 def all_lines():
     """The lines of each case and of its answer."""
-    found = list(cases(random.Random(8)))
+    found = [*cases(random.Random(8)), *odd_cases(random.Random(7))]
     print(f"{len(found)} calls for the records of a step")
     for n, matrix, step, room in found:
         refused = told(*refusal_of(n, matrix, room)) + told(*refusal_of(n, matrix, ROW))

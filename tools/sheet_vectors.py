@@ -1,7 +1,7 @@
 #!/usr/bin/env python3
 """Writes crates/test_sheets/stdin and crates/test_sheets/stdout: sheets to be read and matrices to be
 written as sheets, and what comes of them by document 01, "A sheet" and "Refused, by place", and document 02,
-line codes above 255.
+line codes above 255 and odd orders.
 
 All input, and all output but refusals, is words of 16 hexadecimal digits in capital letters, one to a line.
 Values are their patterns, one to a word, and codes are one to a word, in its lowest 16 bits. The bytes of a
@@ -22,7 +22,8 @@ filled with another NaN than 7FF8000000000000. A refusal is a line "refused" wit
 a place, a line "row" and a line "column", each with a space and the figure in decimal.
 
 Patterns are judged as whole numbers, and nothing is worked out with values. The cases of sheets with codes of
-one byte come first, then the same groups with codes of two bytes, then what only two forms bring about.
+one byte come first, then the same groups with codes of two bytes, then what only two forms bring about, all of even
+orders, and then odd orders in both forms.
 """
 import argparse
 import collections
@@ -71,7 +72,7 @@ def head_of(sheet):
 
 def refused_sizes(n, sweeps):
     """The number of the refusal of an order and sweeps."""
-    if n % 2 == 1 or n < 2 or n > 32:
+    if n < 2 or n > 32:
         return 1
     return 2 if sweeps > 16 else None
 
@@ -177,8 +178,8 @@ def check_examples():
     assert read(whole_reading(EXAMPLE)) == accepted
     assert write(Writing(2, 1, [7, 9], [ONE] * 4, 28)).sheet == EXAMPLE
     assert len(EXAMPLE) == length(2, 1) == 28 and length(32, 1) == 4258
-    for n in (0, 3, 34):
-        assert read(whole_reading(bytes([n]) + EXAMPLE[1:])).number == 1
+    for n, number in [(0, 1), (1, 1), (3, 3), (33, 1), (34, 1)]:
+        assert read(whole_reading(bytes([n]) + EXAMPLE[1:])).number == number
     for sweeps, number in [(16, None), (17, 2)]:
         assert read(whole_reading(bytes([2, sweeps]) + EXAMPLE[2:])).number == number
     for sheet in (EXAMPLE[:27], EXAMPLE + b"\0"):
@@ -194,10 +195,23 @@ def check_long_examples():
     assert all(length(n, 2) == length(n, 1) + n for n in range(128))
     small = bytes([0x82, 1, 0, 9, 0, 7]) + LONG_EXAMPLE[6:]
     assert read(whole_reading(small)).number == 4
-    for first in (128, 131, 255):
-        assert read(whole_reading(bytes([first]) + LONG_EXAMPLE[1:])).number == 1
+    for first, number in [(128, 1), (129, 1), (131, 3), (161, 1), (255, 1)]:
+        assert read(whole_reading(bytes([first]) + LONG_EXAMPLE[1:])).number == number
     for sheet in (LONG_EXAMPLE[:29], LONG_EXAMPLE + b"\0", b"\2" + LONG_EXAMPLE[1:], b"\x82" + EXAMPLE[1:]):
         assert read(whole_reading(sheet)).number == 3
+
+
+def check_odd_examples():
+    """What document 02 says of odd orders: lengths keep their formulas."""
+    entries = [ONE + k for k in range(6)]
+    a, b, c, d, e, f = entries
+    matrix = [a, b, d, b, c, e, d, e, f]
+    for width, codes, head in [(1, [7, 8, 9], "03 01 07 08 09"), (2, [300, 8, 9], "83 01 012C 0008 0009")]:
+        sheet = put_together(width, 1, codes, entries)
+        assert sheet == bytes.fromhex(head) + b"".join(pattern.to_bytes(8, "big") for pattern in entries)
+        assert len(sheet) == length(3, width) == 50 + 3 * width
+        assert read(whole_reading(sheet)) == Outcome(n=3, sweeps=1, codes=codes, matrix=matrix)
+        assert write(whole_writing(3, 1, codes, matrix)).sheet == sheet
 
 
 # The kinds of entries, as patterns.
@@ -277,8 +291,8 @@ def long_codes(rng, n):
 # A form of sheets: the bytes of a code; what the first byte is above the order; how codes are drawn; what is
 # added to the small codes of a few cases; first bytes with a wrong order; and the most bytes that are lent.
 Form = collections.namedtuple("Form", "width mark codes above first_bytes most")
-SHORT = Form(1, 0, short_codes, 0, (0, 1, 3, 5, 34, 36, 132, 255), 4800)
-LONG = Form(2, 128, long_codes, 255, (128, 129, 131, 133, 162, 164, 36, 255), MOST_BYTES)
+SHORT = Form(1, 0, short_codes, 0, (0, 1, 33, 35, 34, 36, 132, 255), 4800)
+LONG = Form(2, 128, long_codes, 255, (128, 129, 161, 163, 162, 164, 36, 255), MOST_BYTES)
 
 
 def some_sheet(rng, form, n, sweeps, kind):
@@ -348,7 +362,7 @@ def changed_heads(rng, form):
     """Sheets of order 2 with every first byte, and with every second byte."""
     for byte in range(256):
         sheet = some_sheet(rng, form, 2, rng.randint(0, 16), mixed)
-        number = 1 if byte % 128 not in range(2, 33, 2) else 3 if byte != form.mark + 2 else None
+        number = 1 if byte % 128 not in range(2, 33) else 3 if byte != form.mark + 2 else None
         yield number, Reading(bytes([byte]) + sheet[1:], 2, 4)
     for byte in range(256):
         sheet = some_sheet(rng, form, 2, 0, mixed)
@@ -432,23 +446,23 @@ def bad_entries(rng, form):
         yield refused_at(rng, form, n, {place: next(patterns) for place in stored_places(n)})
 
 
-def faulty_reading(rng, form, numbers):
-    """A reading of order 4 with each of these reasons to be refused, at random places."""
-    sheet = some_sheet(rng, form, 4, rng.randint(0, 16), mixed)
+def faulty_reading(rng, form, n, numbers):
+    """A reading of order n with each of these reasons to be refused, at random places."""
+    sheet = some_sheet(rng, form, n, rng.randint(0, 16), mixed)
     if 5 in numbers:
-        sheet = with_entries(sheet, {rng.choice(stored_places(4)): rng.choice(NOT_FINITE)})
+        sheet = with_entries(sheet, {rng.choice(stored_places(n)): rng.choice(NOT_FINITE)})
     if 4 in numbers:
         sheet = with_codes(sheet, faulty_codes(rng, codes_of(sheet)))
     if 2 in numbers:
         sheet = sheet[:1] + bytes([rng.randint(17, 255)]) + sheet[2:]
     if 1 in numbers:
         sheet = bytes([rng.choice(form.first_bytes)]) + sheet[1:]
-    case = Reading(sheet, 4, 16)
+    case = Reading(sheet, n, n * n)
     if 3 in numbers:
         cut, longer = sheet[: rng.randint(2, len(sheet) - 1)], sheet + rng.randbytes(rng.randint(1, 9))
         wrong = [{"sheet": cut}, {"sheet": longer}]
-        wrong += [{"codes_size": size} for size in (0, 3, 5)]
-        wrong += [{"matrix_size": size} for size in (0, 15, 17)]
+        wrong += [{"codes_size": size} for size in (0, n - 1, n + 1)]
+        wrong += [{"matrix_size": size} for size in (0, n * n - 1, n * n + 1)]
         case = case._replace(**rng.choice(wrong))
     return case
 
@@ -476,7 +490,7 @@ def readings_with_several(rng, form):
     """Every set of reasons, four times, of which the least number counts; and heads that are too short to
     show an order."""
     for numbers in sets_of(range(1, 6)) * 4:
-        case = faulty_reading(rng, form, numbers)
+        case = faulty_reading(rng, form, 4, numbers)
         yield least_reason(numbers, case), case
     for sheet in (b"", bytes([0]), bytes([2]), bytes([3]), bytes([255])):
         for lent in [(0, 0), (2, 4), (3, 5)]:
@@ -536,12 +550,12 @@ def good_writings(rng, form):
 
 
 def refused_orders(rng, form):
-    """Some with all lengths for their order, and some with those for 2, 4 and 0. For some the lowest byte is
-    an order that would be accepted, and for some the length of a sheet is small as a word."""
-    for n in (0, 1, 3, 5, 33, 34):
-        codes, matrix = form.codes(rng, n), some_matrix(rng, n, mixed)
-        yield 1, whole_writing(n, 1, codes, matrix)
-    others = [31, 36, 255, 256, 258, 260, 1 << 16, 1 << 32, (1 << 32) + 2, 1 << 62, 1 << 63, (1 << 63) + 2]
+    """Some with all lengths for their order or for another, and some with those for 2, 4 and 0. For some the lowest
+    byte is an order that would be accepted, and for some the length of a sheet is small as a word."""
+    for n, m in [(0, 0), (1, 1), (33, 3), (35, 5), (33, 33), (34, 34)]:
+        codes, matrix = form.codes(rng, m), some_matrix(rng, m, mixed)
+        yield 1, whole_writing(m, 1, codes, matrix)._replace(n=n)
+    others = [63, 36, 255, 256, 258, 260, 1 << 16, 1 << 32, (1 << 32) + 2, 1 << 62, 1 << 63, (1 << 63) + 2]
     for n in others + [LAST - 3, LAST - 1, LAST]:
         for m in (2, 4):
             codes, matrix = form.codes(rng, m), some_matrix(rng, m, mixed)
@@ -595,26 +609,27 @@ def refused_sheets(rng, form):
         yield 7 if size < length(32, form.width) else None, case._replace(sheet_size=size)
 
 
-def faulty_writing(rng, form, numbers):
-    """A writing of order 4 with each of these reasons to be refused, at random places."""
-    n, sweeps, codes, matrix = 4, rng.randint(0, 16), form.codes(rng, 4), some_matrix(rng, 4, mixed)
-    whole = length(4, form.width)
+def faulty_writing(rng, form, n, numbers):
+    """A writing of order n with each of these reasons to be refused, at random places."""
+    sweeps, codes, matrix = rng.randint(0, 16), form.codes(rng, n), some_matrix(rng, n, mixed)
+    whole = length(n, form.width)
     sheet_size = whole + rng.choice((0, 0, 3))
-    i, j = rng.sample(range(4), 2)
+    i, j = rng.sample(range(n), 2)
     if 6 in numbers:
-        matrix[4 * i + j] = matrix[4 * j + i] ^ 1 << rng.choice((0, 31, 51, 63))
+        matrix[n * i + j] = matrix[n * j + i] ^ 1 << rng.choice((0, 31, 51, 63))
     if 5 in numbers:
-        matrix[4 * rng.randrange(4) + rng.choice((i, j))] = rng.choice(NOT_FINITE)
+        matrix[n * rng.randrange(n) + rng.choice((i, j))] = rng.choice(NOT_FINITE)
     if 4 in numbers:
         codes = faulty_codes(rng, codes)
     if 3 in numbers:
-        lengths = [(4, 15), (4, 17), (3, 16), (5, 16), (4, 0), (0, 16)]
+        values = n * n
+        lengths = [(n, values - 1), (n, values + 1), (n - 1, values), (n + 1, values), (n, 0), (0, values)]
         codes_size, matrix_size = rng.choice(lengths)
         codes, matrix = (codes + [*rng.randbytes(1)])[:codes_size], (matrix + [ONE])[:matrix_size]
     if 2 in numbers:
         sweeps = rng.choice((17, 256, LAST, rng.randint(18, LAST)))
     if 1 in numbers:
-        n = rng.choice((0, 3, 5, 34, 260, LAST, LAST - 1, rng.randint(33, LAST)))
+        n = rng.choice((0, 1, 33, 34, 260, LAST, LAST - 1, rng.randint(33, LAST)))
     if 7 in numbers:
         sheet_size = rng.choice((0, 1, 2, whole - 1, rng.randrange(whole)))
     return Writing(n, sweeps, codes, matrix, sheet_size)
@@ -623,7 +638,7 @@ def faulty_writing(rng, form, numbers):
 def writings_with_several(rng, form):
     """Every set of reasons, of which the least number counts."""
     for numbers in sets_of(range(1, 8)) * 2:
-        yield min(numbers), faulty_writing(rng, form, numbers)
+        yield min(numbers), faulty_writing(rng, form, 4, numbers)
 
 
 def writings(rng, form, codes):
@@ -690,7 +705,7 @@ def long_without_need(rng):
         yield 3, whole_reading(spoiled)._replace(codes_size=n + 1)
         yield 3, whole_reading(spoiled)._replace(matrix_size=n * n - 1)
         yield 2, whole_reading(spoiled[:1] + bytes([17]) + spoiled[2:])
-        yield 1, whole_reading(bytes([128 + n + 1]) + spoiled[1:])
+        yield 1, Reading(bytes([128 + 33]) + spoiled[1:], n, n * n)
 
 
 def other_forms(rng):
@@ -710,10 +725,10 @@ def other_forms(rng):
 
 
 def wrong_long_orders(rng):
-    """Orders that are refused, with all lengths for them where they are not too long, or with some."""
-    for n in (0, 1, 3, 5, 31, 33, 34):
-        yield 1, whole_reading(bytes([128 + n, 1]) + rng.randbytes(length(n, 2) - 2))
-    for n in (0, 3, 36, 64, 126, 127):
+    """Orders that are refused, with all lengths for them or for others, or with some."""
+    for n, m in [(0, 0), (1, 1), (35, 3), (37, 5), (63, 31), (33, 33), (34, 34)]:
+        yield 1, Reading(bytes([128 + n, 1]) + rng.randbytes(length(m, 2) - 2), m, m * m)
+    for n in (0, 33, 36, 64, 126, 127):
         for size in (2, 30, 90):
             yield 1, Reading(bytes([128 + n, 17]) + rng.randbytes(size - 2), 2, 4)
 
@@ -749,6 +764,152 @@ def marked_orders(rng):
             yield 1, Writing(128 + n, 1, codes, some_matrix(rng, m, mixed), length(m, 2))
 
 
+# Odd orders, in either form. All come with the number of their refusal, or with None.
+
+
+def odd_sizes():
+    """Orders, sweeps and kinds of entries: of order 3 all numbers of sweeps."""
+    k = 0
+    for n in plain.ODD_ORDERS:
+        for _ in range(17 if n == 3 else 3 if n <= 8 else 1):
+            yield n, k % 17, KINDS[k % len(KINDS)]
+            k += 1
+    yield 31, 16, any_finite
+
+
+def good_odd_readings(rng, form):
+    for n, sweeps, kind in odd_sizes():
+        yield None, whole_reading(some_sheet(rng, form, n, sweeps, kind))
+
+
+def odd_readings_of_other_lengths(rng, form):
+    """Sheets cut and lengthened, with the order beside their own, and with other codes and matrices lent."""
+    for n in (3, 5):
+        whole = length(n, form.width)
+        for size in (0, 1, 2, 2 + form.width * n, whole - 8 * n, whole - 8, whole - 1, whole, whole + 1, whole + 8):
+            sheet = some_sheet(rng, form, n, rng.randint(0, 16), mixed) + bytes(8)
+            yield None if size == whole else 3, Reading(sheet[:size], n, n * n)
+        wrong_matrix = [(n, size) for size in (n * n - 1, n * n + 1, (n - 1) ** 2)]
+        for lent in [(n - 1, n * n), (n + 1, n * n), *wrong_matrix, (n + 1, (n + 1) ** 2), (0, 0)]:
+            yield 3, Reading(some_sheet(rng, form, n, rng.randint(0, 16), mixed), *lent)
+    for n, other in [(2, 3), (3, 2), (3, 4), (4, 3), (4, 5), (31, 32), (32, 31)]:
+        sheet = some_sheet(rng, form, n, 1, ordinary)
+        yield 3, Reading(bytes([form.mark + other]) + sheet[1:], other, other * other)
+
+
+def bad_odd_codes(rng, form):
+    """A zero and two alike in all places of orders 3 and 5, and in the last of order 31."""
+    for n in (3, 5):
+        for k in range(n):
+            yield zero_at(form.codes(rng, n), k)
+        for k, other in itertools.combinations(range(n), 2):
+            yield repeated(form.codes(rng, n), k, other)
+    yield zero_at(form.codes(rng, 31), 30)
+    yield repeated(form.codes(rng, 31), 0, 30)
+
+
+def odd_readings_of_bad_codes(rng, form):
+    for codes in bad_odd_codes(rng, form):
+        sheet = some_sheet(rng, form, len(codes), rng.randint(0, 16), mixed)
+        yield 4, whole_reading(with_codes(sheet, codes))
+
+
+def bad_odd_entries(rng, form):
+    """Each pattern on the diagonal of order 3, one in each place, and several at once."""
+    patterns = itertools.cycle(NOT_FINITE)
+    for k, pattern in enumerate(NOT_FINITE):
+        yield refused_at(rng, form, 3, {(1 + k % 3, 1 + k % 3): pattern})
+    for n in (3, 5):
+        for place in stored_places(n):
+            yield refused_at(rng, form, n, {place: next(patterns)})
+    for place in [(16, 16), (31, 31)]:
+        yield refused_at(rng, form, 31, {place: next(patterns)})
+    yield refused_at(rng, form, 3, {(i, i): next(patterns) for i in (1, 2, 3)})
+    yield refused_at(rng, form, 5, {place: next(patterns) for place in stored_places(5)})
+
+
+def odd_readings_with_several(rng, form):
+    for numbers in sets_of(range(1, 6)):
+        case = faulty_reading(rng, form, 3, numbers)
+        yield least_reason(numbers, case), case
+
+
+def odd_readings(rng, form):
+    groups = [
+        good_odd_readings,
+        odd_readings_of_other_lengths,
+        odd_readings_of_bad_codes,
+        bad_odd_entries,
+        odd_readings_with_several,
+    ]
+    return held(read, groups, rng, form)
+
+
+def odd_long_without_need(rng):
+    """All codes small in the long form: alone, with a zero, and with an entry that is not finite."""
+    for n in (3, 5, 15):
+        codes = short_codes(rng, n)
+        sheet = put_together(2, rng.randint(0, 16), codes, [mixed(rng) for _ in stored_places(n)])
+        yield 4, whole_reading(sheet)
+        yield 4, whole_reading(with_codes(sheet, zero_at(codes, n - 1)))
+        yield 4, whole_reading(with_entries(sheet, {(n, n): rng.choice(NOT_FINITE)}))
+        yield 3, whole_reading(sheet[:-1])
+        yield 3, whole_reading(bytes([n]) + sheet[1:])
+        yield 2, whole_reading(sheet[:1] + bytes([17]) + sheet[2:])
+
+
+def good_odd_writings(rng, form):
+    """Lent sheets of the exact length and longer ones."""
+    for k, (n, sweeps, kind) in enumerate(odd_sizes()):
+        case = whole_writing(n, sweeps, form.codes(rng, n), some_matrix(rng, n, kind))
+        yield None, case._replace(sheet_size=case.sheet_size + (0, 1, 0, 7, 8, 100)[k % 6])
+
+
+def odd_writings_of_other_lengths(rng, form):
+    """Codes, matrices and lent sheets of other lengths, those of the orders beside among them."""
+    for n in (3, 5):
+        wrong_codes = [(size, n * n) for size in (n - 1, n + 1, 0)]
+        wrong_matrix = [(n, size) for size in (n * n - 1, n * n + 1, (n + 1) ** 2, (n - 1) ** 2)]
+        for codes_size, matrix_size in [*wrong_codes, *wrong_matrix, (n + 1, (n + 1) ** 2)]:
+            codes, matrix = form.codes(rng, n + 1), some_matrix(rng, n + 1, mixed)
+            yield 3, Writing(n, 1, codes[:codes_size], matrix[:matrix_size], length(n, form.width))
+    for n in (3, 5, 31):
+        whole = length(n, form.width)
+        near = [whole - 1, length(n + 1, form.width)]
+        for size in near if n == 31 else [0, 2, length(n - 1, form.width), whole - 8, whole, *near]:
+            case = whole_writing(n, rng.randint(0, 16), form.codes(rng, n), some_matrix(rng, n, mixed))
+            yield 7 if size < whole else None, case._replace(sheet_size=size)
+
+
+def odd_writings_of_bad_codes(rng, form):
+    for codes in bad_odd_codes(rng, form):
+        n = len(codes)
+        yield 4, whole_writing(n, rng.randint(0, 16), codes, some_matrix(rng, n, mixed))
+
+
+def refused_odd_matrices(rng, form):
+    """Those of plain_vectors.py whose entries are not finite or not mirrored."""
+    for number, run in plain.odd_refusals(rng):
+        if number in (5, 6):
+            yield number, whole_writing(run.n, run.sweeps, form.codes(rng, run.n), run.matrix)
+
+
+def odd_writings_with_several(rng, form):
+    for numbers in sets_of(range(1, 8)):
+        yield min(numbers), faulty_writing(rng, form, 3, numbers)
+
+
+def odd_writings(rng, form):
+    groups = [
+        good_odd_writings,
+        odd_writings_of_other_lengths,
+        odd_writings_of_bad_codes,
+        refused_odd_matrices,
+        odd_writings_with_several,
+    ]
+    return held(write, groups, rng, form)
+
+
 # What is checked before anything is written.
 
 
@@ -771,31 +932,32 @@ def check_writing(case, outcome):
         assert again == Outcome(n=case.n, sweeps=case.sweeps, codes=case.codes, matrix=case.matrix), case
 
 
-def check_variety(accepted, numbers, last):
-    """Every order is accepted, in small orders with all numbers of sweeps, and every refusal is there."""
-    assert {n for n, _ in accepted} == set(range(2, 33, 2))
-    assert set(accepted) >= {(n, sweeps) for n in (2, 4, 6, 8) for sweeps in range(17)}
+def check_variety(accepted, numbers, orders, last):
+    """Every one of these orders is accepted, small ones with all numbers of sweeps, and every refusal is there."""
+    assert {n for n, _ in accepted} == set(orders)
+    small = [n for n in orders if n <= 8 and n % 2 == 0 or n == 3]
+    assert set(accepted) >= {(n, sweeps) for n in small for sweeps in range(17)}
     assert set(numbers) == {None, *range(1, last + 1)}
 
 
-def checked_readings(made):
+def checked_readings(made, orders):
     """Checks readings of a form, and tells of them."""
     for case, outcome in made:
         check_reading(case, outcome)
     numbers = [outcome.number for _, outcome in made]
     accepted = [(outcome.n, outcome.sweeps) for _, outcome in made if outcome.number is None]
-    check_variety(accepted, numbers, 5)
+    check_variety(accepted, numbers, orders, 5)
     print(f"{len(made)} readings by the number of the refusal: {told(numbers)}")
     return made
 
 
-def checked_writings(made):
+def checked_writings(made, orders):
     """Checks writings of a form, and tells of them."""
     for case, outcome in made:
         check_writing(case, outcome)
     numbers = [outcome.number for _, outcome in made]
     accepted = [(case.n, case.sweeps) for case, outcome in made if outcome.number is None]
-    check_variety(accepted, numbers, 7)
+    check_variety(accepted, numbers, orders, 7)
     print(f"{len(made)} writings by the number of the refusal: {told(numbers)}")
     return made
 
@@ -854,44 +1016,55 @@ def fills(rng):
         yield k, next(others) if k % 5 == 0 else pattern
 
 
-def lines_of_readings(cases, form, fill):
+def lines_of_readings(cases, form, orders, fill):
     """The lines of each reading and of its answer. The codes that are lent are filled with what fits the form."""
     lines = []
-    for case, outcome in checked_readings([(case, read(case)) for case in cases]):
+    for case, outcome in checked_readings([(case, read(case)) for case in cases], orders):
         k, pattern = next(fill)
         lines.append(reading_lines(case, outcome, 257 * k % 256**form.width, pattern))
     return lines
 
 
-def lines_of_writings(cases, fill):
+def lines_of_writings(cases, orders, fill):
     """The lines of each writing and of its answer."""
-    made = checked_writings([(case, write(case)) for case in cases])
+    made = checked_writings([(case, write(case)) for case in cases], orders)
     return [writing_lines(*one, next(fill)[0] % 256) for one in made]
 
 
 def short_lines(rng):
-    """The lines of all cases of the short form."""
+    """The lines of all cases of the short form and even orders."""
     fill = fills(rng)
-    lines = lines_of_readings(readings(rng, SHORT, EXAMPLE), SHORT, fill)
-    return lines + lines_of_writings(writings(rng, SHORT, [7, 9]), fill)
+    lines = lines_of_readings(readings(rng, SHORT, EXAMPLE), SHORT, plain.EVEN_ORDERS, fill)
+    return lines + lines_of_writings(writings(rng, SHORT, [7, 9]), plain.EVEN_ORDERS, fill)
 
 
 def long_lines(rng):
-    """The lines of all cases of the long form and of both."""
+    """The lines of all cases of the long form and of both, of even orders."""
     fill = fills(rng)
     groups = [edge_readings, long_without_need, other_forms, wrong_long_orders]
     cases = readings(rng, LONG, LONG_EXAMPLE) + held(read, groups, rng)
-    lines = lines_of_readings(cases, LONG, fill)
+    lines = lines_of_readings(cases, LONG, plain.EVEN_ORDERS, fill)
     groups = [edge_writings, rooms_for_either, marked_orders]
     cases = writings(rng, LONG, [300, 7]) + held(write, groups, rng)
-    return lines + lines_of_writings(cases, fill)
+    return lines + lines_of_writings(cases, plain.EVEN_ORDERS, fill)
+
+
+def odd_lines(rng):
+    """The lines of all cases of odd orders, in both forms."""
+    fill, lines = fills(rng), []
+    for form, others in [(SHORT, []), (LONG, [odd_long_without_need])]:
+        cases = odd_readings(rng, form) + held(read, others, rng)
+        lines += lines_of_readings(cases, form, plain.ODD_ORDERS, fill)
+        lines += lines_of_writings(odd_writings(rng, form), plain.ODD_ORDERS, fill)
+    return lines
 
 
 def main():
     argparse.ArgumentParser(description=__doc__.split("\n\n")[0], epilog="It takes no arguments.").parse_args()
     check_examples()
     check_long_examples()
-    made = short_lines(random.Random(1981)) + long_lines(random.Random(65535))
+    check_odd_examples()
+    made = short_lines(random.Random(1981)) + long_lines(random.Random(65535)) + odd_lines(random.Random(176))
     crate = pathlib.Path(__file__).resolve().parent.parent / "crates" / "test_sheets"
     crate.mkdir(exist_ok=True)
     for name, side in [("stdin", 0), ("stdout", 1)]:

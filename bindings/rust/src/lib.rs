@@ -1,6 +1,7 @@
 //! The functions of `weimrukas.h` for Rust: eigenvalues and eigenvectors of symmetric matrices of coded barley lines,
-//! by plain sweeps or by an array of tiles. What each function asks for and answers, the order of its refusals and what
-//! a refused call leaves is said in the header. As everywhere in Rust, the floating-point environment is the default.
+//! by plain sweeps or by an array of tiles. Orders are 2 to 32, even and odd. What each function asks for and answers,
+//! the order of its refusals and what a refused call leaves is said in the header. As everywhere in Rust, the
+//! floating-point environment is the default.
 //!
 //! ```
 //! let (mut result, mut vectors) = ([0.0; 4], [0.0; 4]);
@@ -52,7 +53,8 @@ pub fn parameters(a: f64, d: f64, b: f64) -> Parameters {
     }
 }
 
-/// Writes the registers of each processor in a step, from 0, into two lent rows.
+/// Writes the registers of each of the (n + 1) / 2 processors in a step, from 0, into two lent rows. Line 0 of an odd
+/// order is shown as 0.
 pub fn pairs(
     n: usize,
     step: usize,
@@ -64,6 +66,7 @@ pub fn pairs(
 }
 
 /// Writes tangent, cosine and sine of each pair of a step, from 0, into a lent row of three values to a processor.
+/// There are (n + 1) / 2 processors, of which the first is always still where the order is odd.
 pub fn records(n: usize, matrix: &[f64], step: usize, records: &mut [f64]) -> Result<(), Refusal> {
     let mut place = Place::default();
     let number = calls::records(n, matrix, step, records, &mut place);

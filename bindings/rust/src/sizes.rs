@@ -4,7 +4,7 @@
 pub const MOST_LINES: usize = 32;
 pub const MOST_SWEEPS: usize = 16;
 /// Tiles in a row and in a column of an array's record.
-pub const MOST_PROCESSORS: usize = MOST_LINES / 2;
+pub const MOST_PROCESSORS: usize = MOST_LINES.div_ceil(2);
 
 /// Words before the first tile: the order, the sweeps and the number of the next tick.
 const HEAD_WORDS: usize = 3;

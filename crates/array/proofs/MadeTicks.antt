@@ -1,6 +1,6 @@
 -- What a start and a tick that is made leave in the tiles of the record. Assumes nothing.
 use Prim.Native.Nat.{ℕ, _+_, _-_, _*_, _/_, _%_, _<_, _≤_}
-use mathlib.Core.Path.{_≡_, refl, sym, ap, _∙_}
+use mathlib.Core.Path.{_≡_, sym, ap, _∙_}
 use mathlib.Core.Bool.{true, false}
 use mathlib.Core.List.{List}
 use native.Mathlib.Omega.{arith}
@@ -16,7 +16,7 @@ use Rattle.systolic.specs.Blocks.{tab}
 use Rattle.systolic.specs.Sequential.{blockAt}
 use Rattle.systolic.specs.Tiles as theory
 use Rattle.systolic.specs.Arrays.{tick}
-use Rattle.sizes.specs.Sizes.{mostProcessors, isOrder, processorsOf, stepsOf}
+use Rattle.sizes.specs.Sizes.{mostProcessors, isOrder, processorsOf, firstLine, stepsOf}
 use Rattle.sizes.proofs.Orders.{order-half}
 use Rattle.runs.specs.State.{startOf}
 use Rattle.runs.specs.Cells.{Cell, cell, cellOf, Setting, setting}
@@ -75,11 +75,11 @@ module _ (x : Array) (r : Ticked) (p : Ticks x r) (h : progressAnswered (r .answ
       ∙ the-tile-of _))
 
 -- ---- the start
--- cells of the matrix and of the identity, all wires at +0, not marked
+-- cells of the matrix and of the identity, in the order of the lines from the first on, all wires at +0, not marked
 abbrev pub begun : ℕ → List Float → ℕ → ℕ → theory.Tile Cell Float Float
 begun n l i j =
     record {
-      cells = blockAt (inOrder 1) (cellOf (startOf n l)) i j;
+      cells = blockAt (inOrder (firstLine n)) (cellOf (startOf n l)) i j;
       wires = tab (λ r s. cell plusZero plusZero);
       rowWire = plusZero;
       columnWire = plusZero;
@@ -88,9 +88,15 @@ begun n l i j =
 
 module _ (n sweeps : ℕ) (l : List Float) where
   begun-as : (i j : ℕ)
-      → theTile (startingTile (record { matrix = quadAt (startOf n l .matrix) i j; vectors = quadAt (startOf n l .vectors) i j })) ≡ begun n l i j
+      → (let r = 2 * i + firstLine n in
+      let c = 2 * j + firstLine n in
+      theTile (startingTile (record { matrix = quadAt (startOf n l .matrix) r c; vectors = quadAt (startOf n l .vectors) r c })))
+      ≡ begun n l i j
   unfolding theTile startingTile zeroPart quadAt blockOf blockAt inOrder inOrderAt slot tab cellOf
-  begun-as i j = refl
+  begun-as i j =
+      let r : 2 * i + 1 + firstLine n ≡ 2 * i + firstLine n + 1 = omega arith in
+      let c : 2 * j + 1 + firstLine n ≡ 2 * j + firstLine n + 1 = omega arith in
+      rw (r, c)
 
   pub start-tile : isOrder n ≡ true → length l ≡ n * n → (i j : ℕ) → i < processorsOf n → j < processorsOf n
       → theArray (startArray n sweeps l .tiles) i j ≡ begun n l i j
@@ -99,7 +105,7 @@ module _ (n sweeps : ℕ) (l : List Float) where
       let few = order-half n order .1 in
       let a : i < mostProcessors = omega arith in
       let b : j < mostProcessors = omega arith in
-      ap theTile (tile-tabulated i j a b _ ∙ rw (row-of i j a b, column-of i j a b) (starts-with n l order long i j hi hj))
+      ap theTile (tile-tabulated i j a b _ ∙ rw (row-of i j a b, column-of i j a b) (starts-with n l long i j hi hj))
       ∙ begun-as i j
 
   module _ (s : Started) (p : Starts n sweeps l s) (h : answered (s .answer) ≡ given tt) where

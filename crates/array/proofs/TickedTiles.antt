@@ -205,8 +205,8 @@ module _ (s : Setting) (N K t : ℕ) (l : List Tile) where
           → (¬ (k / mostProcessors ≡ k % mostProcessors) → row ≡ angleOf (getD cur (near .row) noTile .«row_wire»))
           → (¬ (k % mostProcessors ≡ k / mostProcessors) → column ≡ angleOf (getD cur (near .column) noTile .«column_wire»))
           → q ≡ readPart near
-          → x ≡ turnedOf (actionAt K (distance (k / mostProcessors) (k % mostProcessors)) t) (getD cur k noTile) q (k / mostProcessors) (k % mostProcessors) row
-          column
+          → x ≡ turnedOf (s .order) (actionAt K (distance (k / mostProcessors) (k % mostProcessors)) t) (getD cur k noTile) q (k / mostProcessors)
+          (k % mostProcessors) row column
           → x ≡ turnedAt k
       turned-in {x} {q} {row} {column} e f g z =
           let i = k / mostProcessors in

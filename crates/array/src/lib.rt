@@ -160,7 +160,7 @@ impl Array {
                 let delta = array.tiles[at_delta];
                 let brought = tile::brought(alpha, beta, gamma, delta, last, i, j);
                 let tile = array.tiles[k];
-                let turned = tile.turned(brought, row, column, steps, tick, i, j);
+                let turned = tile.turned(n, brought, row, column, steps, tick, i, j);
                 array.tiles[k] = turned;
             }
             for k in 0..MOST_PROCESSORS * processors {

@@ -23,8 +23,8 @@ use Rattle.lists.proofs.Bounded.{any-within}
 use Rattle.systolic.proofs.Neighbourhood.{tick-same}
 use Rattle.systolic.proofs.Starts.{tick-any-start}
 use Rattle.systolic.proofs.Agreement.{agreement}
-use Rattle.sizes.specs.Sizes.{mostSweeps, isOrder, processorsOf, firstLine, stepsOf, ticksOf}
-use Rattle.sizes.proofs.Orders.{order-is, order-half, order-twice, sweep-is}
+use Rattle.sizes.specs.Sizes.{mostSweeps, isOrder, processorsOf, firstLine, linesOf, stepsOf, ticksOf}
+use Rattle.sizes.proofs.Orders.{order-is, order-half, sweep-is}
 use Rattle.matrix.specs.Matrix.{at, flat}
 use Rattle.matrix.proofs.SameEntries.{Line, flat-same}
 use Rattle.matrix.proofs.AcceptedEntries.{accepted-long}
@@ -33,10 +33,10 @@ use Rattle.plain_run.specs.State.{after, notFinite, spoiled}
 use Rattle.runs.specs.Outcome.{beforeRun, outcome, resultsKept, answering}
 use Rattle.plain_run.specs.Run.{ranOf, runOf}
 use Rattle.runs.specs.Cells.{Cell, cell as cellWith, cellOf, Setting, setting, rules}
-use Rattle.plain_run.proofs.SpoiledRuns.{state-finite}
+use Rattle.plain_run.proofs.VanishingLine.{every-line}
 use Rattle.plain_run.proofs.Sequence.{plain-sequential, plain-fails, fails-are}
 use Rattle.runs.proofs.Verdicts.{Begins, begins}
-use Rattle.plain_run.proofs.Outcomes.{start-finite}
+use Rattle.plain_run.proofs.RunStart.{start-finite, start-vanishes}
 use Rattle.tile.specs.declared.Tile.{Tile}
 use Rattle.tile.proofs.IncomingCells.{sideBy, corner-cell}
 use Rattle.tile.specs.Tiles.{theTile, operations}
@@ -50,26 +50,29 @@ use Rattle.array.proofs.MadeTicks.{tile-after, start-tile}
 use Rattle.array_run.specs.Results.{joinedAt, matrixIn, vectorsIn, someMarked, handedOver}
 use Rattle.array_run.specs.Whole.{wholeOf}
 
--- the slot of a line
-abbrev slotOf : ℕ → Slot
-slotOf r = slot ((r - 1) / 2) (sideBy (eqb ((r - 1) % 2) 1))
+-- the slot of a line, where f is the first
+abbrev slotOf : ℕ → ℕ → Slot
+slotOf f r = slot ((r - f) / 2) (sideBy (eqb ((r - f) % 2) 1))
 
-slot-line : (r : ℕ) → 1 ≤ r → inOrder 1 (slotOf r) ≡ r
+slot-line : (f r : ℕ) → f ≤ r → inOrder f (slotOf f r) ≡ r
 unfolding inOrder slot
-slot-line r h = go (eqb ((r - 1) % 2) 1) refl
+slot-line f r h = go (eqb ((r - f) % 2) 1) refl
   where
-    go : (b : Bool) → eqb ((r - 1) % 2) 1 ≡ b → inOrderAt 1 (sideBy b) ((r - 1) / 2) ≡ r
-    go true e = let w : (r - 1) % 2 ≡ 1 = eqb-true _ _ e in unfold inOrderAt in (omega arith)
-    go false e = let w : ¬ ((r - 1) % 2 ≡ 1) = eqb-false _ _ e in unfold inOrderAt in (omega arith)
+    go : (b : Bool) → eqb ((r - f) % 2) 1 ≡ b → inOrderAt f (sideBy b) ((r - f) / 2) ≡ r
+    go true e = let w : (r - f) % 2 ≡ 1 = eqb-true _ _ e in unfold inOrderAt in (omega arith)
+    go false e = let w : ¬ ((r - f) % 2 ≡ 1) = eqb-false _ _ e in unfold inOrderAt in (omega arith)
 
-module _ (l : List Tile) (r c : ℕ) where
-  matrix-cell : matrixIn l r c ≡ pick (λ i j. theArray l i j .cells) (slotOf r) (slotOf c) .entry
-  unfolding joinedAt pick slot theArray theTile
-  matrix-cell = ap (λ (x : Cell). x .entry) (corner-cell (tileAt l ((r - 1) / 2) ((c - 1) / 2) .cells) _ _)
+module _ (n : ℕ) (l : List Tile) (r c : ℕ) where
+  abbrev f : ℕ
+  f = firstLine n
 
-  vectors-cell : vectorsIn l r c ≡ pick (λ i j. theArray l i j .cells) (slotOf r) (slotOf c) .vector
+  matrix-cell : matrixIn n l r c ≡ pick (λ i j. theArray l i j .cells) (slotOf f r) (slotOf f c) .entry
   unfolding joinedAt pick slot theArray theTile
-  vectors-cell = ap (λ (x : Cell). x .vector) (corner-cell (tileAt l ((r - 1) / 2) ((c - 1) / 2) .cells) _ _)
+  matrix-cell = ap (λ (x : Cell). x .entry) (corner-cell (tileAt l ((r - f) / 2) ((c - f) / 2) .cells) _ _)
+
+  vectors-cell : vectorsIn n l r c ≡ pick (λ i j. theArray l i j .cells) (slotOf f r) (slotOf f c) .vector
+  unfolding joinedAt pick slot theArray theTile
+  vectors-cell = ap (λ (x : Cell). x .vector) (corner-cell (tileAt l ((r - f) / 2) ((c - f) / 2) .cells) _ _)
 
 -- ---- a run
 module _ (n sweeps : ℕ) (l : List Float) (order : isOrder n ≡ true) (few : sweeps ≤ mostSweeps) (long : length l ≡ n * n) where
@@ -91,9 +94,6 @@ module _ (n sweeps : ℕ) (l : List Float) (order : isOrder n ≡ true) (few : s
   abbrev S : Operations Cell Float Float
   S = operationsOf (rules s) (inOrder (firstLine n)) (cellOf X) (cellWith plusZero plusZero) plusZero plusZero
 
-  first : firstLine n ≡ 1
-  first = let o = order-is n order in omega arith
-
   -- the tiles after t ticks
   unfoldable pub tilesBy : ℕ → List Tile
   tilesBy t = tilesFrom s N K 0 t (startArray n sweeps l .tiles)
@@ -108,7 +108,7 @@ module _ (n sweeps : ℕ) (l : List Float) (order : isOrder n ≡ true) (few : s
   -- ---- the start
   starts-as : (i j : ℕ) → i ≤ m → j ≤ m → theArray (tilesBy 0) i j ≡ arrayAfter S m K 0 i j
   unfolding tilesBy tilesFrom arrayAfter operationsOf
-  starts-as i j hi hj = rw first (start-tile n sweeps l order long i j (within i hi) (within j hj))
+  starts-as i j hi hj = start-tile n sweeps l order long i j (within i hi) (within j hj)
 
   -- ---- the ticks
   from-start : (t : ℕ) (A : ℕ → ℕ → theory.Tile Cell Float Float) (i j : ℕ) → tick (operations s) m K t A i j ≡ tick S m K t A i j
@@ -168,33 +168,37 @@ module _ (n sweeps : ℕ) (l : List Float) (order : isOrder n ≡ true) (few : s
   cells-are u z p q =
       unfold pick in (ap (λ (x : theory.Tile Cell Float Float). cell (u .side) (z .side) (x .cells)) (last-as (u .processor) (z .processor) p q))
       ∙ agreement (rules s) (firstLine n) m (cellOf X) (cellWith plusZero plusZero) plusZero plusZero sweeps .cells u z p q
-      ∙ rw (← steps-odd) (ap (λ (f : ℕ → ℕ → Cell). f (inOrder (firstLine n) u) (inOrder (firstLine n) z)) (plain-sequential s n order X K))
+      ∙ rw (← steps-odd) (ap (λ (f : ℕ → ℕ → Cell). f (inOrder (firstLine n) u) (inOrder (firstLine n) z)) (plain-sequential s order X K))
 
-  line-at : (r : ℕ) → Line n r → inOrder (firstLine n) (slotOf r) ≡ r
-  line-at r h = ap (λ b. inOrder b (slotOf r)) first ∙ slot-line r (h .0)
+  -- the slot of a real line
+  abbrev slotBy : ℕ → Slot
+  slotBy = slotOf (firstLine n)
 
-  line-slot : (r : ℕ) → Line n r → slotOf r .processor ≤ m
+  line-at : (r : ℕ) → Line n r → inOrder (firstLine n) (slotBy r) ≡ r
+  line-at r h = slot-line (firstLine n) r (omega arith)
+
+  line-slot : (r : ℕ) → Line n r → slotBy r .processor ≤ m
   unfolding slot
   line-slot r h = let o = order-is n order in omega arith
 
-  pub last-cell : (r c : ℕ) → Line n r → Line n c → pick (λ i j. theArray lastTiles i j .cells) (slotOf r) (slotOf c) ≡ cellOf (after n K X) r c
-  last-cell r c hr hc = rw (line-at r hr, line-at c hc) at (cells-are (slotOf r) (slotOf c) (line-slot r hr) (line-slot c hc))
+  pub last-cell : (r c : ℕ) → Line n r → Line n c → pick (λ i j. theArray lastTiles i j .cells) (slotBy r) (slotBy c) ≡ cellOf (after n K X) r c
+  last-cell r c hr hc = rw (line-at r hr, line-at c hc) at (cells-are (slotBy r) (slotBy c) (line-slot r hr) (line-slot c hc))
 
-  pub last-matrix : (r c : ℕ) → Line n r → Line n c → matrixIn lastTiles r c ≡ after n K X .matrix r c
-  last-matrix r c hr hc = matrix-cell lastTiles r c ∙ ap (λ (x : Cell). x .entry) (last-cell r c hr hc) ∙ unfold cellOf in refl
+  pub last-matrix : (r c : ℕ) → Line n r → Line n c → matrixIn n lastTiles r c ≡ after n K X .matrix r c
+  last-matrix r c hr hc = matrix-cell n lastTiles r c ∙ ap (λ (x : Cell). x .entry) (last-cell r c hr hc) ∙ unfold cellOf in refl
 
-  pub last-vectors : (r c : ℕ) → Line n r → Line n c → vectorsIn lastTiles r c ≡ after n K X .vectors r c
-  last-vectors r c hr hc = vectors-cell lastTiles r c ∙ ap (λ (x : Cell). x .vector) (last-cell r c hr hc) ∙ unfold cellOf in refl
+  pub last-vectors : (r c : ℕ) → Line n r → Line n c → vectorsIn n lastTiles r c ≡ after n K X .vectors r c
+  last-vectors r c hr hc = vectors-cell n lastTiles r c ∙ ap (λ (x : Cell). x .vector) (last-cell r c hr hc) ∙ unfold cellOf in refl
 
   -- ---- the marks
   pub last-marked : notFinite n X ≡ false → someMarked N lastTiles ≡ spoiled n K X
   last-marked f =
       unfold someMarked in (marks-same)
-      ∙ agreement (rules s) (firstLine n) m (cellOf X) (cellWith plusZero plusZero) plusZero plusZero sweeps .mark (rw whole (fails-are s n order X X ∙ f))
-      ∙ rw (whole, ← steps-odd) (plain-fails s n order X K)
+      ∙ agreement (rules s) (firstLine n) m (cellOf X) (cellWith plusZero plusZero) plusZero plusZero sweeps .mark (rw whole (fails-are s order X X ∙ f))
+      ∙ rw (whole, ← steps-odd) (plain-fails s order X K)
     where
-      whole : 2 * suc m ≡ n
-      whole = let e = order-twice n order in let h = order-half n order .0 in omega arith
+      whole : 2 * suc m ≡ linesOf n
+      whole = let h = order-half n order .0 in omega arith
 
       mark-same : (i j : ℕ) → i < suc m → j < suc m
           → tileAt lastTiles i j .mark ≡ arrayAfter S m (sweeps * (2 * m + 1)) (3 * (sweeps * (2 * m + 1)) + suc m) i j .mark
@@ -212,10 +216,10 @@ module _ (n sweeps : ℕ) (l : List Float) (order : isOrder n ≡ true) (few : s
   handed-is f = ap handedOver (ticked-is (ticksOf n sweeps) (omega arith)) ∙ unfold handedOver recordBy ranOf in
       (rw (last-marked f, matrix-flat, vectors-flat) (go (spoiled n K X)))
     where
-      matrix-flat : flat n (matrixIn lastTiles) ≡ flat n (after n K X .matrix)
+      matrix-flat : flat n (matrixIn n lastTiles) ≡ flat n (after n K X .matrix)
       matrix-flat = flat-same n _ _ last-matrix
 
-      vectors-flat : flat n (vectorsIn lastTiles) ≡ flat n (after n K X .vectors)
+      vectors-flat : flat n (vectorsIn n lastTiles) ≡ flat n (after n K X .vectors)
       vectors-flat = flat-same n _ _ last-vectors
 
       go : (b : Bool)
@@ -229,7 +233,7 @@ module _ (n sweeps : ℕ) (l : List Float) (order : isOrder n ≡ true) (few : s
 -- the start of an accepted run is finite
 pub start-clean : (n sweeps : ℕ) (l : List Float) (lr lv : ℕ) → ((k : ℕ) → T (fits binary64 (getD l k nan))) → Begins n sweeps l lr lv
     → notFinite n (startOf n l) ≡ false
-start-clean n sweeps l lr lv fitting b = state-finite n (startOf n l) (start-finite n sweeps l fitting lr lv b)
+start-clean n sweeps l lr lv fitting b = every-line n (startOf n l) (start-finite n l fitting (b .entries)) (start-vanishes n l)
 
 -- For every input: the whole run answers and leaves what the plain run does, and where it is not refused it has made 3 K + N ticks.
 pub whole-agrees : (n sweeps : ℕ) (l r v : List Float) → ((k : ℕ) → T (fits binary64 (getD l k nan)))

@@ -52,14 +52,14 @@ pub record RefusedByHand (s : Started) (rs : List Ticked) : Type 0 where
 unfoldable pub firstMade : ℕ → ℕ → Answered Tick
 firstMade last t = cond (ltb t last) (given made) (given stopped)
 
--- r is a line of a matrix of order n.
+-- r is a real line of a matrix of order n.
 abbrev pub LineOf : ℕ → ℕ → Type 0
 LineOf n r = (1 ≤ r) × (r ≤ n)
 
 -- The two final matrices of the plain run are in the cells, each entry at its row and column, and no tile is marked.
 pub record Agrees (n sweeps : ℕ) (l : List Float) (x : Array) : Type 0 where
-  pub matrix-agrees : (r c : ℕ) → LineOf n r → LineOf n c → matrixIn (x .tiles) r c ≡ after n (stepsOf n sweeps) (startOf n l) .matrix r c
-  pub vectors-agree : (r c : ℕ) → LineOf n r → LineOf n c → vectorsIn (x .tiles) r c ≡ after n (stepsOf n sweeps) (startOf n l) .vectors r c
+  pub matrix-agrees : (r c : ℕ) → LineOf n r → LineOf n c → matrixIn n (x .tiles) r c ≡ after n (stepsOf n sweeps) (startOf n l) .matrix r c
+  pub vectors-agree : (r c : ℕ) → LineOf n r → LineOf n c → vectorsIn n (x .tiles) r c ≡ after n (stepsOf n sweeps) (startOf n l) .vectors r c
   pub none-marked : someMarked (processorsOf n) (x .tiles) ≡ false
 
 -- Once all ticks are made.

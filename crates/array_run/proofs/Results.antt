@@ -40,9 +40,10 @@ module _ (N : ℕ) (l : List Tile) where
   none-marked i e z = sym (rw z at e)
 
 -- ---- cells
-pub joined-at : (f : ℕ → ℕ → Quad) (i j : ℕ) → cornerOf (eqb (i % 2) 1) (eqb (j % 2) 1) (f (i / 2) (j / 2)) ≡ joinedAt f (i + 1) (j + 1)
+pub joined-at : (f : ℕ → ℕ → Quad) (r c : ℕ) {b first : ℕ} → first ≡ b
+    → cornerOf (eqb ((r - first) % 2) 1) (eqb ((c - first) % 2) 1) (f ((r - first) / 2) ((c - first) / 2)) ≡ joinedAt b f r c
 unfolding joinedAt
-joined-at f i j = let a : i + 1 - 1 ≡ i = omega arith in let b : j + 1 - 1 ≡ j = omega arith in rw (a, b)
+joined-at f r c e = rw e
 
 pub flat-filled : (n k : ℕ) (A : ℕ → ℕ → Float) (l : List Float) → Filled nan (λ i. A (i / n + 1) (i % n + 1)) (n * n) k l → k ≡ n * n → l ≡ flat n A
 unfolding flat
@@ -55,7 +56,7 @@ module _ (x : Array) where
   unfolding handedOver
   spoiled-over e f = rw e f
 
-  pub cells-over : {r v : List Float} → someMarked (processorsOf (x .n)) (x .tiles) ≡ false → r ≡ flat (x .n) (matrixIn (x .tiles))
-      → v ≡ flat (x .n) (vectorsIn (x .tiles)) → outcome (given (x .tick)) r v ≡ handedOver x
+  pub cells-over : {r v : List Float} → someMarked (processorsOf (x .n)) (x .tiles) ≡ false → r ≡ flat (x .n) (matrixIn (x .n) (x .tiles))
+      → v ≡ flat (x .n) (vectorsIn (x .n) (x .tiles)) → outcome (given (x .tick)) r v ≡ handedOver x
   unfolding handedOver
   cells-over e f g = rw (e, f, g)

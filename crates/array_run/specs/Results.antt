@@ -1,4 +1,4 @@
--- Document 01, "The array": what a whole run makes of its array at the end. Definitions only.
+-- Document 01, "The array", and document 02 (ii): what a whole run makes of its array at the end. Definitions only.
 use Prim.Native.Nat.{ℕ, _-_, _/_, _%_}
 use mathlib.Core.Bool.{Bool, cond}
 use mathlib.Core.List.{List}
@@ -15,18 +15,18 @@ use Rattle.runs.specs.State.{zeros}
 use Rattle.tile.specs.declared.Tile.{Tile}
 use Rattle.array.specs.declared.Array.{Array}
 use Rattle.array.specs.Arrays.{tileAt}
-use Rattle.sizes.specs.Sizes.{processorsOf}
+use Rattle.sizes.specs.Sizes.{processorsOf, firstLine}
 
--- The entry in row r and column c, both from 1, of the matrix whose parts are given by the tiles' rows and columns.
-unfoldable pub joinedAt : (ℕ → ℕ → Quad) → ℕ → ℕ → Float
-joinedAt f r c = cornerOf (eqb ((r - 1) % 2) 1) (eqb ((c - 1) % 2) 1) (f ((r - 1) / 2) ((c - 1) / 2))
+-- The entry in row r and column c, both from the first line b on, of the matrix whose parts are given by the tiles' rows and columns.
+unfoldable pub joinedAt : ℕ → (ℕ → ℕ → Quad) → ℕ → ℕ → Float
+joinedAt b f r c = cornerOf (eqb ((r - b) % 2) 1) (eqb ((c - b) % 2) 1) (f ((r - b) / 2) ((c - b) / 2))
 
--- The matrix and the eigenvectors in the cells of the tiles.
-abbrev pub matrixIn : List Tile → ℕ → ℕ → Float
-matrixIn l = joinedAt (λ i j. tileAt l i j .cells .matrix)
+-- The matrix and the eigenvectors in the cells of the tiles of an order n.
+abbrev pub matrixIn : ℕ → List Tile → ℕ → ℕ → Float
+matrixIn n l = joinedAt (firstLine n) (λ i j. tileAt l i j .cells .matrix)
 
-abbrev pub vectorsIn : List Tile → ℕ → ℕ → Float
-vectorsIn l = joinedAt (λ i j. tileAt l i j .cells .vectors)
+abbrev pub vectorsIn : ℕ → List Tile → ℕ → ℕ → Float
+vectorsIn n l = joinedAt (firstLine n) (λ i j. tileAt l i j .cells .vectors)
 
 -- A tile in use is marked.
 unfoldable pub someMarked : ℕ → List Tile → Bool
@@ -36,4 +36,4 @@ someMarked N l = any N (λ i. any N (λ j. tileAt l i j .mark))
 unfoldable pub handedOver : Array → Outcome ℕ
 handedOver x =
     cond (someMarked (processorsOf (x .n)) (x .tiles)) (outcome (refusedBy Spoiled) (zeros (x .n)) (zeros (x .n)))
-    (outcome (given (x .tick)) (flat (x .n) (matrixIn (x .tiles))) (flat (x .n) (vectorsIn (x .tiles))))
+    (outcome (given (x .tick)) (flat (x .n) (matrixIn (x .n) (x .tiles))) (flat (x .n) (vectorsIn (x .n) (x .tiles))))

@@ -42,15 +42,17 @@ fn is_marked(array: Array) -> bool
     false
 }
 
-// Writes each cell to its row and column.
+// Writes each cell to its row and column; those of line 0 are not handed over.
 fn write_cells(array: Array, result: &mut [f64], vectors: &mut [f64])
     requires { ⌜ (array .n ≤ largestOrder) × (length (now result) ≡ array .n * array .n) × (length (now vectors) ≡ array .n * array .n) ⌝ }
-    ensures { λ _. ⌜ (now (result .exit) ≡ flat (array .n) (matrixIn (array .tiles))) × (now (vectors .exit) ≡ flat (array .n) (vectorsIn (array .tiles))) ⌝ }
+    ensures { λ _. ⌜ (now (result .exit) ≡ flat (array .n) (matrixIn (array .n) (array .tiles)))
+        × (now (vectors .exit) ≡ flat (array .n) (vectorsIn (array .n) (array .tiles))) ⌝ }
 {
     let n = array.n;
+    let first = sizes::first_line(n);
     for k in 0..result.len() {
-        let i = k / n;
-        let j = k % n;
+        let i = k / n + 1 - first;
+        let j = k % n + 1 - first;
         let tile = array.tiles[i / 2 * MOST_PROCESSORS + j / 2];
         let cells = tile.cells;
         let entries = cells.matrix;

@@ -1,4 +1,4 @@
--- Every example that document 01 marks P holds: each is computed. Assumes nothing.
+-- Every example holds: each is computed. Assumes nothing.
 use mathlib.Core.Path.{refl}
 use lib.Ieee.{ofBits, toBits}
 use Rattle.float64.specs.Values.{finite}
@@ -15,10 +15,10 @@ use Rattle.refusal.specs.Answers.{first}
 use Rattle.matrix.specs.Entries.{notFiniteAt, notMirroredAt, finiteRow, mirrorRow}
 use Rattle.matrix_turns.specs.Turns.{turnedAt, rowTurn, columnTurn, columnTurnAll}
 use Rattle.systolic.specs.Sequential.{place, pairBlock}
-use Rattle.runs.specs.Blocks.{matrixBlock}
+use Rattle.runs.specs.Blocks.{ruled, matrixBlock}
 use Rattle.plain_pair.specs.Pair.{pairTurned, pairRotated}
-use Rattle.runs.specs.State.{identity, startOf}
-use Rattle.plain_run.specs.State.{pairsRotated, after, notFinite, spoiled}
+use Rattle.runs.specs.State.{identity, bordered, startOf}
+use Rattle.plain_run.specs.State.{pairsRotated, after, notFiniteFrom, notFinite, spoiled}
 use Rattle.runs.specs.Outcome.{beforeRun}
 use Rattle.plain_run.specs.Run.{ranOf, runOf}
 use Rattle.claims.specs.Examples.{All, examples}
@@ -26,7 +26,7 @@ use Rattle.claims.specs.Examples.{All, examples}
 pub examples-hold : All examples
 unfolding sqrtOf ofBits toBits finite tabulate any slot cameFrom intoLast prior lineAt inOrderAt inOrder column registersOf registersAt isOrder
     at flat first notFiniteAt notMirroredAt finiteRow mirrorRow turnedAt rowTurn columnTurn columnTurnAll ofAngle ofTangent tangentOfPair ofPair
-    identity place pairBlock matrixBlock pairTurned pairRotated pairsRotated after notFinite spoiled beforeRun startOf ranOf runOf
+    identity bordered ruled place pairBlock matrixBlock pairTurned pairRotated pairsRotated after notFiniteFrom notFinite spoiled beforeRun startOf ranOf runOf
 examples-hold = (
   refl,
   (
@@ -47,7 +47,22 @@ examples-hold = (
                   λ r h. (h .answers, h .lists),
                   (
                     λ r h. (h .answers, h .lists),
-                    (λ r v e f. rw (e, f), tt),
+                    (
+                      λ r h. (h .answers, h .lists),
+                      (
+                        λ r h. (h .answers, h .lists),
+                        (
+                          λ r h. (h .answers, h .lists),
+                          (
+                            λ r h. (h .answers, h .lists),
+                            (
+                              λ r h. (h .answers, h .lists),
+                              (λ r v e f. rw (e, f), tt),
+                            ),
+                          ),
+                        ),
+                      ),
+                    ),
                   ),
                 ),
               ),

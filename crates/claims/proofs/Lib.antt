@@ -9,6 +9,7 @@ pub mod Sheets
 pub mod Histories
 pub mod Tiles
 pub mod Demands
+pub mod FirstProcessor
 pub mod PairEntries
 pub mod PlainRuns
 pub mod Listings

@@ -43,10 +43,10 @@ use Rattle.refusal.specs.Answers.{first}
 use Rattle.matrix.specs.Entries.{notFiniteAt, notMirroredAt, finiteRow, mirrorRow}
 use Rattle.matrix_turns.specs.Turns.{turnedAt, rowTurn, columnTurn, columnTurnAll}
 use Rattle.systolic.specs.Sequential.{place, pairBlock}
-use Rattle.runs.specs.Blocks.{matrixBlock}
+use Rattle.runs.specs.Blocks.{ruled, matrixBlock}
 use Rattle.plain_pair.specs.Pair.{pairTurned, pairRotated}
-use Rattle.runs.specs.State.{identity, startOf}
-use Rattle.plain_run.specs.State.{pairsRotated, after, notFinite, spoiled}
+use Rattle.runs.specs.State.{identity, bordered, startOf}
+use Rattle.plain_run.specs.State.{pairsRotated, after, notFiniteFrom, notFinite, spoiled}
 use Rattle.runs.specs.Outcome.{beforeRun, outcome}
 use Rattle.plain_run.specs.Run.{ranOf}
 use Rattle.sheet.specs.Format.{wordFrom, entryNumber, entriesTo, widthIn, codeIn}
@@ -150,8 +150,8 @@ exampleOutcome =
 example-ran : runIn exampleSheet ≡ exampleOutcome
 unfolding sqrtOf ofBits toBits finite tabulate any slot cameFrom intoLast prior lineAt inOrderAt inOrder column registersOf registersAt isOrder at
     flat first notFiniteAt notMirroredAt finiteRow mirrorRow turnedAt rowTurn columnTurn columnTurnAll ofAngle ofTangent tangentOfPair tangentOf
-    cosineOf quotient signum rootOf ofPair identity place pairBlock matrixBlock pairTurned pairRotated pairsRotated after notFinite spoiled
-    beforeRun startOf ranOf runOf zeros patternIn entryIn widthIn orderIn wordFrom entryNumber entriesTo add sub mul div lt neg
+    cosineOf quotient signum rootOf ofPair identity bordered ruled place pairBlock matrixBlock pairTurned pairRotated pairsRotated after notFiniteFrom
+    notFinite spoiled beforeRun startOf ranOf runOf zeros patternIn entryIn widthIn orderIn wordFrom entryNumber entriesTo add sub mul div lt neg
 example-ran = agrees exampleSheet ∙ refl
 
 -- the same matrix

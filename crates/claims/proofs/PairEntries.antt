@@ -1,17 +1,20 @@
 -- What a pair does, entry by entry, each part by the law that proves it. Assumes nothing.
-use Prim.Native.Nat.{ℕ}
+use Prim.Native.Nat.{ℕ, _-_, _≤_}
 use mathlib.Core.Path.{_≡_, sym, ap, subst, _∙_}
 use lib.Ieee.{Float}
 use Rattle.rotation.specs.declared.Parameters.{Parameters}
-use Rattle.rotation.specs.declared.Parameters.the-variants.{Turn}
+use Rattle.rotation.specs.declared.Parameters.the-variants.{Still, Turn}
 use Rattle.matrix_turns.proofs.StillTurns.{still-all-columns}
 use Rattle.matrix_turns.specs.Turns.{parametersOf, columnTurnAll}
 use Rattle.runs.specs.State.{State}
-use Rattle.plain_pair.specs.Pair.{pairTurned, pairRotated}
+use Rattle.runs.specs.Blocks.{ruled}
+use Rattle.runs.proofs.LineZero.{always-still, not-still}
+use Rattle.plain_pair.specs.Pair.{pairTurned, stateTurned, pairRotated}
 use Rattle.plain_pair.proofs.TurnedEntries.{all-first, all-second, all-other, still-others}
 use Rattle.plain_pair.proofs.TurnedEntries.{at-first-first, at-second-second, at-first-second, at-second-first}
 use Rattle.plain_pair.proofs.TurnedEntries.{at-first-other, at-second-other, at-other-first, at-other-second, at-others}
-use Rattle.claims.specs.Report.{ColumnsTurned, MatrixTurned, Cleared, PairByTheReport}
+use Rattle.claims.specs.Report.{ColumnsTurned, MatrixTurned, Cleared, PairByTheReport, FirstOfOdd}
+use Rattle.claims.proofs.FirstProcessor.{is-first, not-first}
 
 module _ (p q : ℕ) (apart : ¬ (p ≡ q)) where
   cleared : (P : Parameters) (A : ℕ → ℕ → Float) → Cleared p q (pairTurned P p q A)
@@ -37,10 +40,8 @@ module _ (p q : ℕ) (apart : ¬ (p ≡ q)) where
       let P = Turn t c s in
       record { column-left = λ r o. all-first P p q E r; column-right = λ r o. all-second P p q E r apart }
 
-  pub paired : (X : State) → PairByTheReport p q X (pairRotated p q X)
-  unfolding pairRotated
-  paired X =
-      let P = parametersOf p q (X .matrix) in
+  turned : (P : Parameters) (X : State) → PairByTheReport P p q X (stateTurned P p q X)
+  turned P X =
       record {
         cleared = cleared P (X .matrix);
         matrix-turned = λ t c s e.
@@ -52,3 +53,15 @@ module _ (p q : ℕ) (apart : ¬ (p ≡ q)) where
         still-matrix = λ e i j f g. ap (λ (R : Parameters). pairTurned R p q (X .matrix) i j) e ∙ still-others p q apart (X .matrix) i j f g;
         still-vectors = λ e r j. ap (λ (R : Parameters). columnTurnAll R p q (X .vectors) r j) e ∙ still-all-columns p q (X .vectors) r j;
       }
+
+module _ (n k p q : ℕ) where
+  by-ruled : {P : Parameters} (X : State) → P ≡ ruled n (k - 1) (parametersOf p q (X .matrix)) → ¬ (p ≡ q)
+      → PairByTheReport P p q X (pairRotated n (k - 1) p q X)
+  unfolding pairRotated
+  by-ruled {P} X e apart = rw (← e) (turned p q apart P X)
+
+  pub paired : 1 ≤ k → ¬ FirstOfOdd n k → ¬ (p ≡ q) → (X : State) → PairByTheReport (parametersOf p q (X .matrix)) p q X (pairRotated n (k - 1) p q X)
+  paired h f apart X = by-ruled X (not-still n (k - 1) _ (not-first n k h f)) apart
+
+  pub first-paired : FirstOfOdd n k → ¬ (p ≡ q) → (X : State) → PairByTheReport Still p q X (pairRotated n (k - 1) p q X)
+  first-paired f apart X = by-ruled X (always-still n (k - 1) _ (is-first n k f)) apart

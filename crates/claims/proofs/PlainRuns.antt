@@ -1,42 +1,56 @@
 -- The plain run and the records of a step, each part by the law that proves it. Assumes nothing.
-use Prim.Native.Nat.{ℕ, zero, suc, _+_, _-_}
+use Prim.Native.Nat.{ℕ, zero, suc, _-_}
 use mathlib.Core.Path.{_≡_, refl, sym, ap, _∙_}
 use mathlib.Core.Bool.{Bool, true, false, not, _&&_, _||_}
+use mathlib.Core.List.{List}
+use mathlib.Core.Logic.{_⊎_, inl, inr}
 use native.Mathlib.Omega.{arith}
 use lib.ListN.{getD}
-use Rattle.float64.specs.Values.{finite}
+use lib.Ieee.{Float}
+use Rattle.float64.specs.Values.{plusZero, finite}
 use Rattle.rotation.specs.declared.Parameters.{Parameters}
 use Rattle.rotation.specs.declared.Parameters.the-variants.{Still, Turn}
 use Rattle.ordering.specs.declared.Registers.{Registers}
 use Rattle.ordering.specs.declared.PairList.{PairList}
 use Rattle.ordering.specs.Pairs.{registersAt}
 use Rattle.ordering.proofs.OrderRegisters.{of-order}
-use Rattle.sizes.specs.Sizes.{processorsOf}
+use Rattle.sizes.specs.Sizes.{isOrder, processorsOf, firstLine}
 use Rattle.matrix.specs.Matrix.{at}
 use Rattle.matrix.proofs.SameEntries.{read-again}
+use Rattle.matrix.proofs.AcceptedEntries.{accepted-if}
 use Rattle.matrix_turns.specs.Turns.{parametersOf}
-use Rattle.runs.specs.State.{State, startOf, identity}
+use Rattle.runs.specs.State.{State, bordered, startOf, identity}
+use Rattle.runs.specs.Blocks.{ruled}
+use Rattle.runs.proofs.LineZero.{bordered-real, row-0, column-0, always-still, not-still}
 use Rattle.plain_run.specs.State.{pairsRotated, after, spoiled}
-use Rattle.plain_run.proofs.RunResults.{last-matrices, spoiled-by, bad-entry}
+use Rattle.plain_run.proofs.RunResults.{last-matrices, spoiled-by, BadEntry, bad-entry, bad-real-entry}
 use Rattle.step_records.specs.Records.{recordOf}
 use Rattle.step_records.proofs.FoundRecords.{accepted-call, record-found, answer-given}
-use Rattle.claims.specs.PlainRuns.{processorsTurned, PlainSteps, RunLeavesLastStep, NotFiniteAfter}
+use Rattle.claims.specs.PlainRuns.{processorsTurned, PlainSteps, RunLeavesLastStep, NotFiniteIn, NotFiniteAfter}
 use Rattle.claims.specs.PlainRuns.{recorded, RecordsFound, PlainRunsAsStated}
+use Rattle.claims.specs.Histories.{CovarianceMatrix}
+use Rattle.claims.proofs.FirstProcessor.{is-first, not-first}
 
-in-order : (list : PairList) (k : ℕ) (X : State) → pairsRotated (list .registers .left) (list .registers .right) k X ≡ processorsTurned list k X
+in-order : (n : ℕ) (list : PairList) (k : ℕ) (X : State)
+    → pairsRotated n (list .registers .left) (list .registers .right) k X ≡ processorsTurned n list k X
 unfolding pairsRotated processorsTurned
-in-order list zero X = refl
-in-order list (suc k) X = let e : suc k - 1 ≡ k = omega arith in rw (e, in-order list k X)
+in-order n list zero X = refl
+in-order n list (suc k) X = let e : suc k - 1 ≡ k = omega arith in rw (e, in-order n list k X)
+
+line-0 : (A : ℕ → ℕ → Float) (r c : ℕ) → (r ≡ 0) ⊎ (c ≡ 0) → bordered A r c ≡ plusZero
+line-0 A r c (inl e) = sym (row-0 A r c e)
+line-0 A r c (inr e) = sym (column-0 A r c e)
 
 steps : PlainSteps
 unfolding after startOf identity
 steps n order list lists =
     record {
-      matrix-at-first = λ l r c. refl;
-      vectors-at-first = λ l r c. refl;
+      matrix-at-first = λ l. bordered-real (at n l);
+      vectors-at-first = λ l. bordered-real identity;
+      line-0-at-first = λ l r c e. (line-0 (at n l) r c e, line-0 identity r c e);
       one-more-step = λ k X.
-          ap (λ (r : Registers). pairsRotated (r .left) (r .right) (processorsOf n) (after n k X)) (sym (of-order n order (lists k .lists)))
-          ∙ in-order (list k) (processorsOf n) (after n k X);
+          ap (λ (r : Registers). pairsRotated n (r .left) (r .right) (processorsOf n) (after n k X)) (sym (of-order n order (lists k .lists)))
+          ∙ in-order n (list k) (processorsOf n) (after n k X);
     }
 
 last-step : RunLeavesLastStep
@@ -55,48 +69,63 @@ both-from true true e = sym e
 both-from true false e = refl
 both-from false b e = refl
 
+-- the entry of the page and that of the law
+module _ {b n : ℕ} {Y : State} where
+  to-law : NotFiniteIn b n Y → BadEntry b n Y
+  to-law w =
+      record {
+        row = w .line-row;
+        column = w .line-column;
+        row-within = w .row-within;
+        column-within = w .column-within;
+        is-bad = both-to (finite (Y .matrix (w .line-row) (w .line-column))) (finite (Y .vectors (w .line-row) (w .line-column))) (w .not-finite);
+      }
+
+  from-law : BadEntry b n Y → NotFiniteIn b n Y
+  from-law w =
+      record {
+        line-row = w .row;
+        line-column = w .column;
+        row-within = w .row-within;
+        column-within = w .column-within;
+        not-finite = both-from (finite (Y .matrix (w .row) (w .column))) (finite (Y .vectors (w .row) (w .column))) (w .is-bad);
+      }
+
 is-spoiled : (n K : ℕ) (X : State) → NotFiniteAfter n K X → spoiled n K X ≡ true
 is-spoiled n K X w =
     let k : suc (w .step - 1) ≡ w .step = omega (arith, w .step-above) in
-    let r : 1 + (w .line-row - 1) ≡ w .line-row = omega (arith, w .inside .0) in
-    let c : 1 + (w .line-column - 1) ≡ w .line-column = omega (arith, w .inside .2) in
-    let Y = after n (w .step) X in
-    spoiled-by n K X (w .step - 1) (w .line-row - 1) (w .line-column - 1) (omega (arith, w .step-within)) (omega (arith, w .inside .1))
-    (omega (arith, w .inside .3))
-    (rw (k, r, c)
-    (both-to (finite (Y .matrix (w .line-row) (w .line-column))) (finite (Y .vectors (w .line-row) (w .line-column))) (w .not-finite)))
+    spoiled-by n K X (w .step - 1) (omega (arith, w .step-above, w .step-within)) (rw k (to-law (w .entry)))
 
 spoiled-is : (n K : ℕ) (X : State) → spoiled n K X ≡ true → NotFiniteAfter n K X
 spoiled-is n K X e =
     let w = bad-entry n K X e in
-    let Y = after n (suc (w .step)) X in
-    record {
-      step = suc (w .step);
-      step-above = omega arith;
-      step-within = w .step-below;
-      line-row = 1 + w .row;
-      line-column = 1 + w .column;
-      inside = (omega arith, omega (arith, w .row-below), omega arith, omega (arith, w .column-below));
-      not-finite =
-          both-from (finite (Y .matrix (1 + w .row) (1 + w .column))) (finite (Y .vectors (1 + w .row) (1 + w .column))) (w .is-bad);
-    }
+    record { step = suc (w .0); step-above = omega arith; step-within = w .1; entry = from-law (w .2) }
+
+real-line : (n step : ℕ) (l : List Float) → isOrder n ≡ true → CovarianceMatrix n l
+    → NotFiniteIn (firstLine n) n (after n step (startOf n l)) → NotFiniteIn 1 n (after n step (startOf n l))
+real-line n step l order m w =
+    from-law (bad-real-entry n l order (m .of-binary64) (accepted-if n l (m .long) (m .all-finite) (m .mirrored)) step (to-law w))
 
 same-record : (P : Parameters) → recordOf P ≡ recorded P
 same-record Still = refl
 same-record (Turn t c s) = refl
 
+-- what a processor turns by, in a matrix as lent
+abbrev foundBy : ℕ → List Float → ℕ → Registers → Parameters
+foundBy n l k r = parametersOf (getD (r .left) (k - 1) 0) (getD (r .right) (k - 1) 0) (at n l)
+
 records : RecordsFound
 records n l step ys other list e lists k a b =
-    record-found n l step ys other e (k - 1) (omega arith)
-    ∙ same-record (parametersOf (getD (registersAt n step .left) (k - 1) 0) (getD (registersAt n step .right) (k - 1) 0) (at n l))
-    ∙ ap (λ (r : Registers). recorded (parametersOf (getD (r .left) (k - 1) 0) (getD (r .right) (k - 1) 0) (at n l)))
-    (sym (of-order n (accepted-call n l _ (answer-given n l step ys e) .order) (lists .lists)))
+    let order = accepted-call n l _ (answer-given n l step ys e) .order in
+    let found = record-found n l step ys other e (k - 1) (omega arith) ∙ same-record (ruled n (k - 1) (foundBy n l k (registersAt n step)))
+    ∙ ap (λ (r : Registers). recorded (ruled n (k - 1) (foundBy n l k r))) (sym (of-order n order (lists .lists))) in
+    (λ f. found ∙ ap recorded (sym (not-still n (k - 1) _ (not-first n k a f))), λ f. found ∙ ap recorded (sym (always-still n (k - 1) _ (is-first n k f))))
 
 pub plain-runs-as-stated : PlainRunsAsStated
 plain-runs-as-stated =
     record {
       plain-steps = steps;
       run-leaves-last-step = last-step;
-      spoiled-means = record { is-spoiled = is-spoiled; spoiled-is = spoiled-is };
+      spoiled-means = record { is-spoiled = is-spoiled; spoiled-is = spoiled-is; real-line = real-line };
       records-found = records;
     }

@@ -3,7 +3,7 @@ use Rattle.float64.proofs.Nan.{bits-of-nan}
 use Rattle.rotation.proofs.ReportFormulas as rotation
 use Rattle.claims.specs.Report.{AsTheReport}
 use Rattle.claims.proofs.RootAnswers.{root-rounds}
-use Rattle.claims.proofs.PairEntries.{paired}
+use Rattle.claims.proofs.PairEntries.{paired, first-paired}
 use Rattle.claims.proofs.Moves.{moved}
 
 pub as-the-report : AsTheReport
@@ -14,6 +14,7 @@ as-the-report =
           record {
             turns = rotation.turns;
             pair = paired;
+            first-of-odd = first-paired;
             still = rotation.still;
             sign-below = rotation.sign-below;
             sign-of-zero = rotation.sign-of-zero;

@@ -1,7 +1,7 @@
 -- What a start and a tick leave in each tile, each part by the law that proves it. Assumes nothing.
 use Prim.Native.Nat.{ℕ, _+_, _-_, _*_, _≤_, _<_}
 use mathlib.Core.Path.{_≡_, refl, ap, _∙_}
-use mathlib.Core.Bool.{Bool, cond, _||_}
+use mathlib.Core.Bool.{Bool, true, false, cond, _||_}
 use mathlib.Core.List.{List}
 use native.Mathlib.Omega.{arith}
 use borrow.Author.Tests.{eq-eqb, ne-eqb}
@@ -16,9 +16,13 @@ use Rattle.systolic.specs.Arrays.{nearer, incoming, tick}
 use Rattle.systolic.specs.Schedule.{setInPhase0, setInPhase1, setInPhase2}
 use Rattle.systolic.proofs.PrintedTables.{phase-0-printed, phase-1-printed, phase-2-printed}
 use Rattle.systolic.proofs.TileTicks as ticks
+use Rattle.float64.specs.Values.{plusZero}
 use Rattle.sizes.specs.Sizes.{processorsOf, stepsOf}
-use Rattle.runs.specs.State.{startOf}
-use Rattle.runs.specs.Cells.{Cell, cellOf, Setting, setting}
+use Rattle.rotation.specs.Rotation.{sent}
+use Rattle.matrix.specs.Matrix.{at}
+use Rattle.runs.specs.State.{identity, bordered, startOf}
+use Rattle.runs.specs.Blocks.{blockParameters}
+use Rattle.runs.specs.Cells.{Cell, cell, cellOf, blockEntries, Setting, setting}
 use Rattle.runs.proofs.BlockTurns.{rows-turned, columns-turned}
 use Rattle.tile_schedule.specs.Answers.{made, progressAnswered}
 use Rattle.tile.specs.Tiles.{operations}
@@ -30,10 +34,14 @@ use Rattle.array.specs.Arrays.{Ticks}
 use Rattle.array.specs.Runs.{startArray, Starts}
 use Rattle.array.proofs.MadeTicks.{made-array, made-tile, started-array, started-tile, begun}
 use Rattle.claims.specs.Tiles.{OneTile, tileIn, cellsRotated, CellsTicked, ParametersTicked, Sets, WiresTicked, TileTicked}
-use Rattle.claims.specs.Tiles.{TickMade, TileStarted, StartMade, TilesAsPrinted}
+use Rattle.claims.specs.Tiles.{TickMade, cellAtFirst, TileStarted, StartMade, TilesAsPrinted}
+use Rattle.claims.proofs.FirstProcessor.{ruled-first}
 
 -- ---- one tile in tick T, among tiles A
-module _ (s : Setting) (last K T : ℕ) (A : ℕ → ℕ → OneTile) (i j : ℕ) where
+module _ (n last K T : ℕ) (A : ℕ → ℕ → OneTile) (i j : ℕ) where
+  abbrev s : Setting
+  s = setting n
+
   abbrev new : OneTile
   new = tick (operations s) last K T A i j
 
@@ -46,10 +54,10 @@ module _ (s : Setting) (last K T : ℕ) (A : ℕ → ℕ → OneTile) (i j : ℕ
   abbrev v : Float
   v = A (nearer j i) j .columnWire
 
-  turned : (k : ℕ) (b : Block Cell) → turnTile (operations s) k i j h v b ≡ cellsRotated i j h v b
-  turned k b = tile-turns s k i b j h v ∙ simp (rows-turned, columns-turned)
+  turned : (k : ℕ) (b : Block Cell) → turnTile (operations s) k i j h v b ≡ cellsRotated n i j h v b
+  turned k b = tile-turns s k i b j h v ∙ simp (rows-turned, columns-turned, ruled-first)
 
-  cells-ticked : CellsTicked K T i j (A i j) new brought h v
+  cells-ticked : CellsTicked n K T i j (A i j) new brought h v
   cells-ticked =
       record {
         rotates = λ k l e. ticks.cells-rotated (operations s) last K T A i j k l e ∙ turned k _;
@@ -58,13 +66,14 @@ module _ (s : Setting) (last K T : ℕ) (A : ℕ → ℕ → OneTile) (i j : ℕ
         no-step-stays = λ e. ticks.cells-kept (operations s) last K T A i j (λ k z. absurd (omega arith));
       }
 
-  parameters-ticked : ParametersTicked K T i j (A i j) new brought h v
+  parameters-ticked : ParametersTicked n K T i j (A i j) new brought h v
   parameters-ticked =
       record {
         sends = λ k l e d.
             let w = ticks.parameters-sent (operations s) last K T A i j k l (omega arith) in
             let z = tile-sends s k i (cond (eqb k 0) (A i j .cells) brought) in
-            (w .0 ∙ rw (eq-eqb i j d) (z .0), w .1 ∙ rw (eq-eqb i j d) (z .1));
+            let y = ap sent (ruled-first n i (blockParameters (blockEntries (cond (eqb k 0) (A i j .cells) brought)))) in
+            (w .0 ∙ rw (eq-eqb i j d) (z .0) ∙ y, w .1 ∙ rw (eq-eqb i j d) (z .1) ∙ y);
         passes-on = λ k l e d.
             let w = ticks.parameters-sent (operations s) last K T A i j k l e in (w .0 ∙ rw (ne-eqb i j d), w .1 ∙ rw (ne-eqb i j d));
         else-keeps = ticks.parameters-kept (operations s) last K T A i j;
@@ -87,7 +96,7 @@ module _ (s : Setting) (last K T : ℕ) (A : ℕ → ℕ → OneTile) (i j : ℕ
         kept-at-the-end = λ l. ticks.wires-kept (operations s) last K T A i j (λ o. l);
       }
 
-  tile-ticked : i ≤ last → j ≤ last → TileTicked last K T i j (A i j) new brought h v
+  tile-ticked : i ≤ last → j ≤ last → TileTicked n last K T i j (A i j) new brought h v
   tile-ticked p q =
       record {
         cells = cells-ticked;
@@ -106,15 +115,21 @@ tick-made x r p m =
       next-tick = ap (λ (y : Array). y .tick) e;
       each-tile = λ i j hi hj.
           rw (made-tile x r p m i j hi hj)
-          (tile-ticked (setting (x .n)) (processorsOf (x .n) - 1) (stepsOf (x .n) (x .sweeps)) (x .tick) (tileIn x) i j (omega arith) (omega arith));
+          (tile-ticked (x .n) (processorsOf (x .n) - 1) (stepsOf (x .n) (x .sweeps)) (x .tick) (tileIn x) i j (omega arith) (omega arith));
     }
+
+-- a cell at the start
+first-cell : (n : ℕ) (l : List Float) (r c : ℕ) → cell (bordered (at n l) r c) (bordered identity r c) ≡ cellAtFirst n l r c
+unfolding bordered
+first-cell n l r c = go (eqb r 0 || eqb c 0)
+  where
+    go : (b : Bool) → cell (cond b plusZero (at n l r c)) (cond b plusZero (identity r c)) ≡ cond b (cell plusZero plusZero) (cell (at n l r c) (identity r c))
+    go true = refl
+    go false = refl
 
 begun-started : (n : ℕ) (l : List Float) (i j : ℕ) → TileStarted n l i j (begun n l i j)
 unfolding blockAt inOrder inOrderAt slot tab cellOf startOf
-begun-started n l i j =
-    let a : 2 * i + 1 + 1 ≡ 2 * i + 2 = omega arith in
-    let b : 2 * j + 1 + 1 ≡ 2 * j + 2 = omega arith in
-    record { cells = rw (a, b); wires = refl; parameters = (refl, refl); mark = refl }
+begun-started n l i j = record { cells = simp (first-cell n l); wires = refl; parameters = (refl, refl); mark = refl }
 
 start-made : (n sweeps : ℕ) (l : List Float) (s : Started) → Starts n sweeps l s → answered (s .answer) ≡ given tt → StartMade n sweeps l s
 start-made n sweeps l s p m =

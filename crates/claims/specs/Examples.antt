@@ -1,4 +1,5 @@
--- The examples that document 01 marks P under "Entries to try". Definitions only.
+-- The examples that document 01 marks P under "Entries to try", and steps of two odd orders (document 02 (ii)).
+-- Definitions only.
 use Prim.Native.Nat.{ℕ, _*_}
 use mathlib.Core.Path.{_≡_}
 use mathlib.Core.List.{List, [], _∷_}
@@ -58,6 +59,11 @@ examples =
     ∷ pairs 4 1 ((1, 4) ∷ (2, 3) ∷ [])
     ∷ pairs 4 2 ((1, 3) ∷ (4, 2) ∷ [])
     ∷ pairs 8 1 ((1, 4) ∷ (2, 6) ∷ (3, 8) ∷ (5, 7) ∷ [])
+    ∷ pairs 3 0 ((0, 1) ∷ (2, 3) ∷ [])
+    ∷ pairs 3 1 ((0, 3) ∷ (1, 2) ∷ [])
+    ∷ pairs 3 2 ((0, 2) ∷ (3, 1) ∷ [])
+    ∷ pairs 5 0 ((0, 1) ∷ (2, 3) ∷ (4, 5) ∷ [])
+    ∷ pairs 5 1 ((0, 3) ∷ (1, 5) ∷ (2, 4) ∷ [])
     ∷ run 2 1
     (0x3ff0_0000_0000_0000 ∷ 0 ∷ 0 ∷ 0x4008_0000_0000_0000 ∷ [])
     (0x3ff0_0000_0000_0000 ∷ 0 ∷ 0 ∷ 0x4008_0000_0000_0000 ∷ [])

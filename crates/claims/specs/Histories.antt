@@ -1,5 +1,5 @@
--- Demand 3 (document 00; document 01, "The array", "Neighbourhood", "Runs by hand"), one statement for each of its
--- parts. Definitions only.
+-- Demand 3 (document 00; document 01, "The array", "Neighbourhood", "Runs by hand"; document 02 (ii)), one statement
+-- for each of its parts. Definitions only.
 use Prim.Native.Nat.{ℕ, zero, suc, _+_, _-_, _*_, _/_, _%_, _^_, _≤_, _<_}
 use mathlib.Core.Path.{_≡_}
 use mathlib.Core.Bool.{true, false, not, cond}
@@ -67,9 +67,9 @@ pub record CovarianceMatrix (n : ℕ) (l : List Float) : Type 0 where
   pub all-finite : (i j : ℕ) → (1 ≤ i) × (i ≤ n) → (1 ≤ j) × (j ≤ n) → finite (at n l i j) ≡ true
   pub mirrored : (i j : ℕ) → (1 ≤ i) × (i ≤ n) → (1 ≤ j) × (j ≤ n) → at n l i j ≡ at n l j i
 
--- For each even order from 2 to 32, each number of sweeps from 0 to 16 and each such matrix whose plain run stays
--- finite, the count of bits in which the array's final matrix and eigenvectors differ from those of the plain sweeps is
--- zero. r and v are the plain run's results and r′ and v′ the array's, whatever they held.
+-- For each order from 2 to 32, even or odd, each number of sweeps from 0 to 16 and each such matrix whose plain run
+-- stays finite, the count of bits in which the array's final matrix and eigenvectors differ from those of the plain
+-- sweeps is zero. r and v are the plain run's results and r′ and v′ the array's, whatever they held.
 abbrev pub NoBitDiffers : Type 0
 NoBitDiffers =
     (n sweeps : ℕ) (l r v r′ v′ : List Float)
@@ -91,15 +91,15 @@ pub record RefusedStart (s : Started) (rs : List Ticked) : Type 0 where
   pub each-refused-by-1 : answersOf rs ≡ counted (λ t. refused 1 []) (length rs)
   pub zeros-back : lastArray s rs ≡ noArray
 
--- Once all are made, and the plain run stays finite, the cells are its two final matrices, each entry at its row and
--- column, and no tile is marked; if it is spoiled, some tile is marked.
+-- Once all are made, and the plain run stays finite, the cells are its two final matrices, each entry of a real line at
+-- its row and column, and no tile is marked; if it is spoiled, some tile is marked.
 pub record AllMade (n sweeps : ℕ) (l : List Float) (x : Array) : Type 0 where
   pub matrix-agrees : spoiled n (stepsOf n sweeps) (startOf n l) ≡ false
       → (r c : ℕ) → (1 ≤ r) × (r ≤ n) → (1 ≤ c) × (c ≤ n)
-      → matrixIn (x .tiles) r c ≡ after n (stepsOf n sweeps) (startOf n l) .matrix r c
+      → matrixIn n (x .tiles) r c ≡ after n (stepsOf n sweeps) (startOf n l) .matrix r c
   pub vectors-agree : spoiled n (stepsOf n sweeps) (startOf n l) ≡ false
       → (r c : ℕ) → (1 ≤ r) × (r ≤ n) → (1 ≤ c) × (c ≤ n)
-      → vectorsIn (x .tiles) r c ≡ after n (stepsOf n sweeps) (startOf n l) .vectors r c
+      → vectorsIn n (x .tiles) r c ≡ after n (stepsOf n sweeps) (startOf n l) .vectors r c
   pub none-marked : spoiled n (stepsOf n sweeps) (startOf n l) ≡ false → someMarked (processorsOf n) (x .tiles) ≡ false
   pub some-marked : spoiled n (stepsOf n sweeps) (startOf n l) ≡ true → someMarked (processorsOf n) (x .tiles) ≡ true
 
@@ -125,8 +125,8 @@ NoBitDiffersByHand =
     → ByHand n sweeps l s rs
     → ticksOf n sweeps ≤ length rs
     → runOf n sweeps l r v .answer ≡ given tt
-    → (differingIn (n * n) (flat n (matrixIn (lastArray s rs .tiles))) (runOf n sweeps l r v .result) ≡ 0)
-    × (differingIn (n * n) (flat n (vectorsIn (lastArray s rs .tiles))) (runOf n sweeps l r v .vectors) ≡ 0)
+    → (differingIn (n * n) (flat n (matrixIn n (lastArray s rs .tiles))) (runOf n sweeps l r v .result) ≡ 0)
+    × (differingIn (n * n) (flat n (vectorsIn n (lastArray s rs .tiles))) (runOf n sweeps l r v .vectors) ≡ 0)
 
 -- ---- neighbourhood
 -- Whatever all other tiles hold, two arrays alike in order, sweeps, tick, one tile and the wires that lead to it are
@@ -140,7 +140,8 @@ Neighbourhood =
     → tileAt (r .array .tiles) i j ≡ tileAt (s .array .tiles) i j
 
 -- ---- meetings
--- In every sweep, from 1, any two different lines meet exactly once in the lists of pairs that the call gives.
+-- In every sweep, from 1, any two different real lines meet exactly once in the lists of pairs that the call gives. The
+-- steps of a sweep are on the page `Sizes`.
 abbrev pub MeetOnce : Type 0
 MeetOnce =
     (n : ℕ) → isOrder n ≡ true

@@ -1,6 +1,6 @@
--- Demand 2 on numbers (document 00; document 01, "Square root", "One rotation", "Pairs and their movement").
--- Definitions only.
-use Prim.Native.Nat.{ℕ, suc, _+_, _-_, _*_, _^_, _≤_, _<_}
+-- Demand 2 on numbers (document 00; document 01, "Square root", "One rotation", "Pairs and their movement"; document 02
+-- (ii)). Definitions only.
+use Prim.Native.Nat.{ℕ, suc, _+_, _-_, _*_, _%_, _^_, _≤_, _<_}
 use mathlib.Core.Path.{_≡_}
 use mathlib.Core.Bool.{true, false, cond}
 use lib.Dec.{T}
@@ -10,6 +10,7 @@ use Rattle.float64.specs.Values.{plusZero, one, finite, isZero, magnitude}
 use Rattle.float64.specs.Units.{unitsOf}
 use Rattle.refusal.specs.Answers.{given}
 use Rattle.root.specs.Sqrt.{sqrtOf}
+use Rattle.rotation.specs.declared.Parameters.{Parameters}
 use Rattle.rotation.specs.declared.Parameters.the-variants.{Still, Turn}
 use Rattle.rotation.specs.Rotation.{two, rootOf, signum, ofPair}
 use Rattle.matrix_turns.specs.Turns.{parametersOf}
@@ -83,23 +84,31 @@ pub record MatrixTurned (t c s : Float) (p q : ℕ) (old new : ℕ → ℕ → F
 abbrev pub Cleared : ℕ → ℕ → (ℕ → ℕ → Float) → Type 0
 Cleared p q new = (new p q ≡ plusZero) × (new q p ≡ plusZero)
 
--- What a pair does to the matrix and to the eigenvectors, which get the column turn on all rows. A still pair changes
--- none of these.
-pub record PairByTheReport (p q : ℕ) (old new : State) : Type 0 where
+-- What a pair with the parameters P does to the matrix and to the eigenvectors, which get the column turn on all rows.
+-- A still pair changes none of these.
+pub record PairByTheReport (P : Parameters) (p q : ℕ) (old new : State) : Type 0 where
   pub cleared : Cleared p q (new .matrix)
-  pub matrix-turned : (t c s : Float) → parametersOf p q (old .matrix) ≡ Turn t c s
-      → MatrixTurned t c s p q (old .matrix) (new .matrix)
-  pub vectors-turned : (t c s : Float) → parametersOf p q (old .matrix) ≡ Turn t c s
+  pub matrix-turned : (t c s : Float) → P ≡ Turn t c s → MatrixTurned t c s p q (old .matrix) (new .matrix)
+  pub vectors-turned : (t c s : Float) → P ≡ Turn t c s
       → ColumnsTurned (λ r. Unit) c s p q (old .vectors) (new .vectors)
   pub vectors-kept : (r j : ℕ) → Other p q j → new .vectors r j ≡ old .vectors r j
-  pub still-matrix : parametersOf p q (old .matrix) ≡ Still
+  pub still-matrix : P ≡ Still
       → (i j : ℕ) → ¬ ((i ≡ p) × (j ≡ q)) → ¬ ((i ≡ q) × (j ≡ p))
       → new .matrix i j ≡ old .matrix i j
-  pub still-vectors : parametersOf p q (old .matrix) ≡ Still → (r j : ℕ) → new .vectors r j ≡ old .vectors r j
+  pub still-vectors : P ≡ Still → (r j : ℕ) → new .vectors r j ≡ old .vectors r j
+
+-- Processor k, from 1, is processor 1 of an odd order n.
+abbrev pub FirstOfOdd : ℕ → ℕ → Type 0
+FirstOfOdd n k = (n % 2 ≡ 1) × (k ≡ 1)
 
 pub record RotationIsTheReports : Type 0 where
   pub turns : TurnsByTheReport
-  pub pair : (p q : ℕ) → ¬ (p ≡ q) → (X : State) → PairByTheReport p q X (pairRotated p q X)
+  -- Processor k turns by the parameters of its pair, but processor 1 of an odd order is always still, whatever the
+  -- matrix holds.
+  pub pair : (n k p q : ℕ) → 1 ≤ k → ¬ FirstOfOdd n k → ¬ (p ≡ q)
+      → (X : State) → PairByTheReport (parametersOf p q (X .matrix)) p q X (pairRotated n (k - 1) p q X)
+  pub first-of-odd : (n k p q : ℕ) → FirstOfOdd n k → ¬ (p ≡ q)
+      → (X : State) → PairByTheReport Still p q X (pairRotated n (k - 1) p q X)
   pub still : (a d b : Float) → isZero b ≡ true → ofPair a d b ≡ Still
   -- sign(ξ) is -1 below zero, and 1 if ξ is zero of either sign or above
   pub sign-below : (ξ : Float) → lt ξ plusZero ≡ true → signum ξ ≡ neg one
@@ -119,10 +128,15 @@ leftRegister r k = getD (r .registers .left) (k - 1) 0
 abbrev pub rightRegister : PairList → ℕ → ℕ
 rightRegister r k = getD (r .registers .right) (k - 1) 0
 
+-- Left k starts at the line l k, and right k at r k.
+abbrev pub StartsAt : ℕ → PairList → (ℕ → ℕ) → (ℕ → ℕ) → Type 0
+StartsAt n list l r =
+    (k : ℕ) → 1 ≤ k → k ≤ processorsOf n → (leftRegister list k ≡ l k) × (rightRegister list k ≡ r k)
+
 -- The lists that the call gives for an order, one for each step from 0, after document 003, section 3.
 pub record MovesByTheReport (n : ℕ) (list : ℕ → PairList) : Type 0 where
-  pub left-at-first : (k : ℕ) → 1 ≤ k → k ≤ processorsOf n → leftRegister (list 0) k ≡ 2 * k - 1
-  pub right-at-first : (k : ℕ) → 1 ≤ k → k ≤ processorsOf n → rightRegister (list 0) k ≡ 2 * k
+  pub even-at-first : n % 2 ≡ 0 → StartsAt n (list 0) (λ k. 2 * k - 1) (λ k. 2 * k)
+  pub odd-at-first : n % 2 ≡ 1 → StartsAt n (list 0) (λ k. 2 * k - 2) (λ k. 2 * k - 1)
   pub left-1-stays : (s : ℕ) → leftRegister (list (suc s)) 1 ≡ leftRegister (list s) 1
   pub right-1-to-left-2 : (s : ℕ) → 2 ≤ processorsOf n → leftRegister (list (suc s)) 2 ≡ rightRegister (list s) 1
   pub left-to-the-next : (s k : ℕ) → 2 ≤ k → k < processorsOf n
@@ -133,6 +147,7 @@ pub record MovesByTheReport (n : ℕ) (list : ℕ → PairList) : Type 0 where
       → rightRegister (list (suc s)) (k - 1) ≡ rightRegister (list s) k
   pub nothing-moves-for-2 : (s : ℕ) → n ≡ 2 → rightRegister (list (suc s)) 1 ≡ rightRegister (list s) 1
   pub zeros-above : (s k : ℕ) → processorsOf n < k → (leftRegister (list s) k ≡ 0) × (rightRegister (list s) k ≡ 0)
+  pub line-0-in-left-1 : (s : ℕ) → n % 2 ≡ 1 → leftRegister (list s) 1 ≡ 0
   pub repeats : (s : ℕ) → list (s + sweepSteps n) .registers ≡ list s .registers
   pub each-line-once : (s p : ℕ) → 1 ≤ p → p ≤ n → standsIn (list s .registers) p ≡ 1
 

@@ -119,8 +119,9 @@ OneSheetAContent =
     → b ≡ b′
 
 -- ---- before document 02 (i)
--- `shortReadOf` is the reader of document 01 (crates/sheet_agreement/specs/ShortReader.antt). A first byte without the
--- 128 reads as before, and old readers refuse the long form by 1.
+-- `shortReadOf` is the reader of document 01, but for odd orders, which it accepts as (ii) does
+-- (crates/sheet_agreement/specs/ShortReader.antt). A first byte without the 128 reads as before, and old readers refuse
+-- the long form by 1.
 pub record ReadAsBefore : Type 0 where
   pub short : (b c : List ℕ) (m : List Float) → getD b 0 0 < 128 → readOf b c m ≡ shortReadOf b c m
   pub long : (b c : List ℕ) (m : List Float) → 2 ≤ length b → 128 ≤ getD b 0 0

@@ -1,8 +1,9 @@
--- Document 01, "The array": what a start and a tick that is made leave in each tile of the record. Tiles are counted
--- from 0 here, so document 01's P_ij stands in row i - 1 and column j - 1. Definitions only.
-use Prim.Native.Nat.{ℕ, _+_, _-_, _*_, _≤_, _<_}
+-- Document 01, "The array", and document 02 (ii): what a start and a tick that is made leave in each tile of the
+-- record, whatever it held. Tiles are counted from 0 here, so document 01's P_ij stands in row i - 1 and column j - 1.
+-- Definitions only.
+use Prim.Native.Nat.{ℕ, _+_, _-_, _*_, _%_, _≤_, _<_}
 use mathlib.Core.Path.{_≡_}
-use mathlib.Core.Bool.{Bool, false, not, cond, _||_}
+use mathlib.Core.Bool.{Bool, false, not, cond, _||_, _&&_}
 use mathlib.Core.List.{List}
 use lib.Dec.{eqb, ltb}
 use lib.Ieee.{Float}
@@ -13,7 +14,9 @@ use Rattle.systolic.specs.Blocks.{Block, cell as corner}
 use Rattle.systolic.specs.Tiles.{Tile, distance}
 use Rattle.systolic.specs.Arrays.{nearer, incoming}
 use Rattle.systolic.specs.Schedule.{interchange, leadsTo, setInPhase0, setInPhase1, setInPhase2}
-use Rattle.sizes.specs.Sizes.{processorsOf, stepsOf}
+use Rattle.sizes.specs.Sizes.{processorsOf, firstLine, stepsOf}
+use Rattle.rotation.specs.declared.Parameters.{Parameters}
+use Rattle.rotation.specs.declared.Parameters.the-variants.{Still}
 use Rattle.rotation.specs.Rotation.{ofPair, ofTangent, turnOf, sent}
 use Rattle.matrix.specs.Matrix.{at}
 use Rattle.runs.specs.State.{identity}
@@ -34,12 +37,18 @@ abbrev pub tileIn : Array → ℕ → ℕ → OneTile
 tileIn x = theArray (x .tiles)
 
 -- ---- what a rotation makes of the four cells
--- The tangent that a tile on the diagonal sends, by a = α, d = δ and b = β; +0 when still. Then its cells.
-abbrev pub tangentSent : Block Cell → Float
-tangentSent b = sent (ofPair (b .α .entry) (b .δ .entry) (b .β .entry))
+-- The parameters of the tile on the diagonal in row i of an order n, by a = α, d = δ and b = β; that of processor 1 of
+-- an odd order is always still, whatever its cells hold.
+abbrev pub diagonalParameters : ℕ → ℕ → Block Cell → Parameters
+diagonalParameters n i b =
+    cond (eqb (n % 2) 1 && eqb i 0) Still (ofPair (b .α .entry) (b .δ .entry) (b .β .entry))
 
-abbrev pub onDiagonal : Block Cell → Block Cell
-onDiagonal b = blockTurned (ofPair (b .α .entry) (b .δ .entry) (b .β .entry)) b
+-- The tangent that it sends, +0 when still, and its cells; β and γ become +0, still or not.
+abbrev pub tangentSent : ℕ → ℕ → Block Cell → Float
+tangentSent n i b = sent (diagonalParameters n i b)
+
+abbrev pub onDiagonal : ℕ → ℕ → Block Cell → Block Cell
+onDiagonal n i b = blockTurned (diagonalParameters n i b) b
 
 -- The row turn by the tangent t: the matrix alone.
 abbrev pub blockRowsTurned : Float → Block Cell → Block Cell
@@ -72,26 +81,26 @@ blockColumnsTurned t b =
 
 -- With i < j the row turn first, then the column turn; with i > j the column turn first. h comes along the row and v
 -- along the column.
-abbrev pub cellsRotated : ℕ → ℕ → Float → Float → Block Cell → Block Cell
-cellsRotated i j h v b =
-    cond (eqb i j) (onDiagonal b)
+abbrev pub cellsRotated : ℕ → ℕ → ℕ → Float → Float → Block Cell → Block Cell
+cellsRotated n i j h v b =
+    cond (eqb i j) (onDiagonal n i b)
     (cond (ltb i j) (blockColumnsTurned v (blockRowsTurned h b)) (blockRowsTurned h (blockColumnsTurned v b)))
 
--- ---- one tile in tick T of a run of K steps, from old to new
+-- ---- one tile in tick T of a run of order n and K steps, from old to new
 -- brought is what its cell wires bring, h and v what its parameter wires bring. It rotates at T = Δ + 3 k, k from 0 to
 -- K - 1, and reads its cell wires first unless T = Δ; at T = Δ + 3 K it reads them, if K > 0, and does not turn.
-pub record CellsTicked (K T i j : ℕ) (old new : OneTile) (brought : Block Cell) (h v : Float) : Type 0 where
+pub record CellsTicked (n K T i j : ℕ) (old new : OneTile) (brought : Block Cell) (h v : Float) : Type 0 where
   pub rotates : (k : ℕ) → k < K → T ≡ distance i j + 3 * k
-      → new .cells ≡ cellsRotated i j h v (cond (eqb k 0) (old .cells) brought)
+      → new .cells ≡ cellsRotated n i j h v (cond (eqb k 0) (old .cells) brought)
   pub reads-last : 0 < K → T ≡ distance i j + 3 * K → new .cells ≡ brought
   pub else-stays : ((k : ℕ) → k ≤ K → ¬ (T ≡ distance i j + 3 * k)) → new .cells ≡ old .cells
   pub no-step-stays : K ≡ 0 → new .cells ≡ old .cells
 
 -- A diagonal tile passes its tangent, +0 when still, along its row and its column; another passes on what comes.
-pub record ParametersTicked (K T i j : ℕ) (old new : OneTile) (brought : Block Cell) (h v : Float) : Type 0 where
+pub record ParametersTicked (n K T i j : ℕ) (old new : OneTile) (brought : Block Cell) (h v : Float) : Type 0 where
   pub sends : (k : ℕ) → k < K → T ≡ 3 * k → i ≡ j
-      → (new .rowWire ≡ tangentSent (cond (eqb k 0) (old .cells) brought))
-      × (new .columnWire ≡ tangentSent (cond (eqb k 0) (old .cells) brought))
+      → (new .rowWire ≡ tangentSent n i (cond (eqb k 0) (old .cells) brought))
+      × (new .columnWire ≡ tangentSent n i (cond (eqb k 0) (old .cells) brought))
   pub passes-on : (k : ℕ) → k < K → T ≡ distance i j + 3 * k → ¬ (i ≡ j) → (new .rowWire ≡ h) × (new .columnWire ≡ v)
   pub else-keeps : ((k : ℕ) → k < K → ¬ (T ≡ distance i j + 3 * k))
       → (new .rowWire ≡ old .rowWire) × (new .columnWire ≡ old .columnWire)
@@ -118,9 +127,9 @@ abbrev pub someCellNotFinite : Block Cell → Bool
 someCellNotFinite b = cellNotFinite (b .α) || cellNotFinite (b .β) || cellNotFinite (b .γ) || cellNotFinite (b .δ)
 
 -- A tile is marked, for good, once one of its cells isn't finite at the end of a tick.
-pub record TileTicked (last K T i j : ℕ) (old new : OneTile) (brought : Block Cell) (h v : Float) : Type 0 where
-  pub cells : CellsTicked K T i j old new brought h v
-  pub parameters : ParametersTicked K T i j old new brought h v
+pub record TileTicked (n last K T i j : ℕ) (old new : OneTile) (brought : Block Cell) (h v : Float) : Type 0 where
+  pub cells : CellsTicked n K T i j old new brought h v
+  pub parameters : ParametersTicked n K T i j old new brought h v
   pub wires : WiresTicked last K T i j old new
   pub mark : new .mark ≡ (old .mark || someCellNotFinite (new .cells))
 
@@ -130,7 +139,7 @@ pub record TileTicked (last K T i j : ℕ) (old new : OneTile) (brought : Block 
 abbrev pub Ticking : Array → Ticked → ℕ → ℕ → Type 0
 Ticking x r i j =
     let last = processorsOf (x .n) - 1 in
-    TileTicked last (stepsOf (x .n) (x .sweeps)) (x .tick) i j (tileIn x i j) (tileIn (r .array) i j)
+    TileTicked (x .n) last (stepsOf (x .n) (x .sweeps)) (x .tick) i j (tileIn x i j) (tileIn (r .array) i j)
     (incoming last (tileIn x) i j) (tileIn x i (nearer i j) .rowWire) (tileIn x (nearer j i) j .columnWire)
 
 pub record TickMade (x : Array) (r : Ticked) : Type 0 where
@@ -147,19 +156,22 @@ WiresLead = (x : Array) (r s : Side) (i j : ℕ) → i < processorsOf (x .n) →
     corner (to .down) (to .across) (incoming last (tileIn x) (to .row) (to .column)) ≡ corner r s (tileIn x i j .wires))
 
 -- Tile P_ij begins with the part of the matrix at row registers i and column registers j and a like part of the
--- identity, all wires at +0, not marked.
-abbrev pub cornersAt : (ℕ → ℕ → Cell) → ℕ → ℕ → Block Cell
-cornersAt f i j =
+-- identity, line 0 at +0 throughout both, all wires at +0, not marked. b is the first line.
+abbrev pub cornersAt : ℕ → (ℕ → ℕ → Cell) → ℕ → ℕ → Block Cell
+cornersAt b f i j =
     record {
-      α = f (2 * i + 1) (2 * j + 1);
-      β = f (2 * i + 1) (2 * j + 2);
-      γ = f (2 * i + 2) (2 * j + 1);
-      δ = f (2 * i + 2) (2 * j + 2);
+      α = f (2 * i + b) (2 * j + b);
+      β = f (2 * i + b) (2 * j + 1 + b);
+      γ = f (2 * i + 1 + b) (2 * j + b);
+      δ = f (2 * i + 1 + b) (2 * j + 1 + b);
     }
 
+abbrev pub cellAtFirst : ℕ → List Float → ℕ → ℕ → Cell
+cellAtFirst n l r c = cond (eqb r 0 || eqb c 0) (cell plusZero plusZero) (cell (at n l r c) (identity r c))
+
 pub record TileStarted (n : ℕ) (l : List Float) (i j : ℕ) (new : OneTile) : Type 0 where
-  pub cells : new .cells ≡ cornersAt (λ r c. cell (at n l r c) (identity r c)) i j
-  pub wires : new .wires ≡ cornersAt (λ r c. cell plusZero plusZero) i j
+  pub cells : new .cells ≡ cornersAt (firstLine n) (cellAtFirst n l) i j
+  pub wires : new .wires ≡ cornersAt (firstLine n) (λ r c. cell plusZero plusZero) i j
   pub parameters : (new .rowWire ≡ plusZero) × (new .columnWire ≡ plusZero)
   pub mark : new .mark ≡ false
 

@@ -7,3 +7,4 @@ pub mod Patterns
 pub mod Order
 pub mod PositiveValues
 pub mod Operands
+pub mod Vanishing

@@ -46,7 +46,7 @@ module _ (b : List ℕ) where
       go false z = ltb-false largestOrder (orderIn b) z
 
   pub order-there : {n : ℕ} → n ≡ cond (ltb largestOrder (orderIn b)) 0 (orderIn b) → isOrder (orderIn b) ≡ true → n ≡ orderIn b
-  order-there e z = e ∙ sym (not-too-large refl (order-is (orderIn b) z .2))
+  order-there e z = e ∙ sym (not-too-large refl (order-is (orderIn b) z .1))
 
 -- ---- the run
 module _ (n sweeps : ℕ) (codes t : List ℕ) (o : Outcome ℕ) where
@@ -137,7 +137,7 @@ module _ (b : List ℕ) where
         go (refused j values) e k = e ∙ sym (ap (λ (o : ReadOutcome). giving tt (o .answer)) k)
 
   pub within-limit : (lc lm n : ℕ) → readAnswer b lc lm ≡ given tt → n ≡ orderIn b → n ≤ largestOrder
-  within-limit lc lm n e z = rw z (order-is (orderIn b) (readable b lc lm e .order) .2)
+  within-limit lc lm n e z = rw z (order-is (orderIn b) (readable b lc lm e .order) .1)
 
   -- ---- the listing
   module _ (c : List ℕ) (m : List Float) (t : List ℕ) (fit : Fitting (length c) (length m)) where

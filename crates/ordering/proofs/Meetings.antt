@@ -81,7 +81,7 @@ module _ (n : ℕ) (order : isOrder n ≡ true) (list : ℕ → PairList) (lists
   half = let o = order-half n order in omega arith
 
   whole : (p : ℕ) → p ≤ n → p < firstLine n + 2 * suc (processorsOf n - 1)
-  whole p h = let o = order-is n order .1 in omega arith
+  whole p h = let o = order-is n order .0 in omega arith
 
   -- The pairs repeat every sweep.
   pub pairs-repeat : (s : ℕ) → list (s + sweepSteps n) .registers ≡ list s .registers

@@ -1,14 +1,15 @@
--- The lines that stand in the registers of a step: two different ones in each processor, from 1 to n, and none in two. Assumes nothing.
-use Prim.Native.Nat.{ℕ, _-_, _≤_, _<_}
-use mathlib.Core.Path.{_≡_, ap}
+-- The lines that stand in the registers of a step: two different ones in each processor, from the first line to n, and none in two. Assumes
+-- nothing.
+use Prim.Native.Nat.{ℕ, zero, suc, _-_, _≤_, _<_}
+use mathlib.Core.Path.{_≡_, refl, ap, _∙_}
 use mathlib.Core.Bool.{Bool, true, false, true≢false}
 use native.Mathlib.Nat.{le-refl}
 use native.Mathlib.Omega.{arith}
 use lib.ListN.{getD}
-use Rattle.systolic.specs.Slots.{Side, left, right, Slot, slot, lineAt, inOrder}
+use Rattle.systolic.specs.Slots.{Side, left, right, Slot, slot, cameFrom, prior, lineAt, inOrderAt, inOrder}
 use Rattle.systolic.proofs.Lines.{line-from, line-one, inOrder-one, inOrder-in}
 use Rattle.ordering.specs.Registers.{registersOf, standing}
-use Rattle.sizes.specs.Sizes.{isOrder, processorsOf, firstLine}
+use Rattle.sizes.specs.Sizes.{isOrder, processorsOf, firstLine, stillOf}
 use Rattle.ordering.specs.Pairs.{registersAt}
 use Rattle.ordering.proofs.Columns.{column-at}
 use Rattle.sizes.proofs.Orders.{order-is, order-half}
@@ -16,6 +17,15 @@ use Rattle.sizes.proofs.Orders.{order-is, order-half}
 -- the line in the left or the right register of processor k, from 0
 abbrev pub lineOf : ℕ → ℕ → ℕ → Side → ℕ
 lineOf n s k r = lineAt (inOrder (firstLine n)) (processorsOf n - 1) s (slot k r)
+
+-- the first line stays in left 1
+stays : (l : Slot → ℕ) (m s : ℕ) → lineAt l m s (slot 0 left) ≡ l (slot 0 left)
+unfolding lineAt prior cameFrom slot
+stays l m zero = refl
+stays l m (suc s) = stays l m s
+
+pub first-stays : (n s : ℕ) → lineOf n s 0 left ≡ firstLine n
+first-stays n s = stays (inOrder (firstLine n)) (processorsOf n - 1) s ∙ unfold inOrder inOrderAt slot in (omega arith)
 
 module _ (n : ℕ) (order : isOrder n ≡ true) (s k : ℕ) (below : k < processorsOf n) where
   pub left-stands : getD (registersAt n s .left) k 0 ≡ lineOf n s k left
@@ -34,12 +44,12 @@ module _ (n : ℕ) (order : isOrder n ≡ true) (s k : ℕ) (below : k < process
   last : (r : Side) → slot k r .processor ≤ processorsOf n - 1
   last r = unfold slot in (omega arith)
 
-  pub line-within : (r : Side) → (1 ≤ lineOf n s k r) × (lineOf n s k r ≤ n)
+  pub line-within : (r : Side) → (firstLine n ≤ lineOf n s k r) × (lineOf n s k r ≤ n)
   line-within r =
       let w = line-from (inOrder (firstLine n)) (processorsOf n - 1) s (slot k r) (last r) in
       let i = inOrder-in (firstLine n) (processorsOf n - 1) (w .0) (w .1) in
       let o = order-is n order in
-      rw (w .2) (let a = i .0 in omega arith, let b = i .1 in omega arith)
+      rw (w .2) (i .0, let b = i .1 in omega arith)
 
   one-slot : (r t : Side) (i : ℕ) → i ≤ k → lineOf n s i r ≡ lineOf n s k t → slot i r ≡ slot k t
   one-slot r t i h e =
@@ -63,8 +73,22 @@ module _ (n : ℕ) (order : isOrder n ≡ true) (s k : ℕ) (below : k < process
       processors : slot i r ≡ slot k t → ⊥
       processors e = let z : i ≡ k = unfold slot in (ap (λ (u : Slot). u .processor) e) in omega arith
 
-  -- the pair of a processor is two different lines
-  pub pair-within : let p = getD (registersAt n s .left) k 0 in let q = getD (registersAt n s .right) k 0 in
+  -- a processor that is not always still has real lines
+  line-real : stillOf n ≤ k → (r : Side) → (1 ≤ lineOf n s k r) × (lineOf n s k r ≤ n)
+  line-real h r = let w = line-within r in (above _ (w .0) (λ o e. lines-apart left r 0 o (first-stays n s ∙ e)), w .1)
+    where
+      above : (l : ℕ) → firstLine n ≤ l → (0 < k → ¬ (firstLine n ≡ l)) → 1 ≤ l
+      above zero g f = absurd (f (omega arith) (omega arith))
+      above (suc l) g f = omega arith
+
+  -- its pair is two different lines of 1 to n
+  pub pair-real : stillOf n ≤ k → let p = getD (registersAt n s .left) k 0 in let q = getD (registersAt n s .right) k 0 in
       (1 ≤ p) × (p ≤ n) × (1 ≤ q) × (q ≤ n) × (¬ (p ≡ q))
-  pair-within =
-      rw (left-stands, right-stands) (line-within left .0, line-within left .1, line-within right .0, line-within right .1, lines-differ)
+  pair-real h =
+      rw (left-stands, right-stands) (line-real h left .0, line-real h left .1, line-real h right .0, line-real h right .1, lines-differ)
+
+  -- the processor that is always still has line 0 on its left, and another on its right
+  pub pair-still : k < stillOf n → let p = getD (registersAt n s .left) k 0 in let q = getD (registersAt n s .right) k 0 in (p ≡ 0) × (¬ (p ≡ q))
+  pair-still h =
+      let z : k ≡ 0 = omega arith in
+      (left-stands ∙ ap (λ (i : ℕ). lineOf n s i left) z ∙ first-stays n s ∙ omega arith, rw (left-stands, right-stands) lines-differ)

@@ -8,7 +8,7 @@ use native.Mathlib.Omega.{arith}
 use lib.ListN.{getD}
 use Rattle.systolic.specs.Slots.{Side, left, right, slot, prior, inOrder}
 use Rattle.sizes.specs.Sizes.{isOrder, processorsOf, firstLine}
-use Rattle.sizes.proofs.Orders.{order-is, order-half}
+use Rattle.sizes.proofs.Orders.{order-half}
 use Rattle.ordering.specs.declared.Registers.{Registers}
 use Rattle.ordering.specs.declared.PairList.{PairList}
 use Rattle.ordering.specs.Registers.{registersOf, standing, inSlot, comingInto}
@@ -16,6 +16,7 @@ use Rattle.ordering.specs.Pairs.{registersAt, afterStep, Lists}
 use Rattle.ordering.proofs.Columns.{column-above}
 use Rattle.ordering.proofs.Movement.{left-first, left-second, left-other, right-other, right-only, right-last, start-left, start-right, stands}
 use Rattle.ordering.proofs.OrderRegisters.{first-at, of-order, next-at}
+use Rattle.ordering.proofs.RegisterLines.{first-stays, left-stands}
 
 module _ (n : ℕ) (order : isOrder n ≡ true) (list : ℕ → PairList) (lists : (s : ℕ) → Lists n s (list s)) where
   some : 1 ≤ processorsOf n
@@ -25,32 +26,31 @@ module _ (n : ℕ) (order : isOrder n ≡ true) (list : ℕ → PairList) (lists
   the-list s = of-order n order (lists s .lists)
 
   -- ---- at first
-  first : firstLine n ≡ 1
-  first = let o = order-is n order in omega arith
-
   begins : (r : Side) (k : ℕ) → k < processorsOf n → inSlot (list 0 .registers) (slot k r) ≡ inOrder (firstLine n) (slot k r)
   unfolding slot
   begins r k h =
       ap (λ (l : Registers). inSlot l (slot k r)) (the-list 0 ∙ sym (first-at n refl refl refl))
       ∙ stands (processorsOf n) (inOrder (firstLine n)) (order-half n order .1) (slot k r) h
 
-  pub left-at-first : (k : ℕ) → 1 ≤ k → k ≤ processorsOf n → getD (list 0 .registers .left) (k - 1) 0 ≡ 2 * k - 1
+  pub left-at-first : (k : ℕ) → 1 ≤ k → k ≤ processorsOf n → getD (list 0 .registers .left) (k - 1) 0 ≡ 2 * k - 2 + firstLine n
   unfolding inSlot standing slot
   left-at-first k a b =
-      let f = first in
-      let e : 2 * (k - 1) + firstLine n ≡ 2 * k - 1 = omega arith in
+      let e : 2 * (k - 1) + firstLine n ≡ 2 * k - 2 + firstLine n = omega arith in
       begins left (k - 1) (omega arith) ∙ sym (start-left (firstLine n) (k - 1)) ∙ e
 
-  pub right-at-first : (k : ℕ) → 1 ≤ k → k ≤ processorsOf n → getD (list 0 .registers .right) (k - 1) 0 ≡ 2 * k
+  pub right-at-first : (k : ℕ) → 1 ≤ k → k ≤ processorsOf n → getD (list 0 .registers .right) (k - 1) 0 ≡ 2 * k - 1 + firstLine n
   unfolding inSlot standing slot
   right-at-first k a b =
-      let f = first in
-      let e : 2 * (k - 1) + 1 + firstLine n ≡ 2 * k = omega arith in
+      let e : 2 * (k - 1) + 1 + firstLine n ≡ 2 * k - 1 + firstLine n = omega arith in
       begins right (k - 1) (omega arith) ∙ sym (start-right (firstLine n) (k - 1)) ∙ e
 
   pub zeros-above : (s k : ℕ) → processorsOf n < k → (getD (list s .registers .left) (k - 1) 0 ≡ 0) × (getD (list s .registers .right) (k - 1) 0 ≡ 0)
   unfolding registersAt registersOf
   zeros-above s k h = rw (the-list s) (column-above (processorsOf n) _ (k - 1) (omega arith), column-above (processorsOf n) _ (k - 1) (omega arith))
+
+  -- the first line is there at every step
+  pub first-in-left-1 : (s : ℕ) → getD (list s .registers .left) 0 0 ≡ firstLine n
+  first-in-left-1 s = ap (λ (l : Registers). getD (l .left) 0 0) (the-list s) ∙ left-stands n order s 0 some ∙ first-stays n s
 
   -- ---- after one more step
   module _ (s : ℕ) where

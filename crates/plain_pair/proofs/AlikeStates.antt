@@ -1,25 +1,49 @@
 -- States with the same entries at the lines 1 to n, and the lists that hold a state. Assumes nothing.
 use Prim.Native.Nat.{ℕ, _*_}
-use mathlib.Core.Path.{_≡_, ap, _∙_}
+use mathlib.Core.Path.{_≡_, sym, ap, _∙_}
 use mathlib.Core.List.{List}
+use mathlib.Core.Logic.{_≢_}
+use native.Mathlib.Omega.{arith}
 use lib.ListN.{length}
 use lib.Ieee.{Float}
 use Rattle.systolic.specs.Blocks.{Block}
 use Rattle.systolic.specs.Sequential.{pairBlock, place}
 use Rattle.rotation.specs.declared.Parameters.{Parameters}
+use Rattle.rotation.specs.declared.Parameters.the-variants.{Still}
 use Rattle.matrix.specs.Matrix.{at}
 use Rattle.matrix.specs.Transposed.{transposed}
 use Rattle.matrix.proofs.Flat.{flat-length}
 use Rattle.matrix.proofs.SameEntries.{Line, Same, flat-same, flat-again, read-again}
 use Rattle.matrix_turns.specs.Turns.{parametersOf}
 use Rattle.matrix_turns.proofs.SameTurns.{rows-same, columns-same, all-columns-same}
+use Rattle.matrix_turns.proofs.StillTurns.{still-all-columns}
 use Rattle.runs.specs.State.{State}
 use Rattle.runs.specs.Blocks.{matrixBlock}
 use Rattle.plain_pair.specs.Pair.{pairTurned, stateTurned, pairRotated, stateOf, Held}
+use Rattle.plain_pair.proofs.TurnedEntries.{still-others}
 
 pub record Alike (n : ℕ) (X Y : State) : Type 0 where
   pub matrices : Same n (X .matrix) (Y .matrix)
   pub eigenvectors : Same n (X .vectors) (Y .vectors)
+
+module _ (n : ℕ) where
+  pub alike-sym : {X Y : State} → Alike n X Y → Alike n Y X
+  alike-sym h = record { matrices = λ r c hr hc. sym (h .matrices r c hr hc); eigenvectors = λ r c hr hc. sym (h .eigenvectors r c hr hc) }
+
+  pub alike-trans : {X Y Z : State} → Alike n X Y → Alike n Y Z → Alike n X Z
+  alike-trans h g =
+      record {
+        matrices = λ r c hr hc. h .matrices r c hr hc ∙ g .matrices r c hr hc;
+        eigenvectors = λ r c hr hc. h .eigenvectors r c hr hc ∙ g .eigenvectors r c hr hc;
+      }
+
+  -- a still pair of line 0 and another changes no entry at the lines 1 to n
+  pub still-alike : (p q : ℕ) → p ≡ 0 → p ≢ q → (X : State) → Alike n (stateTurned Still p q X) X
+  still-alike p q z pq X =
+      record {
+        matrices = λ r c hr hc. still-others p q pq (X .matrix) r c (λ e. omega (arith, e .0)) (λ e. omega (arith, e .1));
+        eigenvectors = λ r c hr hc. still-all-columns p q (X .vectors) r c;
+      }
 
 module _ (n p q : ℕ) (hp : Line n p) (hq : Line n q) where
   parameters-same : (A B : ℕ → ℕ → Float) → Same n A B → parametersOf p q A ≡ parametersOf p q B
@@ -42,9 +66,9 @@ module _ (n p q : ℕ) (hp : Line n p) (hq : Line n q) where
         eigenvectors = all-columns-same n P p q hp hq _ _ (h .eigenvectors);
       }
 
-  pub pair-alike : (X Y : State) → Alike n X Y → Alike n (pairRotated p q X) (pairRotated p q Y)
+  pub pair-alike : (i : ℕ) (X Y : State) → Alike n X Y → Alike n (pairRotated n i p q X) (pairRotated n i p q Y)
   unfolding pairRotated
-  pair-alike X Y h = rw (parameters-same (X .matrix) (Y .matrix) (h .matrices)) (turned-alike (parametersOf p q (Y .matrix)) X Y h)
+  pair-alike i X Y h = rw (parameters-same (X .matrix) (Y .matrix) (h .matrices)) (turned-alike _ X Y h)
 
 -- ---- lists that hold a state
 module _ (n : ℕ) (l e : List Float) where

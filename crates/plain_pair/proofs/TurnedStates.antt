@@ -108,7 +108,7 @@ module _ (n p q : ℕ) where
         vectors-held = rw z at (g ∙ turned-flat n p q (rowTurnAll P p q) e two′ ∙ flat-same n _ _ (λ r c hr hc. row-as-column P (at n e) r c));
       }
 
-  still-turned : (A : ℕ → ℕ → Float) → p ≢ q → (r c : ℕ) → pairTurned Still p q A r c ≡ withEntry q p plusZero (withEntry p q plusZero A) r c
+  pub still-turned : (A : ℕ → ℕ → Float) → p ≢ q → (r c : ℕ) → pairTurned Still p q A r c ≡ withEntry q p plusZero (withEntry p q plusZero A) r c
   unfolding pairTurned
   still-turned A pq r c =
       unfold matrixBlock pairBlock in (placed (matrixBlock Still (pairBlock p q A)) p q pq (columnTurn Still p q (rowTurn Still p q A)) r c)

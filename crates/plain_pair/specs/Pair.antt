@@ -1,4 +1,4 @@
--- Document 01, "Plain run": what a pair does to the matrix and the eigenvectors. Definitions only.
+-- Document 01, "Plain run", and document 02 (ii): what a pair does to the matrix and the eigenvectors. Definitions only.
 use Prim.Native.Nat.{ℕ}
 use mathlib.Core.Path.{_≡_}
 use mathlib.Core.Bool.{Bool, cond, _&&_}
@@ -11,7 +11,7 @@ use Rattle.rotation.specs.declared.Parameters.{Parameters}
 use Rattle.matrix.specs.Matrix.{at, flat}
 use Rattle.matrix.specs.Transposed.{transposed}
 use Rattle.runs.specs.State.{State, state}
-use Rattle.runs.specs.Blocks.{matrixBlock}
+use Rattle.runs.specs.Blocks.{ruled, matrixBlock}
 use Rattle.matrix_turns.specs.Turns.{parametersOf, rowTurn, columnTurn, columnTurnAll, twoLines}
 
 -- A matrix with x in row p and column q.
@@ -26,9 +26,9 @@ pairTurned P p q A = place (matrixBlock P (pairBlock p q A)) p q (columnTurn P p
 abbrev pub stateTurned : Parameters → ℕ → ℕ → State → State
 stateTurned P p q X = state (pairTurned P p q (X .matrix)) (columnTurnAll P p q (X .vectors))
 
--- One pair, by its own parameters.
-unfoldable pub pairRotated : ℕ → ℕ → State → State
-pairRotated p q X = stateTurned (parametersOf p q (X .matrix)) p q X
+-- The pair of processor i, from 0, in a run of order n.
+unfoldable pub pairRotated : ℕ → ℕ → ℕ → ℕ → State → State
+pairRotated n i p q X = stateTurned (ruled n i (parametersOf p q (X .matrix))) p q X
 
 -- The state in two lent lists, and two lists that hold a state. The second list has the eigenvectors as rows.
 unfoldable pub stateOf : ℕ → List Float → List Float → State

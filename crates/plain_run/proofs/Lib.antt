@@ -1,9 +1,13 @@
 pub mod CopiedLists
+pub mod ProcessorPairs
 pub mod HeldStates
 pub mod StepParameters
 pub mod RunEnd
 pub mod MirrorEntries
 pub mod SpoiledRuns
+pub mod FiniteLines
+pub mod VanishingLine
+pub mod RunStart
 pub mod Outcomes
 pub mod Sequence
 pub mod RunResults

@@ -5,7 +5,6 @@ use mathlib.Core.Bool.{true}
 use mathlib.Core.List.{List}
 use mathlib.Core.Logic.{_≢_}
 use native.Mathlib.Omega.{arith}
-use lib.ListN.{getD}
 use lib.Ieee.{Float}
 use Rattle.rotation.specs.declared.Parameters.{Parameters}
 use Rattle.rotation.specs.Rotation.{turnOf}
@@ -14,10 +13,10 @@ use Rattle.matrix.proofs.SameEntries.{Line, Mirrored}
 use Rattle.matrix_turns.proofs.LinePairs.{are-two, first-line, second-line}
 use Rattle.runs.specs.State.{State}
 use Rattle.plain_pair.specs.Pair.{pairTurned, pairRotated}
-use Rattle.plain_run.specs.State.{pairsRotated, after}
+use Rattle.plain_run.specs.State.{ProcessorPair, real-lines, line-0, Paired, pairsRotated, after}
 use Rattle.plain_pair.proofs.TurnedEntries.{Spot, first, second, neither, spot}
 use Rattle.plain_pair.proofs.TurnedEntries.{at-first-second, at-second-first, at-first-other, at-second-other, at-other-first, at-other-second, at-others}
-use Rattle.plain_run.proofs.HeldStates.{Paired, registers-paired}
+use Rattle.plain_run.proofs.ProcessorPairs.{registers-paired, rests-alike}
 
 module _ (n p q : ℕ) (hp : Line n p) (hq : Line n q) (pq : p ≢ q) where
   pub turn-mirrored : (P : Parameters) (A : ℕ → ℕ → Float) → Mirrored n A → Mirrored n (pairTurned P p q A)
@@ -41,12 +40,19 @@ module _ (n p q : ℕ) (hp : Line n p) (hq : Line n q) (pq : p ≢ q) where
       go (neither a b) (neither a′ b′) = at-others P p q A pq r a b c a′ b′ ∙ m r c hr hc ∙ sym (at-others P p q A pq c a′ b′ r a b)
 
 module _ (n : ℕ) where
-  pub pairs-mirrored : (ls rs : List ℕ) (k : ℕ) → Paired n ls rs k → (X : State) → Mirrored n (X .matrix) → Mirrored n (pairsRotated ls rs k X .matrix)
-  unfolding pairsRotated pairRotated
+  pair-mirrored : (i p q : ℕ) → ProcessorPair n i p q → (X : State) → Mirrored n (X .matrix) → Mirrored n (pairRotated n i p q X .matrix)
+  pair-mirrored i p q (real-lines w two) X m =
+      let t = are-two n p q (n * n) two in
+      unfold pairRotated in (turn-mirrored n p q (first-line t) (second-line t) (t .apart) _ _ m)
+  pair-mirrored i p q (line-0 w z pq) X m =
+      let h = rests-alike n i p q X (line-0 w z pq) w in
+      λ r c hr hc. h .matrices r c hr hc ∙ m r c hr hc ∙ sym (h .matrices c r hc hr)
+
+  pub pairs-mirrored : (ls rs : List ℕ) (k : ℕ) → Paired n ls rs k → (X : State) → Mirrored n (X .matrix) → Mirrored n (pairsRotated n ls rs k X .matrix)
+  unfolding pairsRotated
   pairs-mirrored ls rs zero paired X m = m
   pairs-mirrored ls rs (suc k) paired X m =
-      let t = are-two n _ _ (n * n) (paired k (omega arith)) in
-      turn-mirrored n (getD ls k 0) (getD rs k 0) (first-line t) (second-line t) (t .apart) _ _ (pairs-mirrored ls rs k (λ i h. paired i (omega arith)) X m)
+      pair-mirrored k _ _ (paired k (omega arith)) _ (pairs-mirrored ls rs k (λ i h. paired i (omega arith)) X m)
 
   -- after any number of steps
   pub run-mirrored : isOrder n ≡ true → (k : ℕ) (X : State) → Mirrored n (X .matrix) → Mirrored n (after n k X .matrix)

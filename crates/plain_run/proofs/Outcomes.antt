@@ -1,17 +1,17 @@
 -- From the parts of a run to its outcome. Assumes nothing.
 use Prim.Native.Nat.{ℕ, _+_, _-_, _*_, _/_, _%_, _<_}
-use mathlib.Core.Path.{_≡_, refl, sym, ap, _∙_}
-use mathlib.Core.Bool.{Bool, true, false, not, cond, _||_}
+use mathlib.Core.Path.{_≡_, sym, ap, _∙_}
+use mathlib.Core.Bool.{true, false, not, _||_}
 use mathlib.Core.List.{List}
 use native.Mathlib.Omega.{arith}
 use native.Mathlib.Nat.{div-add-mod'}
 use borrow.Author.Tests.{not-false}
 use lib.Arith.{digits-lt}
-use lib.Dec.{T, eqb}
+use lib.Dec.{T}
 use lib.ListN.{length, getD}
-use lib.Ieee.{Float, nan, binary64, fits, ofBits}
+use lib.Ieee.{Float, nan, binary64, fits}
 use Rattle.refusal.specs.Answers.{given, refused}
-use Rattle.float64.specs.Values.{plusZero, one, finite}
+use Rattle.float64.specs.Values.{finite}
 use Rattle.lists.specs.Bounded.{any}
 use Rattle.lists.proofs.Bounded.{or-false, false-or, same-bool, any-to, any-from}
 use Rattle.sizes.specs.Sizes.{stepsOf}
@@ -19,18 +19,18 @@ use Rattle.matrix.specs.Matrix.{at, flat}
 use Rattle.matrix.specs.Transposed.{transposedIn}
 use Rattle.matrix.proofs.Flat.{row-lt, column-lt, at-offset, flat-length, at-flat}
 use Rattle.matrix.proofs.Transposition.{transposed-again}
-use Rattle.matrix.proofs.SameEntries.{Finite, Mirrored, read-again, flat-again}
-use Rattle.matrix.proofs.AcceptedEntries.{accepted-finite, accepted-mirrored}
+use Rattle.matrix.proofs.SameEntries.{Finite, read-again, flat-same, flat-again}
 use Rattle.runs.specs.State.{State, identity, startOf}
 use Rattle.plain_pair.specs.Pair.{stateOf, Held}
-use Rattle.plain_pair.proofs.AlikeStates.{Alike, held-alike}
-use Rattle.plain_run.specs.State.{after, notFinite, spoiled}
+use Rattle.plain_pair.proofs.AlikeStates.{held-alike}
+use Rattle.plain_run.specs.State.{after, notFiniteFrom, spoiled}
 use Rattle.runs.specs.Outcome.{beforeRun, Outcome, outcome}
 use Rattle.plain_run.specs.Run.{someNotFinite, finishOf, ranOf, runOf}
 use Rattle.runs.proofs.Verdicts.{Begins}
-use Rattle.runs.proofs.Starts.{identity-mirrored}
 use Rattle.plain_run.proofs.HeldStates.{after-alike}
-use Rattle.plain_run.proofs.SpoiledRuns.{FiniteState, finite-state, state-finite, spoiled-at-end}
+use Rattle.plain_run.proofs.FiniteLines.{finite-state, state-finite}
+use Rattle.plain_run.proofs.VanishingLine.{spoiled-at-end}
+use Rattle.plain_run.proofs.RunStart.{real-entries, start-vanishes, start-alike, start-finite, start-mirrored}
 
 -- ---- the two lists at the end
 module _ (n : ℕ) where
@@ -58,49 +58,26 @@ module _ (n : ℕ) where
           ∙ ap (λ (l : List Float). finite (at n l (k / n + 1) (k % n + 1))) e ∙ ap finite (at-flat n A (k / n) (k % n) (row-lt n k h) (column-lt n k h))
           ∙ entry-finite k h
 
-  pub lists-finite : (l e : List Float) (X : State) → l ≡ flat n (X .matrix) → e ≡ flat n (X .vectors) → (someNotFinite l || someNotFinite e) ≡ notFinite n X
+  pub lists-finite : (l e : List Float) (X : State) → l ≡ flat n (X .matrix) → e ≡ flat n (X .vectors)
+      → (someNotFinite l || someNotFinite e) ≡ notFiniteFrom 1 n X
   lists-finite l e X h g = same-bool _ _ to from
     where
       long : (length l ≡ n * n) × (length e ≡ n * n)
       long = (ap length h ∙ flat-length n _, ap length g ∙ flat-length n _)
 
-      to : (someNotFinite l || someNotFinite e) ≡ false → notFinite n X ≡ false
+      to : (someNotFinite l || someNotFinite e) ≡ false → notFiniteFrom 1 n X ≡ false
       to f =
           let o = or-false _ _ f in
           state-finite n X
           (record { finite-matrix = finite-of-list (X .matrix) l h (long .0) (o .0); finite-vectors = finite-of-list (X .vectors) e g (long .1) (o .1) })
 
-      from : notFinite n X ≡ false → (someNotFinite l || someNotFinite e) ≡ false
+      from : notFiniteFrom 1 n X ≡ false → (someNotFinite l || someNotFinite e) ≡ false
       from f =
           let o = finite-state n X f in
           false-or _ _ (list-of-finite (X .matrix) l h (long .0) (o .finite-matrix)) (list-of-finite (X .vectors) e g (long .1) (o .finite-vectors))
 
--- ---- the start of a run
-identity-finite : (n : ℕ) → Finite n identity
-unfolding identity finite ofBits
-identity-finite n r c hr hc = go (eqb r c)
-  where
-    go : (b : Bool) → finite (cond b one plusZero) ≡ true
-    go true = refl
-    go false = refl
-
+-- ---- the outcome
 module _ (n sweeps : ℕ) (l : List Float) (fitting : (k : ℕ) → T (fits binary64 (getD l k nan))) (lr lv : ℕ) (b : Begins n sweeps l lr lv) where
-  start-alike : (e : List Float) → e ≡ flat n identity → Alike n (stateOf n l e) (startOf n l)
-  unfolding stateOf startOf
-  start-alike e z =
-      record {
-        matrices = λ r c hr hc. refl;
-        eigenvectors = λ r c hr hc. ap (λ (e : List Float). at n e c r) z ∙ read-again n identity c r hc hr ∙ identity-mirrored r c;
-      }
-
-  pub start-finite : FiniteState n (startOf n l)
-  unfolding startOf
-  start-finite = record { finite-matrix = accepted-finite n l fitting (b .entries); finite-vectors = identity-finite n }
-
-  start-mirrored : Mirrored n (startOf n l .matrix)
-  unfolding startOf
-  start-mirrored = accepted-mirrored n l fitting (b .entries)
-
   -- a run is the start, the steps, the eigenvectors as columns, and the end
   pub run-made : {o : Outcome Unit} (l₀ e₀ l₁ e₁ e₂ : List Float) → l₀ ≡ l → e₀ ≡ flat n identity → Held n l₁ e₁ (after n (stepsOf n sweeps) (stateOf n l₀ e₀))
       → e₂ ≡ transposedIn n e₁ → o ≡ finishOf n l₁ e₂ → o ≡ ranOf n sweeps l
@@ -108,16 +85,19 @@ module _ (n sweeps : ℕ) (l : List Float) (fitting : (k : ℕ) → T (fits bina
   run-made l₀ e₀ l₁ e₁ e₂ z y h t f =
       let K = stepsOf n sweeps in
       let X = startOf n l in
-      let held : Held n l₁ e₁ (after n K X) = held-alike n l₁ e₁ _ _ (rw z at h) (after-alike n (b .order) K _ _ (start-alike e₀ y)) in
+      let held : Held n l₁ e₁ (after n K X) = held-alike n l₁ e₁ _ _ (rw z at h) (after-alike n (b .order) K _ _ (start-alike n l e₀ y)) in
       let columns : e₂ ≡ flat n (after n K X .vectors) = transposed-again n _ (held .vectors-held) t in
       let s : (someNotFinite l₁ || someNotFinite e₂) ≡ spoiled n K X =
-      lists-finite n l₁ e₂ _ (held .matrix-held) columns ∙ sym (spoiled-at-end n (b .order) X start-mirrored start-finite K) in
+      lists-finite n l₁ e₂ _ (held .matrix-held) columns
+      ∙ sym (spoiled-at-end n (b .order) X (start-mirrored n l fitting (b .entries)) (start-vanishes n l) (start-finite n l fitting (b .entries)) K) in
       rw (← s, ← (held .matrix-held), ← columns) f
 
 -- no sweeps: the matrix as lent, and the identity
 pub no-sweeps : (n : ℕ) (l : List Float) → length l ≡ n * n → ranOf n 0 l ≡ outcome (given tt) l (flat n identity)
 unfolding ranOf spoiled any after startOf
-no-sweeps n l long = let z : stepsOf n 0 ≡ 0 = omega arith in rw (z, ← (flat-again n l long))
+no-sweeps n l long =
+    let z : stepsOf n 0 ≡ 0 = omega arith in
+    rw (z, flat-same n _ _ (real-entries n (at n l)), flat-same n _ _ (real-entries n identity), ← (flat-again n l long))
 
 -- ---- a refused run, and one that is not
 module _ (n sweeps : ℕ) (l r v : List Float) where

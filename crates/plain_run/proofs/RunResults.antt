@@ -1,22 +1,28 @@
 -- What a run that is not refused leaves, and at which entry a spoiled one is found. Assumes nothing.
-use Prim.Native.Nat.{ℕ, suc, _+_, _<_}
-use mathlib.Core.Path.{_≡_, refl, ap, _∙_}
+use Prim.Native.Nat.{ℕ, suc, _+_, _-_, _≤_, _<_}
+use mathlib.Core.Path.{_≡_, refl, sym, ap, _∙_}
 use mathlib.Core.Bool.{Bool, true, false, not, cond, _||_}
 use mathlib.Core.List.{List}
-use lib.Ieee.{Float}
-use lib.ListN.{length}
+use native.Mathlib.Omega.{arith}
+use lib.Dec.{T}
+use lib.Ieee.{Float, nan, binary64, fits}
+use lib.ListN.{length, getD}
 use Rattle.refusal.specs.Answers.{Answered, given, refused, refusedBy, unlessRefused}
 use Rattle.refusal.specs.declared.Refusal.the-variants.{Spoiled}
 use Rattle.refusal.proofs.FirstRefusal.{refused-given}
 use Rattle.float64.specs.Values.{finite}
 use Rattle.lists.proofs.Bounded.{any-hit, any-find}
-use Rattle.sizes.specs.Sizes.{stepsOf}
+use Rattle.sizes.specs.Sizes.{isOrder, firstLine, linesOf, stepsOf}
+use Rattle.sizes.proofs.Orders.{lines-end}
 use Rattle.matrix.specs.Matrix.{flat}
+use Rattle.matrix.specs.Entries.{entriesOf}
 use Rattle.runs.specs.State.{State, startOf}
 use Rattle.runs.specs.Outcome.{beforeRun, Outcome, outcome, resultsKept}
 use Rattle.runs.proofs.Verdicts.{Begins, begins, begun}
-use Rattle.plain_run.specs.State.{after, notFinite, spoiled}
+use Rattle.plain_run.specs.State.{after, notFiniteFrom, notFinite, spoiled}
 use Rattle.plain_run.specs.Run.{ranOf, runOf}
+use Rattle.plain_run.proofs.VanishingLine.{real-lines-fail}
+use Rattle.plain_run.proofs.RunStart.{start-mirrored, start-vanishes}
 
 -- the outcome of a run, by what is refused before it and by whether it is spoiled
 not-refused : (r v : List Float) (a : Answered Unit) (o : Outcome Unit) → unlessRefused a o (resultsKept r v) .answer ≡ given tt
@@ -62,27 +68,53 @@ pub run-accepted : (n sweeps : ℕ) (l r v : List Float) → Begins n sweeps l (
 unfolding runOf ranOf
 run-accepted n sweeps l r v b e = rw (begun n sweeps l (length r) (length v) b, e)
 
--- ---- an entry of either matrix that isn't finite after k + 1 steps, in row r + 1 and column c + 1
-abbrev pub badAfter : ℕ → State → ℕ → ℕ → ℕ → Bool
-badAfter n X k r c = not (finite (after n (suc k) X .matrix (1 + r) (1 + c))) || not (finite (after n (suc k) X .vectors (1 + r) (1 + c)))
+-- ---- an entry of either matrix that isn't finite
+abbrev pub isBad : State → ℕ → ℕ → Bool
+isBad Y r c = not (finite (Y .matrix r c)) || not (finite (Y .vectors r c))
 
-pub spoiled-by : (n K : ℕ) (X : State) (k r c : ℕ) → k < K → r < n → c < n → badAfter n X k r c ≡ true → spoiled n K X ≡ true
-unfolding spoiled notFinite
-spoiled-by n K X k r c hk hr hc e = any-hit K _ k hk (any-hit n _ r hr (any-hit n _ c hc e))
-
-pub record BadEntry (n K : ℕ) (X : State) : Type 0 where
-  pub step : ℕ
+-- in the lines from b to n
+pub record BadEntry (b n : ℕ) (Y : State) : Type 0 where
   pub row : ℕ
   pub column : ℕ
-  pub step-below : step < K
-  pub row-below : row < n
-  pub column-below : column < n
-  pub is-bad : badAfter n X step row column ≡ true
+  pub row-within : (b ≤ row) × (row ≤ n)
+  pub column-within : (b ≤ column) × (column ≤ n)
+  pub is-bad : isBad Y row column ≡ true
 
-pub bad-entry : (n K : ℕ) (X : State) → spoiled n K X ≡ true → BadEntry n K X
-unfolding spoiled notFinite
-bad-entry n K X e =
-    let k = any-find K _ e in
-    let r = any-find n _ (k .2) in
-    let c = any-find n _ (r .2) in
-    record { step = k .0; row = r .0; column = c .0; step-below = k .1; row-below = r .1; column-below = c .1; is-bad = c .2 }
+found : (b N n : ℕ) (Y : State) → b + N ≡ n + 1 → notFiniteFrom b N Y ≡ true → BadEntry b n Y
+unfolding notFiniteFrom
+found b N n Y last e =
+    let r = any-find N _ e in
+    let c = any-find N _ (r .2) in
+    record {
+      row = b + r .0;
+      column = b + c .0;
+      row-within = (omega arith, omega (arith, r .1));
+      column-within = (omega arith, omega (arith, c .1));
+      is-bad = c .2;
+    }
+
+counts : (n : ℕ) (Y : State) → BadEntry (firstLine n) n Y → notFinite n Y ≡ true
+unfolding notFinite notFiniteFrom
+counts n Y w =
+    let last = lines-end n in
+    let i : firstLine n + (w .row - firstLine n) ≡ w .row = omega (arith, w .row-within) in
+    let j : firstLine n + (w .column - firstLine n) ≡ w .column = omega (arith, w .column-within) in
+    any-hit (linesOf n) _ (w .row - firstLine n) (omega (arith, w .row-within))
+    (any-hit (linesOf n) _ (w .column - firstLine n) (omega (arith, w .column-within)) (rw (i, j) (w .is-bad)))
+
+-- a run is spoiled exactly if there is one after some step
+module _ (n K : ℕ) (X : State) where
+  pub spoiled-by : (k : ℕ) → k < K → BadEntry (firstLine n) n (after n (suc k) X) → spoiled n K X ≡ true
+  unfolding spoiled
+  spoiled-by k h w = any-hit K _ k h (counts n _ w)
+
+  pub bad-entry : spoiled n K X ≡ true → (k : ℕ) × (k < K) × BadEntry (firstLine n) n (after n (suc k) X)
+  unfolding spoiled notFinite
+  bad-entry e = let k = any-find K _ e in (k .0, k .1, found (firstLine n) (linesOf n) n _ (lines-end n) (k .2))
+
+-- in the run of an accepted matrix there is one only where a real line has one
+pub bad-real-entry : (n : ℕ) (l : List Float) → isOrder n ≡ true → ((k : ℕ) → T (fits binary64 (getD l k nan))) → entriesOf n l ≡ given tt
+    → (k : ℕ) → BadEntry (firstLine n) n (after n k (startOf n l)) → BadEntry 1 n (after n k (startOf n l))
+bad-real-entry n l order fitting entries k w =
+    found 1 n n _ (omega arith)
+    (sym (real-lines-fail n order (startOf n l) (start-mirrored n l fitting entries) (start-vanishes n l) k) ∙ counts n _ w)

@@ -1,17 +1,13 @@
--- An entry that isn't finite is not made finite again: so a run is spoiled exactly if an entry isn't finite at its end. Assumes nothing.
-use Prim.Native.Nat.{ℕ, zero, suc, _+_, _-_, _*_}
-use mathlib.Core.Path.{_≡_, ap}
-use mathlib.Core.Bool.{true, false, not}
+-- An entry at the lines 1 to n that isn't finite is not made finite again. Assumes nothing.
+use Prim.Native.Nat.{ℕ, zero, suc, _+_, _*_}
+use mathlib.Core.Path.{_≡_}
+use mathlib.Core.Bool.{true}
 use mathlib.Core.List.{List}
 use mathlib.Core.Logic.{_≢_}
 use native.Mathlib.Nat.{zero-add, suc-add}
 use native.Mathlib.Omega.{arith}
-use borrow.Author.Tests.{not-false}
-use lib.ListN.{getD}
 use lib.Ieee.{Float}
 use Rattle.float64.specs.Values.{finite}
-use Rattle.lists.specs.Bounded.{any}
-use Rattle.lists.proofs.Bounded.{or-false, false-or, same-bool, any-to, any-from}
 use Rattle.rotation.specs.declared.Parameters.{Parameters}
 use Rattle.rotation.proofs.FiniteOperands.{turn-kept, pair-kept}
 use Rattle.sizes.specs.Sizes.{isOrder, processorsOf}
@@ -20,10 +16,13 @@ use Rattle.matrix_turns.specs.Turns.{parametersOf, columnTurnAll}
 use Rattle.matrix_turns.proofs.LinePairs.{are-two, first-line, second-line}
 use Rattle.runs.specs.State.{State}
 use Rattle.plain_pair.specs.Pair.{pairTurned, pairRotated}
-use Rattle.plain_run.specs.State.{pairsRotated, after, notFinite, spoiled}
+use Rattle.plain_run.specs.State.{ProcessorPair, real-lines, line-0, Paired, pairsRotated, after}
+use Rattle.runs.proofs.LineZero.{not-still}
+use Rattle.plain_pair.proofs.RuledPairs.{rotated-by}
+use Rattle.plain_pair.proofs.AlikeStates.{Alike}
 use Rattle.plain_pair.proofs.TurnedEntries.{Spot, first, second, neither, spot, all-first, all-second, all-other}
 use Rattle.plain_pair.proofs.TurnedEntries.{at-first-first, at-second-second, at-first-other, at-second-other, at-other-first, at-other-second, at-others}
-use Rattle.plain_run.proofs.HeldStates.{Paired, registers-paired}
+use Rattle.plain_run.proofs.ProcessorPairs.{registers-paired, rests-alike}
 use Rattle.plain_run.proofs.MirrorEntries.{pairs-mirrored, run-mirrored}
 
 pub record FiniteState (n : ℕ) (X : State) : Type 0 where
@@ -76,65 +75,37 @@ module _ (n p q : ℕ) (hp : Line n p) (hq : Line n q) (pq : p ≢ q) where
       go (neither a b) = become (all-other P p q A r c a b) (f r c hr hc)
 
 module _ (n : ℕ) where
+  finite-alike : {X Y : State} → Alike n X Y → FiniteState n X → FiniteState n Y
+  finite-alike h f =
+      record {
+        finite-matrix = λ r c hr hc. become (h .matrices r c hr hc) (f .finite-matrix r c hr hc);
+        finite-vectors = λ r c hr hc. become (h .eigenvectors r c hr hc) (f .finite-vectors r c hr hc);
+      }
+
   -- ---- the pairs of a step, and the steps of a run
-  pub pairs-persist : (ls rs : List ℕ) (k : ℕ) → Paired n ls rs k → (X : State) → Mirrored n (X .matrix) → FiniteState n (pairsRotated ls rs k X)
+  pub pair-persists : (i p q : ℕ) → ProcessorPair n i p q → (X : State) → Mirrored n (X .matrix) → FiniteState n (pairRotated n i p q X) → FiniteState n X
+  pair-persists i p q (real-lines w two) X m f =
+      let t = are-two n p q (n * n) two in
+      let g = rw (rotated-by n i p q X (not-still n i _ w)) at f in
+      record {
+        finite-matrix = matrix-persists n p q (first-line t) (second-line t) (t .apart) (X .matrix) m (g .finite-matrix);
+        finite-vectors = vectors-persist n p q (first-line t) (second-line t) (t .apart) _ (X .vectors) (g .finite-vectors);
+      }
+  pair-persists i p q (line-0 w z pq) X m f = finite-alike (rests-alike n i p q X (line-0 w z pq) w) f
+
+  pub pairs-persist : (ls rs : List ℕ) (k : ℕ) → Paired n ls rs k → (X : State) → Mirrored n (X .matrix) → FiniteState n (pairsRotated n ls rs k X)
       → FiniteState n X
   unfolding pairsRotated
   pairs-persist ls rs zero paired X m f = f
   pairs-persist ls rs (suc k) paired X m f =
-      let t = are-two n _ _ (n * n) (paired k (omega arith)) in
       let below : Paired n ls rs k = λ i h. paired i (omega arith) in
-      pairs-persist ls rs k below X m
-      (back (getD ls k 0) (getD rs k 0) (first-line t) (second-line t) (t .apart) (pairsRotated ls rs k X) (pairs-mirrored n ls rs k below X m) f)
-    where
-      back : (p q : ℕ) → Line n p → Line n q → p ≢ q → (Y : State) → Mirrored n (Y .matrix) → FiniteState n (pairRotated p q Y) → FiniteState n Y
-      back p q hp hq pq Y m f = unfold pairRotated in
-          (record {
-            finite-matrix = matrix-persists n p q hp hq pq (Y .matrix) m (f .finite-matrix);
-            finite-vectors = vectors-persist n p q hp hq pq _ (Y .vectors) (f .finite-vectors);
-          })
+      pairs-persist ls rs k below X m (pair-persists k _ _ (paired k (omega arith)) _ (pairs-mirrored n ls rs k below X m) f)
 
   module _ (order : isOrder n ≡ true) (X : State) (m : Mirrored n (X .matrix)) where
-    step-persists : (k : ℕ) → FiniteState n (after n (suc k) X) → FiniteState n (after n k X)
+    pub step-persists : (k : ℕ) → FiniteState n (after n (suc k) X) → FiniteState n (after n k X)
     unfolding after
     step-persists k f = pairs-persist _ _ (processorsOf n) (registers-paired n order k) (after n k X) (run-mirrored n order k X m) f
 
     pub run-persists : (i k : ℕ) → FiniteState n (after n (i + k) X) → FiniteState n (after n k X)
     run-persists zero k f = rw zero-add at f
     run-persists (suc i) k f = run-persists i k (step-persists (i + k) (rw suc-add at f))
-
-  -- ---- the test of all entries
-  pub finite-state : (X : State) → notFinite n X ≡ false → FiniteState n X
-  unfolding notFinite
-  finite-state X e = record { finite-matrix = λ r c hr hc. each r c hr hc .0; finite-vectors = λ r c hr hc. each r c hr hc .1 }
-    where
-      from-one : (r : ℕ) → Line n r → 1 + (r - 1) ≡ r
-      from-one r h = omega arith
-
-      each : (r c : ℕ) → Line n r → Line n c → (finite (X .matrix r c) ≡ true) × (finite (X .vectors r c) ≡ true)
-      each r c hr hc =
-          let w = rw (from-one r hr, from-one c hc) at (any-to n _ (any-to n _ e (r - 1) (omega arith)) (c - 1) (omega arith)) in
-          let o = or-false _ _ w in
-          (not-false _ (o .0), not-false _ (o .1))
-
-  pub state-finite : (X : State) → FiniteState n X → notFinite n X ≡ false
-  unfolding notFinite
-  state-finite X f =
-      any-from n _ (λ r hr. any-from n _ (λ c hc.
-      false-or _ _ (ap not (f .finite-matrix (1 + r) (1 + c) (omega arith, omega arith) (omega arith, omega arith)))
-      (ap not (f .finite-vectors (1 + r) (1 + c) (omega arith, omega arith) (omega arith, omega arith)))))
-
-  -- a run is spoiled exactly if an entry isn't finite at its end
-  pub spoiled-at-end : isOrder n ≡ true → (X : State) → Mirrored n (X .matrix) → FiniteState n X → (K : ℕ) → spoiled n K X ≡ notFinite n (after n K X)
-  unfolding spoiled
-  spoiled-at-end order X m f K = same-bool _ _ (to K) from
-    where
-      to : (K : ℕ) → any K (λ k. notFinite n (after n (suc k) X)) ≡ false → notFinite n (after n K X) ≡ false
-      to zero e = unfold after in (state-finite X f)
-      to (suc k) e = any-to (suc k) _ e k (omega arith)
-
-      from : notFinite n (after n K X) ≡ false → any K (λ k. notFinite n (after n (suc k) X)) ≡ false
-      from e =
-          any-from K _ (λ k h.
-          let z : K - suc k + suc k ≡ K = omega arith in
-          state-finite (after n (suc k) X) (run-persists order X m (K - suc k) (suc k) (rw z (finite-state (after n K X) e))))

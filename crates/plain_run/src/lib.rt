@@ -6,14 +6,14 @@ ghost use lib.ListN.{length, getD};
 ghost use lib.Ieee.{nan};
 ghost use Rattle.refusal.specs.Answers.{given, refusedBy, answered};
 ghost use Rattle.refusal.specs.declared.Refusal.the-variants.{Spoiled};
-ghost use Rattle.sizes.specs.Sizes.{isOrder, largestOrder, processorsOf};
+ghost use Rattle.sizes.specs.Sizes.{isOrder, largestOrder, processorsOf, stillOf};
 ghost use Rattle.rotation.specs.declared.Parameters.the-variants.{Still};
 ghost use Rattle.rotation.specs.Rotation.{ofTangent};
 ghost use Rattle.matrix.specs.Matrix.{flat, entryOf};
-ghost use Rattle.matrix_turns.specs.Turns.{tangentAt, parametersOf, twoLines};
+ghost use Rattle.matrix_turns.specs.Turns.{tangentAt, parametersOf};
 ghost use Rattle.plain_pair.specs.Pair.{stateOf, Held};
 ghost use Rattle.runs.specs.State.{identity, zeros};
-ghost use Rattle.plain_run.specs.State.{pairsRotated, after};
+ghost use Rattle.plain_run.specs.State.{Paired, pairsRotated, after};
 ghost use Rattle.runs.specs.Outcome.{beforeRun, outcome};
 ghost use Rattle.plain_run.specs.Run.{someNotFinite, finishOf, ranOf, runOf};
 use ordering::Registers;
@@ -93,38 +93,38 @@ fn make_steps(n: usize, count: usize, a: &mut [f64], vectors: &mut [f64])
     }
 }
 
-// The tangents of the pairs of all processors.
+// The tangents of the pairs of all processors that are not always still.
 fn tangents_of(n: usize, registers: Registers, a: &[f64]) -> [f64; MOST_PROCESSORS]
     requires { ⌜ n ≤ largestOrder ⌝ }
-    ensures { λ r. ⌜ ((k : ℕ) → k < processorsOf n →
+    ensures { λ r. ⌜ ((k : ℕ) → stillOf n ≤ k → k < processorsOf n →
         getD r k nan ≡ tangentAt (getD (registers .left) k 0) (getD (registers .right) k 0) (entryOf n (now (a .entry)))) ⌝ }
 {
     let lefts = registers.left;
     let rights = registers.right;
     let mut tangents = [0.0; MOST_PROCESSORS];
     let processors = sizes::processors_of(n);
-    for k in 0..processors {
+    for k in sizes::still_of(n)..processors {
         tangents[k] = matrix_turns::tangent_at(n, lefts[k], rights[k], a);
     }
     tangents
 }
 
-// The parameters of pairs with these tangents.
+// The parameters of pairs with these tangents, and still for a processor that always is.
 fn parameters_of(n: usize, tangents: [f64; MOST_PROCESSORS]) -> [Parameters; MOST_PROCESSORS]
     requires { ⌜ n ≤ largestOrder ⌝ }
-    ensures { λ r. ⌜ ((k : ℕ) → k < processorsOf n → getD r k Still ≡ ofTangent (getD tangents k nan)) ⌝ }
+    ensures { λ r. ⌜ ((k : ℕ) → stillOf n ≤ k → k < processorsOf n → getD r k Still ≡ ofTangent (getD tangents k nan)) ⌝ }
 {
     let still = Parameters::Still;
     let mut found = [still; MOST_PROCESSORS];
     let processors = sizes::processors_of(n);
-    for k in 0..processors {
+    for k in sizes::still_of(n)..processors {
         let parameters = rotation::of_tangent(tangents[k]);
         found[k] = parameters;
     }
     found
 }
 
-// Turns the pairs of all processors, in order, by the parameters that each has at its turn.
+// Turns the pairs of all processors, in order, by the parameters that each has at its turn. A pair with line 0 changes nothing here.
 fn make_pairs(
     n: usize,
     registers: Registers,
@@ -133,17 +133,17 @@ fn make_pairs(
     vectors: &mut [f64],
 )
     requires { ⌜ (n ≤ largestOrder) × (length (now a) ≡ n * n) × (length (now vectors) ≡ n * n) ⌝ }
-    requires { ⌜ ((k : ℕ) → k < processorsOf n → twoLines n (getD (registers .left) k 0) (getD (registers .right) k 0) (n * n) ≡ true) ⌝ }
-    requires { ⌜ ((k : ℕ) → k < processorsOf n →
+    requires { ⌜ Paired n (registers .left) (registers .right) (processorsOf n) ⌝ }
+    requires { ⌜ ((k : ℕ) → stillOf n ≤ k → k < processorsOf n →
         getD found k Still ≡ parametersOf (getD (registers .left) k 0) (getD (registers .right) k 0)
-        (pairsRotated (registers .left) (registers .right) k (stateOf n (now a) (now vectors)) .matrix)) ⌝ }
+        (pairsRotated n (registers .left) (registers .right) k (stateOf n (now a) (now vectors)) .matrix)) ⌝ }
     ensures { λ _. ⌜ Held n (now (a .exit)) (now (vectors .exit))
-        (pairsRotated (registers .left) (registers .right) (processorsOf n) (stateOf n (now (a .entry)) (now (vectors .entry)))) ⌝ }
+        (pairsRotated n (registers .left) (registers .right) (processorsOf n) (stateOf n (now (a .entry)) (now (vectors .entry)))) ⌝ }
 {
     let lefts = registers.left;
     let rights = registers.right;
     let processors = sizes::processors_of(n);
-    for k in 0..processors {
+    for k in sizes::still_of(n)..processors {
         plain_pair::turn(found[k], n, lefts[k], rights[k], a, vectors);
     }
 }

@@ -5,6 +5,7 @@ use mathlib.Core.Bool.{Bool, true, false, true≢false}
 use lib.Ieee.{Float, nan, inf, fin, binary64, neg, add, sub, mul, div, lt, ofBits}
 use Rattle.float64.specs.Values.{finite, isZero}
 use Rattle.float64.proofs.Operands.{BothFinite, sum-operands, difference-operands, product-operands}
+use Rattle.float64.proofs.Vanishing.{Zero, product-zero, sum-of-zeros, difference-of-zeros}
 use Rattle.root.specs.Sqrt.{sqrtOf}
 use Rattle.rotation.specs.declared.Parameters.{Parameters}
 use Rattle.rotation.specs.declared.Parameters.the-variants.{Still, Turn}
@@ -17,6 +18,16 @@ turn-kept Still x y e f = (e, f)
 turn-kept (Turn t c s) x y e f =
     let o = difference-operands (mul binary64 c x) (mul binary64 s y) e in
     (product-operands c x (o .0) .1, product-operands s y (o .1) .1)
+
+-- a turn that leaves a value finite has a finite cosine and sine, and makes zeros of zeros
+pub zeros-turned : (P : Parameters) (x y u v : Float) → finite (turnOf P x y .left) ≡ true → Zero u → Zero v
+    → Zero (turnOf P u v .left) × Zero (turnOf P u v .right)
+zeros-turned Still x y u v e f g = (f, g)
+zeros-turned (Turn t c s) x y u v e f g =
+    let o = difference-operands (mul binary64 c x) (mul binary64 s y) e in
+    let fc = product-operands c x (o .0) .0 in
+    let fs = product-operands s y (o .1) .0 in
+    (difference-of-zeros _ _ (product-zero c u fc f) (product-zero s v fs g), sum-of-zeros _ _ (product-zero s u fs f) (product-zero c v fc g))
 
 -- ---- a pair is still only if b is finite
 abbrev isStill : Parameters → Bool

@@ -19,7 +19,7 @@ module _ (x : Angle) where
   unfolding ofAngle
   turn-at h = rw (sym (equal-zero (x .tangent)) ∙ h)
 
-still-zero : Still ≡ ofTangent plusZero
+pub still-zero : Still ≡ ofTangent plusZero
 unfolding ofTangent ofAngle ofBits
 still-zero = refl
 

@@ -2,3 +2,4 @@ pub mod Verdicts
 pub mod Starts
 pub mod BlockTurns
 pub mod EarlyRefusals
+pub mod LineZero

@@ -1,13 +1,23 @@
--- Document 01, "One rotation": what the rotation of a pair makes of its own four entries. Definitions only.
+-- Document 01, "One rotation", and document 02 (ii): the parameters of a processor's pair, and what its rotation makes of its own four entries.
+-- Definitions only.
+use Prim.Native.Nat.{ℕ}
+use mathlib.Core.Bool.{cond}
+use lib.Dec.{ltb}
 use lib.Ieee.{Float}
 use Rattle.float64.specs.Values.{plusZero}
 use Rattle.systolic.specs.Blocks.{Block}
+use Rattle.sizes.specs.Sizes.{stillOf}
 use Rattle.rotation.specs.declared.Parameters.{Parameters}
+use Rattle.rotation.specs.declared.Parameters.the-variants.{Still}
 use Rattle.rotation.specs.Rotation.{ofPair, diagonalOf, turnOf}
 
 -- The parameters of the pair, from its entries of the matrix.
 abbrev pub blockParameters : Block Float → Parameters
 blockParameters b = ofPair (b .α) (b .δ) (b .β)
+
+-- What processor i, from 0, turns by in a run of order n, where its pair has the parameters P: processor 1 of an odd order is always still.
+unfoldable pub ruled : ℕ → ℕ → Parameters → Parameters
+ruled n i P = cond (ltb i (stillOf n)) Still P
 
 -- The entries of the matrix: the new a_pp and a_qq, and +0 for a_pq and a_qp.
 unfoldable pub matrixBlock : Parameters → Block Float → Block Float

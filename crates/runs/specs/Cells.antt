@@ -11,7 +11,7 @@ use Rattle.rotation.specs.declared.Parameters.{Parameters}
 use Rattle.rotation.specs.declared.Sides.{Sides}
 use Rattle.rotation.specs.Rotation.{ofTangent, sent, turnOf}
 use Rattle.runs.specs.State.{State}
-use Rattle.runs.specs.Blocks.{blockParameters, matrixBlock, columnsBlock}
+use Rattle.runs.specs.Blocks.{blockParameters, ruled, matrixBlock, columnsBlock}
 
 pub record Cell : Type 0 where
   pub entry : Float
@@ -52,12 +52,16 @@ pub record Setting : Type 0 where
 abbrev pub setting : ℕ → Setting
 setting n = record { order = n }
 
+-- What processor i, from 0, turns the block of its pair by.
+abbrev pub ruledBlock : Setting → ℕ → Block Cell → Parameters
+ruledBlock s i b = ruled (s .order) i (blockParameters (blockEntries b))
+
 unfoldable pub rules : Setting → Rules Cell Float Float
 rules s =
     record {
-      diagonal = λ k i b. blockTurned (blockParameters (blockEntries b)) b;
-      sendsRow = λ k i b. sent (blockParameters (blockEntries b));
-      sendsColumn = λ k i b. sent (blockParameters (blockEntries b));
+      diagonal = λ k i b. blockTurned (ruledBlock s i b) b;
+      sendsRow = λ k i b. sent (ruledBlock s i b);
+      sendsColumn = λ k i b. sent (ruledBlock s i b);
       rowTurn = λ t s x y. cell (sideOf s (turnOf (ofTangent t) (x .entry) (y .entry))) (sideOf s (sides (x .vector) (y .vector)));
       columnTurn = λ t s x y. cell (sideOf s (turnOf (ofTangent t) (x .entry) (y .entry))) (sideOf s (turnOf (ofTangent t) (x .vector) (y .vector)));
       fails = λ x. not (finite (x .entry)) || not (finite (x .vector));

@@ -1,10 +1,12 @@
-// What the plain run and the array's run share: the refusals before a run, and the identity.
+// What the plain run and the array's run share: the refusals before a run, the identity, and which processor is always still.
 ghost use mathlib.Core.Path.{_≡_};
 ghost use Rattle.refusal.specs.Answers.{answered};
 ghost use Rattle.runs.specs.State.{identity};
+ghost use Rattle.runs.specs.Blocks.{ruled};
 ghost use Rattle.runs.specs.Outcome.{beforeRun, slicesAnswer};
 use refusal::Answer;
 use refusal::Refusal;
+use rotation::Parameters;
 
 // Refusals 1, 2, 3, 5 and 6 of a run whose two results have the lengths first and second.
 pub fn verdict(n: usize, sweeps: usize, matrix: &[f64], first: usize, second: usize) -> Answer
@@ -37,4 +39,14 @@ pub fn identity(r: usize, c: usize) -> f64
         return 1.0;
     }
     0.0
+}
+
+// What processor i, from 0, turns by in a run of order n, where its pair has these parameters.
+pub fn ruled(n: usize, i: usize, parameters: Parameters) -> Parameters
+    ensures { λ r. ⌜ r ≡ ruled n i parameters ⌝ }
+{
+    if i < sizes::still_of(n) {
+        return Parameters::Still;
+    }
+    parameters
 }

@@ -138,7 +138,7 @@ fit-at n l fitting i j = fitting _
 
 -- what the writer accepts has an order below 128
 small-order : (n sweeps : ℕ) (codes : List ℕ) (l : List Float) (lb : ℕ) → Writable n sweeps codes l lb → n < longForm
-small-order n sweeps codes l lb v = let o = order-is n (v .order) in omega (arith, o .2)
+small-order n sweeps codes l lb v = let o = order-is n (v .order) in omega (arith, o .1)
 
 entries-back : (n sweeps : ℕ) (codes : List ℕ) (l : List Float) (lb : ℕ) → ((k : ℕ) → T (fits binary64 (getD l k nan)))
     → writeAnswer n sweeps codes l lb ≡ given tt

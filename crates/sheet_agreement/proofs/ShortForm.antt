@@ -58,7 +58,7 @@ no-order : (n : ℕ) → longForm ≤ n → isOrder n ≡ false
 no-order n h = go (isOrder n) refl
   where
     go : (x : Bool) → isOrder n ≡ x → x ≡ false
-    go true e = absurd (omega (arith, order-is n e .2))
+    go true e = absurd (omega (arith, order-is n e .1))
     go false e = refl
 
 pub refused-before : (b c : List ℕ) (m : List Float) → 2 ≤ length b → longForm ≤ getD b 0 0

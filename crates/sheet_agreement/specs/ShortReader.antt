@@ -1,5 +1,5 @@
--- Document 01, "A sheet" and "Refused, by place": what its reader answers and leaves. Document 02 (i) is not in it: the first byte is the order,
--- and a code has one byte. It stands here for comparison. Definitions only.
+-- Document 01, "A sheet" and "Refused, by place": what its reader answers and leaves, with the orders that document 02 (ii) accepts. Document
+-- 02 (i) is not in it: the first byte is the order, and a code has one byte. It stands here for comparison. Definitions only.
 use Prim.Native.Nat.{ℕ, _+_, _*_}
 use mathlib.Core.Bool.{not, cond, _&&_}
 use mathlib.Core.List.{List, [], _∷_}

@@ -121,7 +121,7 @@ readable b lc lm e =
     }
 
 pub readable-form : (b : List ℕ) (lc lm : ℕ) → Readable b lc lm → {w n : ℕ} → w ≡ widthIn b → n ≡ orderIn b → OfForm w n b
-readable-form b lc lm r e f = (e, f, rw f (order-is _ (r .order) .2), rw (e, f) (r .sheet-long))
+readable-form b lc lm r e f = (e, f, rw f (order-is _ (r .order) .1), rw (e, f) (r .sheet-long))
 
 -- where the codes and the matrix are lent in the right lengths, the sheet alone decides
 pub lent-right : (b : List ℕ) → readAnswer b (orderIn b) (orderIn b * orderIn b) ≡ sheetAnswer b

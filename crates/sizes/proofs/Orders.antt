@@ -1,56 +1,48 @@
 -- Which numbers are orders, and what is known of one. Assumes nothing.
-use Prim.Native.Nat.{ℕ, _+_, _-_, _*_, _%_, _^_, _≤_, _<_}
+use Prim.Native.Nat.{ℕ, _+_, _-_, _*_, _^_, _≤_, _<_}
 use mathlib.Core.Path.{_≡_, refl, sym, ap, _∙_}
 use mathlib.Core.Bool.{Bool, true, false, not, _&&_, true≢false}
 use mathlib.Core.List.{[], _∷_}
 use native.Mathlib.Omega.{arith}
-use native.Mathlib.Nat.{div-add-mod', mod-lt, mul-le-mul}
-use borrow.Author.Tests.{eq-eqb, ne-eqb, eqb-true, lt-ltb, le-ltb, ltb-false, leb-true, le-leb, lt-leb}
-use lib.Dec.{ltb, leb, eqb}
+use native.Mathlib.Nat.{mul-le-mul}
+use borrow.Author.Tests.{lt-ltb, le-ltb, ltb-false, leb-true, le-leb, lt-leb}
+use lib.Dec.{ltb, leb}
 use Rattle.refusal.specs.Answers.{Answered, given, refusedBy, orElse, row, table}
 use Rattle.refusal.specs.declared.Refusal.the-variants.{Order, Sweeps}
 use Rattle.refusal.proofs.FirstRefusal.{refused-given, else-else}
-use Rattle.sizes.specs.Sizes.{mostProcessors, largestOrder, mostSweeps, isOrder, processorsOf, sweepSteps, stepsOf, orderRow, sweepsRow, sizesAnswer}
+use Rattle.sizes.specs.Sizes.{mostProcessors, largestOrder, mostSweeps, isOrder, processorsOf, sweepSteps, firstLine, linesOf, stillOf}
+use Rattle.sizes.specs.Sizes.{stepsOf, orderRow, sweepsRow, sizesAnswer}
 
 and-true : (a b : Bool) → (a && b) ≡ true → (a ≡ true) × (b ≡ true)
 and-true true b e = (refl, e)
 and-true false b e = absurd (true≢false (sym e))
 
--- an order is even, and from 2 to the largest
-pub order-is : (n : ℕ) → isOrder n ≡ true → (n % 2 ≡ 0) × (2 ≤ n) × (n ≤ largestOrder)
+-- an order is from 2 to the largest
+pub order-is : (n : ℕ) → isOrder n ≡ true → (2 ≤ n) × (n ≤ largestOrder)
 unfolding isOrder
-order-is n e =
-    let a = and-true (eqb (n % 2) 0) _ e in
-    let b = and-true (leb 2 n) _ (a .1) in
-    (eqb-true _ _ (a .0), leb-true _ _ (b .0), leb-true _ _ (b .1))
+order-is n e = let a = and-true (leb 2 n) _ e in (leb-true _ _ (a .0), leb-true _ _ (a .1))
 
 -- ---- the test
 module _ (n : ℕ) where
-  pub odd-refused : n % 2 ≡ 1 → false ≡ isOrder n
+  pub small-refused : n < 2 → false ≡ isOrder n
   unfolding isOrder
-  odd-refused e = rw (ne-eqb (n % 2) 0 (λ z. omega arith))
+  small-refused h = rw (lt-leb 2 n h)
 
-  even : ¬ (n % 2 ≡ 1) → n % 2 ≡ 0
-  even e = let l : n % 2 < 2 = mod-lt n (omega arith) in below (n % 2) e l
-    where
-      below : (r : ℕ) → ¬ (r ≡ 1) → r < 2 → r ≡ 0
-      below r e l = omega arith
-
-  pub small-refused : ¬ (n % 2 ≡ 1) → n < 2 → false ≡ isOrder n
+  pub by-largest : 2 ≤ n → leb n largestOrder ≡ isOrder n
   unfolding isOrder
-  small-refused e h = rw (eq-eqb (n % 2) 0 (even e), lt-leb 2 n h)
-
-  pub by-largest : ¬ (n % 2 ≡ 1) → 2 ≤ n → leb n largestOrder ≡ isOrder n
-  unfolding isOrder
-  by-largest e h = rw (eq-eqb (n % 2) 0 (even e), le-leb 2 n h)
+  by-largest h = rw (le-leb 2 n h)
 
 -- ---- what follows from it
 pub order-half : (n : ℕ) → isOrder n ≡ true → (1 ≤ processorsOf n) × (processorsOf n ≤ mostProcessors)
 order-half n e = let o = order-is n e in (omega arith, omega arith)
 
--- an order of today has two lines to a processor
-pub order-twice : (n : ℕ) → isOrder n ≡ true → 2 * processorsOf n ≡ n
-order-twice n e = let o = order-is n e in let d = div-add-mod' n 2 in omega arith
+-- the lines in the registers are those from the first line to n
+pub lines-end : (n : ℕ) → firstLine n + linesOf n ≡ n + 1
+lines-end n = omega arith
+
+-- one processor at most is always still
+pub still-few : (n : ℕ) → stillOf n ≤ 1
+still-few n = omega arith
 
 -- the steps of a sweep, by the last processor
 pub sweep-is : (n : ℕ) → isOrder n ≡ true → sweepSteps n ≡ 2 * (processorsOf n - 1) + 1

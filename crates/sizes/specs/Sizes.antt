@@ -1,9 +1,9 @@
--- Document 01, "Sizes": the limits, and what follows from the order n and the sweeps. No other definition names a limit; the page of
--- claims states document 01's figures. Definitions only.
+-- Document 01, "Sizes", and document 02 (ii): the limits, and what follows from the order n and the sweeps. No other definition names a
+-- limit; the page of claims states the documents' figures. Definitions only.
 use Prim.Native.Nat.{ℕ, _+_, _-_, _*_, _/_, _%_}
 use mathlib.Core.Bool.{Bool, not, _&&_}
 use mathlib.Core.List.{[], _∷_}
-use lib.Dec.{eqb, leb, ltb}
+use lib.Dec.{leb, ltb}
 use Rattle.refusal.specs.Answers.{Answered, row, table}
 use Rattle.refusal.specs.declared.Refusal.the-variants.{Order, Sweeps}
 
@@ -19,9 +19,9 @@ largestOrder = 2 * mostProcessors
 abbrev pub mostSweeps : ℕ
 mostSweeps = 16
 
--- n is an order: even, from 2 to the largest.
+-- n is an order: from 2 to the largest.
 unfoldable pub isOrder : ℕ → Bool
-isOrder n = eqb (n % 2) 0 && (leb 2 n && leb n largestOrder)
+isOrder n = leb 2 n && leb n largestOrder
 
 -- The number N of processors.
 abbrev pub processorsOf : ℕ → ℕ
@@ -31,9 +31,18 @@ processorsOf n = (n + 1) / 2
 abbrev pub sweepSteps : ℕ → ℕ
 sweepSteps n = 2 * processorsOf n - 1
 
--- The line that stands in the left register of processor 1 at first; the others follow in order.
+-- The line that stands in the left register of processor 1 at first; the others follow in order. An odd order has a line 0 there, which
+-- document 02 adds to its real lines 1 to n.
 abbrev pub firstLine : ℕ → ℕ
 firstLine n = 1 - n % 2
+
+-- The number of lines in the registers, line 0 counted.
+abbrev pub linesOf : ℕ → ℕ
+linesOf n = 2 * processorsOf n
+
+-- How many processors, from the first, are always still: processor 1 of an odd order, which has line 0.
+abbrev pub stillOf : ℕ → ℕ
+stillOf n = n % 2
 
 -- The number K of steps in a run.
 abbrev pub stepsOf : ℕ → ℕ → ℕ

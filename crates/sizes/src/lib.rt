@@ -1,9 +1,9 @@
-// The sizes of document 01 and their limits.
+// The sizes of documents 01 and 02, and their limits.
 ghost use mathlib.Core.Path.{_≡_};
 ghost use mathlib.Core.Bool.{true};
 ghost use Prim.Native.Nat.{_≤_};
 ghost use Rattle.refusal.specs.Answers.{answered};
-ghost use Rattle.sizes.specs.Sizes.{mostSweeps, isOrder, processorsOf, sweepSteps, firstLine, stepsOf, ticksOf, sizesAnswer};
+ghost use Rattle.sizes.specs.Sizes.{mostSweeps, isOrder, processorsOf, sweepSteps, firstLine, stillOf, stepsOf, ticksOf, sizesAnswer};
 use refusal::Answer;
 use refusal::Refusal;
 
@@ -39,9 +39,6 @@ pub fn tested(n: usize, sweeps: usize) -> Answer
 pub fn is_order(n: usize) -> bool
     ensures { λ r. ⌜ r ≡ isOrder n ⌝ }
 {
-    if n % 2 == 1 {
-        return false;
-    }
     if n < 2 {
         return false;
     }
@@ -70,6 +67,13 @@ pub fn first_line(n: usize) -> usize
     ensures { λ r. ⌜ r ≡ firstLine n ⌝ }
 {
     1 - n % 2
+}
+
+// How many processors, from the first, are always still.
+pub fn still_of(n: usize) -> usize
+    ensures { λ r. ⌜ r ≡ stillOf n ⌝ }
+{
+    n % 2
 }
 
 // The number of steps in a run.

@@ -4,7 +4,7 @@ use mathlib.Core.Path.{_≡_, refl, sym, ap, _∙_}
 use mathlib.Core.Bool.{Bool, true, false, not, true≢false}
 use mathlib.Core.List.{List, [], _∷_}
 use native.Mathlib.Omega.{arith}
-use borrow.Author.Tests.{eqb-true, ltb-false}
+use borrow.Author.Tests.{eqb-true, ltb-true, ltb-false}
 use lib.Dec.{ltb}
 use lib.ListN.{length, getD}
 use lib.Ieee.{Float}
@@ -12,12 +12,14 @@ use Rattle.refusal.specs.Answers.{given, orElse, row, table}
 use Rattle.refusal.specs.declared.Refusal.the-variants.{Order, Length, TooShort}
 use Rattle.refusal.proofs.FirstRefusal.{both-given, row-given}
 use Rattle.lists.proofs.Over.{getD-over}
-use Rattle.sizes.specs.Sizes.{isOrder, processorsOf}
+use Rattle.sizes.specs.Sizes.{isOrder, processorsOf, stillOf}
 use Rattle.ordering.specs.Pairs.{registersAt}
-use Rattle.ordering.proofs.RegisterLines.{pair-within}
-use Rattle.matrix.specs.Matrix.{at}
+use Rattle.ordering.proofs.RegisterLines.{pair-real}
+use Rattle.matrix.specs.Matrix.{at, entryOf}
 use Rattle.matrix.specs.Entries.{isSquare, entriesOf, finiteRow, mirrorRow}
-use Rattle.matrix_turns.specs.Turns.{parametersOf}
+use Rattle.runs.specs.Blocks.{ruled}
+use Rattle.runs.proofs.LineZero.{always-still}
+use Rattle.matrix_turns.specs.Turns.{parametersOf, twoLines}
 use Rattle.matrix_turns.proofs.LinePairs.{two-lines, pair-parameters}
 use Rattle.step_records.specs.declared.Record.{Record}
 use Rattle.step_records.proofs.RecordRefusals.{by-parts}
@@ -51,13 +53,22 @@ accepted-call n l room e =
 pub answer-given : (n : ℕ) (l : List Float) (step : ℕ) (ys : List Record) → recordsOf n l step ys .answer ≡ given tt → beforeRecords n l (length ys) ≡ given tt
 answer-given n l step ys e = sym (records-answer n l step ys) ∙ e
 
+-- what a processor turns by, from the list
+ruled-read : (n k p q : ℕ) (l : List Float) → (stillOf n ≤ k → twoLines n p q (length l) ≡ true)
+    → ruled n k (parametersOf p q (entryOf n l)) ≡ ruled n k (parametersOf p q (at n l))
+ruled-read n k p q l two = go (ltb k (stillOf n)) refl
+  where
+    go : (b : Bool) → ltb k (stillOf n) ≡ b → ruled n k (parametersOf p q (entryOf n l)) ≡ ruled n k (parametersOf p q (at n l))
+    go true e = let h = ltb-true _ _ e in sym (always-still n k _ h) ∙ always-still n k _ h
+    go false e = ap (ruled n k) (pair-parameters n p q l (two (ltb-false _ _ e)))
+
 pub record-found : (n : ℕ) (l : List Float) (step : ℕ) (ys : List Record) (other : Record) → recordsOf n l step ys .answer ≡ given tt
     → (k : ℕ) → k < processorsOf n → getD (recordsOf n l step ys .row) k other
-    ≡ recordOf (parametersOf (getD (registersAt n step .left) k 0) (getD (registersAt n step .right) k 0) (at n l))
+    ≡ recordOf (ruled n k (parametersOf (getD (registersAt n step .left) k 0) (getD (registersAt n step .right) k 0) (at n l)))
 unfolding recordsOf recordAt
 record-found n l step ys other e k below =
     let accepted = answer-given n l step ys e in
     let w = accepted-call n l (length ys) accepted in
     rw accepted
     (getD-over (processorsOf n) _ ys k other below (omega (arith, w .enough))
-    ∙ ap recordOf (pair-parameters n _ _ l (two-lines n _ _ (length l) (pair-within n (w .order) step k below) (w .long))))
+    ∙ ap recordOf (ruled-read n k _ _ l (λ h. two-lines n _ _ (length l) (pair-real n (w .order) step k below h) (w .long))))

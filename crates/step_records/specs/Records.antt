@@ -1,4 +1,4 @@
--- Document 01, "One rotation", last paragraph: the records of a step. Definitions only.
+-- Document 01, "One rotation", last paragraph, and document 02 (ii): the records of a step. Definitions only.
 use Prim.Native.Nat.{ℕ}
 use mathlib.Core.Bool.{not}
 use mathlib.Core.List.{List, [], _∷_}
@@ -16,6 +16,7 @@ use Rattle.sizes.specs.Sizes.{processorsOf, orderRow}
 use Rattle.ordering.specs.Pairs.{registersAt}
 use Rattle.matrix.specs.Matrix.{entryOf}
 use Rattle.matrix.specs.Entries.{isSquare, finiteRow, mirrorRow}
+use Rattle.runs.specs.Blocks.{ruled}
 use Rattle.matrix_turns.specs.Turns.{parametersOf}
 use Rattle.step_records.specs.declared.Record.{Record}
 
@@ -26,7 +27,7 @@ recordOf (Turn t c s) = record { t = t; c = c; s = s }
 
 -- The record of the pair in the registers r of processor k, here from 0, in the matrix l.
 unfoldable pub recordAt : ℕ → List Float → Registers → ℕ → Record
-recordAt n l r k = recordOf (parametersOf (getD (r .left) k 0) (getD (r .right) k 0) (entryOf n l))
+recordAt n l r k = recordOf (ruled n k (parametersOf (getD (r .left) k 0) (getD (r .right) k 0) (entryOf n l)))
 
 -- What is refused: the table of document 01 from top to bottom. room is the length of the row.
 unfoldable pub beforeRecords : ℕ → List Float → ℕ → Answered Unit

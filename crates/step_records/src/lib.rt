@@ -101,7 +101,8 @@ pub fn of_processor(n: usize, matrix: &[f64], registers: Registers, k: usize) ->
     let lefts = registers.left;
     let rights = registers.right;
     if k < MOST_PROCESSORS {
-        return of_parameters(matrix_turns::parameters(n, lefts[k], rights[k], matrix));
+        let parameters = matrix_turns::parameters(n, lefts[k], rights[k], matrix);
+        return of_parameters(runs::ruled(n, k, parameters));
     }
     of_parameters(matrix_turns::parameters(n, 0, 0, matrix))
 }

@@ -15,7 +15,7 @@ fn main() {
 }
 
 fn write_all() -> bool {
-    write_roots() && write_pairs() && write_runs() && write_refusals() && write_sheets()
+    write_roots() && write_pairs() && write_runs() && write_limits() && write_sheets()
 }
 
 // 4, -0, 2, 2^-1074, 1 - 2^-53, 1 + 2^-52.
@@ -36,7 +36,15 @@ fn write_root(pattern: u64) -> bool {
 }
 
 fn write_pairs() -> bool {
-    write_list(4, 0) && write_list(4, 1) && write_list(4, 2) && write_list(8, 1)
+    write_list(4, 0)
+        && write_list(4, 1)
+        && write_list(4, 2)
+        && write_list(8, 1)
+        && write_list(3, 0)
+        && write_list(3, 1)
+        && write_list(3, 2)
+        && write_list(5, 0)
+        && write_list(5, 1)
 }
 
 fn write_list(n: usize, step: usize) -> bool {
@@ -61,22 +69,25 @@ fn write_pair(left: usize, right: usize) -> bool {
     test_io::print_number(b"left", left as u64) && test_io::print_number(b"right", right as u64)
 }
 
-// A diagonal matrix, the largest value throughout, no sweep, and order 8.
+// A diagonal matrix, the largest value throughout, no sweep, and the orders 8 and 3.
 fn write_runs() -> bool {
     let largest = float64::from_bits(LARGEST);
     write_run(2, 1, &[1.0, 0.0, 0.0, 3.0])
         && write_run(2, 1, &[largest; 4])
         && write_run(2, 0, &[1.0; 4])
         && write_run(8, 1, &[1.0; 64])
+        && write_run(3, 1, &[1.0; 9])
 }
 
-// Orders 0, 3 and 34, and 16 and 17 sweeps.
-fn write_refusals() -> bool {
+// 0, 1, 33 and 34, which are no orders, and 16 and 17 sweeps.
+fn write_limits() -> bool {
     write_list(0, 0)
-        && write_list(3, 0)
+        && write_list(1, 0)
+        && write_list(33, 0)
         && write_list(34, 0)
         && write_run(0, 1, &[1.0; 4])
-        && write_run(3, 1, &[1.0; 9])
+        && write_run(1, 1, &[1.0; 4])
+        && write_run(33, 1, &[1.0; 4])
         && write_run(34, 1, &[1.0; 4])
         && write_run(2, 16, &[1.0; 4])
         && write_run(2, 17, &[1.0; 4])

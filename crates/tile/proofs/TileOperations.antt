@@ -9,19 +9,17 @@ use Rattle.systolic.specs.Blocks.{Block}
 use Rattle.systolic.specs.Sequential.{turnBlockRows, turnBlockColumns, anyFails, operationsOf}
 use Rattle.systolic.specs.Tiles.{turnTile}
 use Rattle.rotation.specs.Rotation.{sent}
-use Rattle.runs.specs.Blocks.{blockParameters}
-use Rattle.runs.specs.Cells.{Cell, blockEntries, blockTurned, Setting, rules}
+use Rattle.runs.specs.Cells.{Cell, blockTurned, Setting, ruledBlock, rules}
 use Rattle.tile.specs.Tiles.{operations}
 
 module _ (s : Setting) (k i : ℕ) (b : Block Cell) where
   pub tile-turns : (j : ℕ) (h v : Float) → turnTile (operations s) k i j h v b
-      ≡ cond (eqb i j) (blockTurned (blockParameters (blockEntries b)) b)
+      ≡ cond (eqb i j) (blockTurned (ruledBlock s i b) b)
       (cond (ltb i j) (turnBlockColumns (rules s) v (turnBlockRows (rules s) h b)) (turnBlockRows (rules s) h (turnBlockColumns (rules s) v b)))
   unfolding turnTile operations operationsOf rules
   tile-turns j h v = refl
 
-  pub tile-sends : (operations s .sendsRow k i b ≡ sent (blockParameters (blockEntries b)))
-      × (operations s .sendsColumn k i b ≡ sent (blockParameters (blockEntries b)))
+  pub tile-sends : (operations s .sendsRow k i b ≡ sent (ruledBlock s i b)) × (operations s .sendsColumn k i b ≡ sent (ruledBlock s i b))
   unfolding operations operationsOf rules
   tile-sends = (refl, refl)
 

@@ -19,7 +19,7 @@ use Rattle.tile.proofs.SetWires.{part-wires}
 module _ (s : Setting) (x : Tile) (i j : ℕ) (a : theory.Action) where
   -- A tile on the diagonal uses neither angle.
   pub tile-turned : (k : ℕ) (q : Part) (h v : Float) (row column : Angle) → (¬ (i ≡ j) → row ≡ angleOf h) → (¬ (i ≡ j) → column ≡ angleOf v)
-      → theTile (turnedOf a x q i j row column) ≡ turnedTile (operations s) k i j a (theTile x) (blockOf q) h v
+      → theTile (turnedOf (s .order) a x q i j row column) ≡ turnedTile (operations s) k i j a (theTile x) (blockOf q) h v
   unfolding theTile turnedOf
   tile-turned k q h v row column e f =
       rw (

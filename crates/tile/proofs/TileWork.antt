@@ -14,12 +14,13 @@ use Rattle.rotation.specs.declared.Angle.{Angle}
 use Rattle.rotation.specs.Rotation.{angleOf, ofTangent}
 use Rattle.runs.specs.Blocks.{matrixBlock, columnsBlock}
 use Rattle.runs.specs.Cells.{Setting, blockTurned, rules}
+use Rattle.tile.specs.declared.cells.Work.{Work}
 use Rattle.tile.specs.Tiles.{blockOf, operations}
 use Rattle.tile.specs.Turned.{rowsTurned, columnsTurned, bothTurned, offDiagonalOf, onDiagonalOf, rotatedOf, takenOf, workedOf}
 use Rattle.tile.specs.Turned.{quadNotFinite, partNotFinite}
 
 module _ (s : Setting) (k i j : ℕ) where
-  on-diagonal : (p : Part) → blockOf (onDiagonalOf p .cells) ≡ operations s .diagonal k i (blockOf p)
+  on-diagonal : (p : Part) → blockOf (onDiagonalOf (s .order) i p .cells) ≡ operations s .diagonal k i (blockOf p)
   unfolding blockOf onDiagonalOf columnsTurned matrixBlock columnsBlock operations operationsOf rules blockTurned
   on-diagonal p = refl
 
@@ -34,39 +35,42 @@ module _ (s : Setting) (k i j : ℕ) where
 
   -- a tile off the diagonal receives the angles of the tangents h and v
   module _ (h v : Float) (row column : Angle) (e : ¬ (i ≡ j) → row ≡ angleOf h) (f : ¬ (i ≡ j) → column ≡ angleOf v) where
-    rotated-cells : (p : Part) → blockOf (rotatedOf p i j row column .cells) ≡ turnTile (operations s) k i j h v (blockOf p)
+    abbrev passedOn : Part → Work
+    passedOn p = record { cells = offDiagonalOf p (ltb i j) row column; row = row .tangent; column = column .tangent }
+
+    rotated-cells : (p : Part) → blockOf (rotatedOf (s .order) p i j row column .cells) ≡ turnTile (operations s) k i j h v (blockOf p)
     unfolding rotatedOf turnTile
     rotated-cells p = go (eqb i j) refl
       where
         go : (b : Bool) → eqb i j ≡ b
-            → blockOf (cond b (onDiagonalOf p) (record { cells = offDiagonalOf p (ltb i j) row column; row = row .tangent; column = column .tangent }) .cells)
+            → blockOf (cond b (onDiagonalOf (s .order) i p) (passedOn p) .cells)
             ≡ cond b (operations s .diagonal k i (blockOf p)) (operations s .offDiagonal k i j h v (blockOf p))
         go true z = on-diagonal p
         go false z = let n = eqb-false _ _ z in rw (e n, f n) (off-diagonal h v p)
 
-    rotated-row : (p : Part) → rotatedOf p i j row column .row ≡ cond (eqb i j) (operations s .sendsRow k i (blockOf p)) h
+    rotated-row : (p : Part) → rotatedOf (s .order) p i j row column .row ≡ cond (eqb i j) (operations s .sendsRow k i (blockOf p)) h
     unfolding rotatedOf
     rotated-row p = go (eqb i j) refl
       where
         go : (b : Bool) → eqb i j ≡ b
-            → cond b (onDiagonalOf p) (record { cells = offDiagonalOf p (ltb i j) row column; row = row .tangent; column = column .tangent }) .row
+            → cond b (onDiagonalOf (s .order) i p) (passedOn p) .row
             ≡ cond b (operations s .sendsRow k i (blockOf p)) h
         go true z = unfold onDiagonalOf operations operationsOf rules blockOf in refl
         go false z = ap (λ (x : Angle). x .tangent) (e (eqb-false _ _ z))
 
-    rotated-column : (p : Part) → rotatedOf p i j row column .column ≡ cond (eqb i j) (operations s .sendsColumn k i (blockOf p)) v
+    rotated-column : (p : Part) → rotatedOf (s .order) p i j row column .column ≡ cond (eqb i j) (operations s .sendsColumn k i (blockOf p)) v
     unfolding rotatedOf
     rotated-column p = go (eqb i j) refl
       where
         go : (b : Bool) → eqb i j ≡ b
-            → cond b (onDiagonalOf p) (record { cells = offDiagonalOf p (ltb i j) row column; row = row .tangent; column = column .tangent }) .column
+            → cond b (onDiagonalOf (s .order) i p) (passedOn p) .column
             ≡ cond b (operations s .sendsColumn k i (blockOf p)) v
         go true z = unfold onDiagonalOf operations operationsOf rules blockOf in refl
         go false z = ap (λ (x : Angle). x .tangent) (f (eqb-false _ _ z))
 
     module _ (p q : Part) (r c : Float) where
       pub worked-cells : (a : Action)
-          → blockOf (workedOf a (takenOf a p q) i j row column r c .cells) ≡ newCells (operations s) k i j a (blockOf p) (blockOf q) h v
+          → blockOf (workedOf (s .order) a (takenOf a p q) i j row column r c .cells) ≡ newCells (operations s) k i j a (blockOf p) (blockOf q) h v
       unfolding newCells
       worked-cells idle = refl
       worked-cells first = rotated-cells p
@@ -76,7 +80,8 @@ module _ (s : Setting) (k i j : ℕ) where
       worked-cells final = refl
 
       pub worked-row : (a : Action)
-          → workedOf a (takenOf a p q) i j row column r c .row ≡ newParameter (operations s .sendsRow k i) i j a (blockOf p) (blockOf q) h r
+          → workedOf (s .order) a (takenOf a p q) i j row column r c .row
+          ≡ newParameter (operations s .sendsRow k i) i j a (blockOf p) (blockOf q) h r
       unfolding newParameter
       worked-row idle = refl
       worked-row first = rotated-row p
@@ -86,7 +91,8 @@ module _ (s : Setting) (k i j : ℕ) where
       worked-row final = refl
 
       pub worked-column : (a : Action)
-          → workedOf a (takenOf a p q) i j row column r c .column ≡ newParameter (operations s .sendsColumn k i) i j a (blockOf p) (blockOf q) v c
+          → workedOf (s .order) a (takenOf a p q) i j row column r c .column
+          ≡ newParameter (operations s .sendsColumn k i) i j a (blockOf p) (blockOf q) v c
       unfolding newParameter
       worked-column idle = refl
       worked-column first = rotated-column p

@@ -11,7 +11,7 @@ use Rattle.tile_wires.specs.declared.Part.{Part}
 use Rattle.rotation.specs.declared.Angle.{Angle}
 use Rattle.rotation.specs.declared.Parameters.{Parameters}
 use Rattle.rotation.specs.Rotation.{ofAngle, sent, turnOf}
-use Rattle.runs.specs.Blocks.{blockParameters, matrixBlock, columnsBlock}
+use Rattle.runs.specs.Blocks.{blockParameters, ruled, matrixBlock, columnsBlock}
 use Rattle.tile.specs.declared.Tile.{Tile}
 use Rattle.tile.specs.declared.cells.Work.{Work}
 use Rattle.tile.specs.Tiles.{quadBlock, quadOf}
@@ -35,38 +35,38 @@ unfoldable pub offDiagonalOf : Part → Bool → Angle → Angle → Part
 offDiagonalOf p above row column =
     record { matrix = bothTurned (ofAngle row) (ofAngle column) above (p .matrix); vectors = columnsTurned (ofAngle column) (p .vectors) }
 
--- The parameters of the part on the diagonal.
-abbrev pub quadParameters : Quad → Parameters
-quadParameters q = blockParameters (quadBlock q)
+-- What the tile of processor i, from 0, turns its part on the diagonal by, in a run of order n.
+abbrev pub quadParameters : ℕ → ℕ → Quad → Parameters
+quadParameters n i q = ruled n i (blockParameters (quadBlock q))
 
-unfoldable pub onDiagonalOf : Part → Work
-onDiagonalOf p =
+unfoldable pub onDiagonalOf : ℕ → ℕ → Part → Work
+onDiagonalOf n i p =
     record {
       cells = record {
-        matrix = quadOf (matrixBlock (quadParameters (p .matrix)) (quadBlock (p .matrix)));
-        vectors = columnsTurned (quadParameters (p .matrix)) (p .vectors);
+        matrix = quadOf (matrixBlock (quadParameters n i (p .matrix)) (quadBlock (p .matrix)));
+        vectors = columnsTurned (quadParameters n i (p .matrix)) (p .vectors);
       };
-      row = sent (quadParameters (p .matrix));
-      column = sent (quadParameters (p .matrix));
+      row = sent (quadParameters n i (p .matrix));
+      column = sent (quadParameters n i (p .matrix));
     }
 
-unfoldable pub rotatedOf : Part → ℕ → ℕ → Angle → Angle → Work
-rotatedOf p i j row column =
-    cond (eqb i j) (onDiagonalOf p) (record { cells = offDiagonalOf p (ltb i j) row column; row = row .tangent; column = column .tangent })
+unfoldable pub rotatedOf : ℕ → Part → ℕ → ℕ → Angle → Angle → Work
+rotatedOf n p i j row column =
+    cond (eqb i j) (onDiagonalOf n i p) (record { cells = offDiagonalOf p (ltb i j) row column; row = row .tangent; column = column .tangent })
 
 -- The cells that a tile works on: its own, p, or where it reads its wires what they bring, q.
 abbrev pub takenOf : Action → Part → Part → Part
 takenOf a p q = cond (readsCells a) q p
 
-abbrev pub workedOf : Action → Part → ℕ → ℕ → Angle → Angle → Float → Float → Work
-workedOf a p i j row column r c = cond (rotates a) (rotatedOf p i j row column) (record { cells = p; row = r; column = c })
+abbrev pub workedOf : ℕ → Action → Part → ℕ → ℕ → Angle → Angle → Float → Float → Work
+workedOf n a p i j row column r c = cond (rotates a) (rotatedOf n p i j row column) (record { cells = p; row = r; column = c })
 
 -- The tile with its cells and its parameter wires as they are after the tick.
 abbrev pub tileWorked : Tile → Work → Tile
 tileWorked x w = record { cells = w .cells; wires = x .wires; «row_wire» = w .row; «column_wire» = w .column; mark = x .mark }
 
-unfoldable pub turnedOf : Action → Tile → Part → ℕ → ℕ → Angle → Angle → Tile
-turnedOf a x q i j row column = tileWorked x (workedOf a (takenOf a (x .cells) q) i j row column (x .«row_wire») (x .«column_wire»))
+unfoldable pub turnedOf : ℕ → Action → Tile → Part → ℕ → ℕ → Angle → Angle → Tile
+turnedOf n a x q i j row column = tileWorked x (workedOf n a (takenOf a (x .cells) q) i j row column (x .«row_wire») (x .«column_wire»))
 
 unfoldable pub quadNotFinite : Quad → Bool
 quadNotFinite q = not (finite (q .alpha)) || (not (finite (q .beta)) || (not (finite (q .gamma)) || not (finite (q .delta))))

@@ -28,6 +28,7 @@ pub fn taken(action: Action, cells: Part, brought: Part) -> Part
 }
 
 pub fn worked(
+    n: usize,
     action: Action,
     cells: Part,
     i: usize,
@@ -37,10 +38,10 @@ pub fn worked(
     old_row: f64,
     old_column: f64,
 ) -> Work
-    ensures { λ r. ⌜ r ≡ workedOf (theAction action) cells i j row column «old_row» «old_column» ⌝ }
+    ensures { λ r. ⌜ r ≡ workedOf n (theAction action) cells i j row column «old_row» «old_column» ⌝ }
 {
     if tile_schedule::rotates(action) {
-        return rotated(cells, i, j, row, column);
+        return rotated(n, cells, i, j, row, column);
     }
     Work {
         cells: cells,
@@ -50,11 +51,11 @@ pub fn worked(
 }
 
 // A tile off the diagonal passes on the tangents that it receives.
-pub fn rotated(part: Part, i: usize, j: usize, row: Angle, column: Angle) -> Work
-    ensures { λ r. ⌜ r ≡ rotatedOf part i j row column ⌝ }
+pub fn rotated(n: usize, part: Part, i: usize, j: usize, row: Angle, column: Angle) -> Work
+    ensures { λ r. ⌜ r ≡ rotatedOf n part i j row column ⌝ }
 {
     if i == j {
-        return on_diagonal(part);
+        return on_diagonal(n, i, part);
     }
     let cells = off_diagonal(part, i < j, row, column);
     Work {
@@ -64,13 +65,13 @@ pub fn rotated(part: Part, i: usize, j: usize, row: Angle, column: Angle) -> Wor
     }
 }
 
-// A tile on the diagonal finds its tangent and sends it along its row and its column.
-pub fn on_diagonal(part: Part) -> Work
-    ensures { λ r. ⌜ r ≡ onDiagonalOf part ⌝ }
+// The tile of processor i finds its tangent and sends it along its row and its column.
+pub fn on_diagonal(n: usize, i: usize, part: Part) -> Work
+    ensures { λ r. ⌜ r ≡ onDiagonalOf n i part ⌝ }
 {
     let a = part.matrix;
     let e = part.vectors;
-    let parameters = rotation::of_pair(a.alpha, a.delta, a.beta);
+    let parameters = runs::ruled(n, i, rotation::of_pair(a.alpha, a.delta, a.beta));
     let sides = rotation::diagonal(parameters, a.alpha, a.delta, a.beta);
     let matrix = Quad {
         alpha: sides.left,

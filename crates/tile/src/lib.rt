@@ -21,10 +21,11 @@ pub struct Tile {
 }
 
 impl Tile {
-    // The tile in row i and column j, from 0, with its cells and its parameter wires as they are after a tick of a run of so many steps. Its
-    // cell wires bring the cells `brought`, its parameter wires the tangents of `row` and `column`.
+    // The tile in row i and column j, from 0, with its cells and its parameter wires as they are after a tick of a run of order n and of so many
+    // steps. Its cell wires bring the cells `brought`, its parameter wires the tangents of `row` and `column`.
     pub fn turned(
         self,
+        n: usize,
         brought: Part,
         row: Angle,
         column: Angle,
@@ -33,13 +34,14 @@ impl Tile {
         i: usize,
         j: usize,
     ) -> Tile
-        ensures { λ r. ⌜ r ≡ turnedOf (actionAt steps (distance i j) tick) self brought i j row column ⌝ }
+        ensures { λ r. ⌜ r ≡ turnedOf n (actionAt steps (distance i j) tick) self brought i j row column ⌝ }
     {
         let action = tile_schedule::action_at(steps, i, j, tick);
         let own = self.cells;
         let wires = self.wires;
         let cells = cells::taken(action, own, brought);
         let work = cells::worked(
+            n,
             action,
             cells,
             i,

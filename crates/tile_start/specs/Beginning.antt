@@ -1,4 +1,4 @@
--- Document 01, "The array": the tiles at the start. Definitions only.
+-- Document 01, "The array", and document 02 (ii): the tiles at the start. Definitions only.
 use Prim.Native.Nat.{ℕ, _+_, _*_}
 use mathlib.Core.Bool.{false, cond, _&&_}
 use mathlib.Core.List.{List}
@@ -8,9 +8,9 @@ use Rattle.float64.specs.Values.{plusZero}
 use Rattle.tile_wires.specs.declared.Quad.{Quad}
 use Rattle.tile_wires.specs.declared.Part.{Part}
 use Rattle.tile_wires.specs.Wires.{quad}
-use Rattle.sizes.specs.Sizes.{processorsOf}
+use Rattle.sizes.specs.Sizes.{processorsOf, firstLine}
 use Rattle.matrix.specs.Matrix.{entryOf}
-use Rattle.runs.specs.State.{identity}
+use Rattle.runs.specs.State.{identity, bordered}
 use Rattle.tile.specs.declared.Tile.{Tile}
 
 unfoldable pub zeroPart : Part
@@ -20,13 +20,16 @@ zeroPart = record { matrix = quad plusZero plusZero plusZero plusZero; vectors =
 unfoldable pub startingTile : Part → Tile
 startingTile p = record { cells = p; wires = zeroPart; «row_wire» = plusZero; «column_wire» = plusZero; mark = false }
 
--- The part of A at the row registers i and the column registers j, both from 0.
+-- The part of A in the rows r and r + 1 and the columns c and c + 1.
 unfoldable pub quadAt : (ℕ → ℕ → Float) → ℕ → ℕ → Quad
-quadAt A i j =
-    quad (A (2 * i + 1) (2 * j + 1)) (A (2 * i + 1) (2 * j + 1 + 1)) (A (2 * i + 1 + 1) (2 * j + 1)) (A (2 * i + 1 + 1) (2 * j + 1 + 1))
+quadAt A r c = quad (A r c) (A r (c + 1)) (A (r + 1) c) (A (r + 1) (c + 1))
 
+-- The part at the row registers i and the column registers j, both from 0.
 unfoldable pub partAt : ℕ → List Float → ℕ → ℕ → Part
-partAt n l i j = record { matrix = quadAt (entryOf n l) i j; vectors = quadAt identity i j }
+partAt n l i j =
+    let r = 2 * i + firstLine n in
+    let c = 2 * j + firstLine n in
+    record { matrix = quadAt (bordered (entryOf n l)) r c; vectors = quadAt (bordered identity) r c }
 
 -- The tile in row i and column j at the start: zeros where it is not in use.
 unfoldable pub startTile : ℕ → List Float → ℕ → ℕ → Tile

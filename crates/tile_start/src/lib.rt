@@ -2,8 +2,8 @@
 ghost use mathlib.Core.Path.{_≡_};
 ghost use Prim.Native.Nat.{_<_};
 ghost use Rattle.matrix.specs.Matrix.{entryOf};
-ghost use Rattle.sizes.specs.Sizes.{mostProcessors};
-ghost use Rattle.runs.specs.State.{identity};
+ghost use Rattle.sizes.specs.Sizes.{mostProcessors, largestOrder};
+ghost use Rattle.runs.specs.State.{identity, bordered};
 ghost use Rattle.tile_start.specs.Beginning.{zeroPart, startingTile, quadAt, startTile};
 use tile::Tile;
 use tile_wires::Part;
@@ -21,9 +21,12 @@ pub fn tile_at(n: usize, i: usize, j: usize, matrix: &[f64]) -> Tile
     if j >= processors {
         return zero_tile();
     }
+    let first = sizes::first_line(n);
+    let row = 2 * i + first;
+    let column = 2 * j + first;
     tile_with(Part {
-        matrix: entries_at(n, i, j, matrix),
-        vectors: identity_at(n, i, j),
+        matrix: entries_at(n, row, column, matrix),
+        vectors: identity_at(row, column),
     })
 }
 
@@ -63,32 +66,49 @@ fn zero_part() -> Part
     }
 }
 
-// The part of a matrix at the row registers i and the column registers j.
-fn entries_at(n: usize, i: usize, j: usize, matrix: &[f64]) -> Quad
-    requires { ⌜ (i < mostProcessors) × (j < mostProcessors) ⌝ }
-    ensures { λ r. ⌜ r ≡ quadAt (entryOf n (now (matrix .entry))) i j ⌝ }
+// The part of a matrix in the rows r and r + 1 and the columns c and c + 1, with a line 0 of +0 beside the lines lent.
+fn entries_at(n: usize, r: usize, c: usize, matrix: &[f64]) -> Quad
+    requires { ⌜ (r < largestOrder) × (c < largestOrder) ⌝ }
+    ensures { λ q. ⌜ q ≡ quadAt (bordered (entryOf n (now (matrix .entry)))) r c ⌝ }
 {
-    let row = 2 * i + 1;
-    let column = 2 * j + 1;
     Quad {
-        alpha: matrix::entry(n, row, column, matrix),
-        beta: matrix::entry(n, row, column + 1, matrix),
-        gamma: matrix::entry(n, row + 1, column, matrix),
-        delta: matrix::entry(n, row + 1, column + 1, matrix),
+        alpha: entry_at(n, r, c, matrix),
+        beta: entry_at(n, r, c + 1, matrix),
+        gamma: entry_at(n, r + 1, c, matrix),
+        delta: entry_at(n, r + 1, c + 1, matrix),
     }
 }
 
-// The like part of the identity of order n.
-fn identity_at(n: usize, i: usize, j: usize) -> Quad
-    requires { ⌜ (i < mostProcessors) × (j < mostProcessors) ⌝ }
-    ensures { λ r. ⌜ r ≡ quadAt identity i j ⌝ }
+// The like part of the identity.
+fn identity_at(r: usize, c: usize) -> Quad
+    requires { ⌜ (r < largestOrder) × (c < largestOrder) ⌝ }
+    ensures { λ q. ⌜ q ≡ quadAt (bordered identity) r c ⌝ }
 {
-    let row = 2 * i + 1;
-    let column = 2 * j + 1;
     Quad {
-        alpha: runs::identity(row, column),
-        beta: runs::identity(row, column + 1),
-        gamma: runs::identity(row + 1, column),
-        delta: runs::identity(row + 1, column + 1),
+        alpha: unit_at(r, c),
+        beta: unit_at(r, c + 1),
+        gamma: unit_at(r + 1, c),
+        delta: unit_at(r + 1, c + 1),
     }
+}
+
+fn entry_at(n: usize, r: usize, c: usize, matrix: &[f64]) -> f64
+    ensures { λ x. ⌜ x ≡ bordered (entryOf n (now (matrix .entry))) r c ⌝ }
+{
+    if r == 0 {
+        return 0.0;
+    }
+    if c == 0 {
+        return 0.0;
+    }
+    matrix::entry(n, r, c, matrix)
+}
+
+fn unit_at(r: usize, c: usize) -> f64
+    ensures { λ x. ⌜ x ≡ bordered identity r c ⌝ }
+{
+    if r == 0 {
+        return 0.0;
+    }
+    runs::identity(r, c)
 }

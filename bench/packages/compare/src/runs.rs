@@ -4,7 +4,7 @@ use crate::expected::{is_number, is_told, same_bits, FILLED, FILLED_PLACE};
 use crate::tally::{number_of, Tally};
 use draw::{Lent, Random};
 use reference::plain::Tested;
-use reference::sizes::MOST_LINES;
+use reference::sizes::{processors, MOST_LINES};
 use reference::{array, plain, records};
 use weimrukas::calls;
 
@@ -87,7 +87,7 @@ fn have_same_results(one: &Lent, other: &Lent) -> bool {
 
 fn compare_records(lent: &Lent, random: &mut Random, tally: &mut Tally) {
     let step = random.step();
-    let room = random.room(3 * (lent.n.min(MOST_LINES) / 2));
+    let room = random.room(3 * processors(lent.n.min(MOST_LINES)));
     let mut one = random.filled(room);
     let mut other = one.clone();
     let mut place = FILLED_PLACE;

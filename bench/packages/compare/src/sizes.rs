@@ -15,7 +15,7 @@ pub fn compare(_: &mut Random) -> bool {
     for (one, other) in alone {
         tally.count("alone", one == other);
     }
-    for n in (2..=sizes::MOST_LINES).step_by(2) {
+    for n in 2..=sizes::MOST_LINES {
         let same_sheet = weimrukas::sheet_length(n) == sizes::sheet_length(n)
             && weimrukas::long_sheet_length(n) == sizes::long_sheet_length(n);
         let same_text = weimrukas::text_length(n) == sizes::text_length(n);

@@ -13,7 +13,8 @@ pub struct Lent {
     pub vectors: Vec<f64>,
 }
 
-const ORDERS: usize = MOST_LINES / 2;
+/// Those from 2 on, even and odd.
+const ORDERS: usize = MOST_LINES - 1;
 const SWEEPS: usize = MOST_SWEEPS + 1;
 
 impl Lent {
@@ -46,7 +47,7 @@ impl Lent {
 
     /// Run number k, in turn of every order, every number of sweeps and every kind of entries.
     pub fn each(k: usize, random: &mut Random) -> Lent {
-        let (n, sweeps) = (2 + 2 * (k % ORDERS), k / ORDERS % SWEEPS);
+        let (n, sweeps) = (2 + k % ORDERS, k / ORDERS % SWEEPS);
         let kind = k / ORDERS / SWEEPS % ENTRY_KINDS;
         Lent::drawn(n, sweeps, random, |random| random.entry(kind))
     }

@@ -194,7 +194,7 @@ impl Random {
             *first ^= 128;
         }
         if let (3, Some(first)) = (kind, sheet.first_mut()) {
-            *first = self.among(&[128, 129, 131, 161, 162, 255]);
+            *first = self.among(&[128, 129, 161, 162, 163, 255]);
         }
     }
 

@@ -6,10 +6,10 @@ use reference::sizes::{MOST_LINES, MOST_SWEEPS};
 const WRONG_ORDERS: [usize; 12] = [
     0,
     1,
-    3,
-    31,
     33,
     34,
+    35,
+    36,
     128 + 8,
     256 + 8,
     1 << 32,
@@ -26,7 +26,7 @@ impl Random {
     pub fn order(&mut self) -> usize {
         match self.below(8) {
             0 => self.wrong_order(),
-            _ => 2 + 2 * self.below(MOST_LINES / 2),
+            _ => 2 + self.below(MOST_LINES - 1),
         }
     }
 

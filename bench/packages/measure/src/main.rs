@@ -18,5 +18,7 @@ fn main() {
     runs::measure_orders(&mut random);
     sheets::measure(&mut random);
     println!();
+    runs::measure_odd(&mut random);
+    println!();
     runs::measure_sweeps(&mut random);
 }

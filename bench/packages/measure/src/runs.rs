@@ -1,4 +1,4 @@
-//! The plain run and the array's whole run, by order and by sweeps.
+//! The plain run and the array's whole run, by order, odd orders beside even ones, and by sweeps.
 use crate::orders::{self, Call};
 use crate::rounds::{fastest, round, shown};
 use draw::{Lent, Random};
@@ -19,6 +19,34 @@ pub fn measure_orders(random: &mut Random) {
     ];
     let names = names.each_ref().map(String::as_str);
     orders::measure(names, calls, |n| drawn(n, SWEEPS, random));
+}
+
+/// The library's times of odd orders, each beside the even order above it, which has as many processors and as many
+/// steps.
+pub fn measure_odd(random: &mut Random) {
+    println!("| call | odd n | library | even n | library | odd / even |");
+    println!("|---|---|---|---|---|---|");
+    for n in [3, 15, MOST_LINES - 1] {
+        let (odd, even) = (drawn(n, SWEEPS, random), drawn(n + 1, SWEEPS, random));
+        let [odd_plain, even_plain, odd_array, even_array] = fastest([
+            round(&odd, library_plain),
+            round(&even, library_plain),
+            round(&odd, library_array),
+            round(&even, library_array),
+        ]);
+        for (name, odd, even) in [
+            ("plain", odd_plain, even_plain),
+            ("array", odd_array, even_array),
+        ] {
+            println!(
+                "| {name} run, {SWEEPS} sweeps | {n} | {} | {} | {} | {:.2} |",
+                shown(odd),
+                n + 1,
+                shown(even),
+                odd / even
+            );
+        }
+    }
 }
 
 /// How the library's time grows with the sweeps at the largest order.

@@ -1,12 +1,14 @@
-//! The array and its whole run (document 01, "The array"), with the processor's square root.
+//! The array and its whole run (document 01, "The array"; document 02, odd orders), with the processor's square root.
 use crate::checks;
-use crate::sizes::{self, MOST_TILES};
+use crate::sizes::{self, is_odd, MOST_TILES};
 use crate::tile::{Cell, Tile};
 use crate::Refusal;
 
-/// The tiles in use, row by row, as many rows as columns; the number of steps, and that of the next tick.
+/// The tiles in use, row by row, as many rows as columns; whether the order is odd, so that the first row and column of
+/// cells are line 0's; the number of steps, and that of the next tick.
 pub struct Array {
     pub side: usize,
+    pub odd: bool,
     pub steps: usize,
     pub tick: usize,
     pub tiles: Vec<Tile>,
@@ -45,32 +47,37 @@ pub fn run(
         vectors.fill(0.0);
         return Err(Refusal::of(8));
     }
-    array.write_cells(result, vectors);
+    array.write_cells(n, result, vectors);
     Ok(array.tick)
 }
 
 impl Array {
     pub fn of_matrix(n: usize, sweeps: usize, matrix: &[f64]) -> Array {
-        let side = n / 2;
-        let mut tiles = vec![Tile::default(); side * side];
+        let side = sizes::processors(n);
+        let mut array = Array {
+            side,
+            odd: is_odd(n),
+            steps: sweeps * sizes::sweep_steps(n),
+            tick: 0,
+            tiles: vec![Tile::default(); side * side],
+        };
         for (k, &entry) in matrix.iter().enumerate() {
             let (i, j) = (k / n, k % n);
             let vector = if i == j { 1.0 } else { 0.0 };
-            tiles[i / 2 * side + j / 2].cells[i % 2][j % 2] = Cell { entry, vector };
+            *array.cell(i, j) = Cell { entry, vector };
         }
-        Array {
-            side,
-            steps: sweeps * (n - 1),
-            tick: 0,
-            tiles,
-        }
+        array
     }
 
-    fn write_cells(&self, result: &mut [f64], vectors: &mut [f64]) {
-        let n = 2 * self.side;
+    /// The cell of two real lines, from 0, where they stand at first and at the end.
+    fn cell(&mut self, i: usize, j: usize) -> &mut Cell {
+        let (i, j) = (i + self.odd as usize, j + self.odd as usize);
+        &mut self.tiles[i / 2 * self.side + j / 2].cells[i % 2][j % 2]
+    }
+
+    fn write_cells(&mut self, n: usize, result: &mut [f64], vectors: &mut [f64]) {
         for k in 0..n * n {
-            let (i, j) = (k / n, k % n);
-            let cell = self.tiles[i / 2 * self.side + j / 2].cells[i % 2][j % 2];
+            let cell = *self.cell(k / n, k % n);
             (result[k], vectors[k]) = (cell.entry, cell.vector);
         }
     }
@@ -115,12 +122,12 @@ impl Array {
     }
 
     fn work(&mut self, actions: Actions) {
-        let last = self.side - 1;
+        let (last, odd) = (self.side - 1, self.odd);
         for (i, row) in self.tiles.chunks_exact_mut(self.side).enumerate() {
             for (j, tile) in row.iter_mut().enumerate() {
                 match actions[i.abs_diff(j)] {
                     Action::First | Action::Rotate => {
-                        tile.rotate(i, j);
+                        tile.rotate(i, j, odd && i == 0);
                         tile.mark();
                         tile.set_wires_in_phase_0(i, j);
                     }

@@ -55,11 +55,12 @@ pub fn tick(words: &mut [u64]) -> Result<bool, Refusal> {
 }
 
 fn load(n: usize, sweeps: usize, words: &[u64]) -> Array {
-    let side = n / 2;
+    let side = sizes::processors(n);
     let tile = |k: usize| tile_of(&words[sizes::tile(k / side, k % side)..]);
     Array {
         side,
-        steps: sweeps * (n - 1),
+        odd: sizes::is_odd(n),
+        steps: sweeps * sizes::sweep_steps(n),
         tick: words[2] as usize,
         tiles: (0..side * side).map(tile).collect(),
     }

@@ -1,10 +1,10 @@
-//! What is tested before a call does anything (document 01, "Refused, by place").
+//! What is tested before a call does anything (document 01, "Refused, by place"; document 02, odd orders).
 use crate::sheet::Form;
 use crate::sizes::{MOST_LINES, MOST_SWEEPS};
 use crate::Refusal;
 
 pub fn order(n: usize) -> Result<(), Refusal> {
-    accepted_if(n.is_multiple_of(2) && (2..=MOST_LINES).contains(&n), 1)
+    accepted_if((2..=MOST_LINES).contains(&n), 1)
 }
 
 pub fn sweeps(sweeps: usize) -> Result<(), Refusal> {

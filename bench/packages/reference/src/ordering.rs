@@ -1,9 +1,10 @@
-//! The list of pairs (document 01, "Pairs and their movement").
+//! The list of pairs (document 01, "Pairs and their movement"; document 02, odd orders).
 use crate::checks;
-use crate::sizes::MOST_TILES;
+use crate::sizes::{is_odd, processors, sweep_steps, MOST_TILES};
 use crate::Refusal;
 
-/// Left and right register of each processor, lines from 1. Those above the last processor are not used.
+/// Left and right register of each processor, lines from 1, and line 0 where the order is odd. Those above the last
+/// processor are not used.
 pub struct Registers {
     processors: usize,
     pairs: [(usize, usize); MOST_TILES],
@@ -18,7 +19,7 @@ pub fn pairs(
 ) -> Result<(), Refusal> {
     let order = checks::order(n);
     if order.is_ok() {
-        checks::room(left.len().min(right.len()), n / 2)?;
+        checks::room(left.len().min(right.len()), processors(n))?;
     }
     left.fill(0);
     right.fill(0);
@@ -33,16 +34,17 @@ pub fn pairs(
 
 impl Registers {
     pub fn start(n: usize) -> Registers {
+        let first = if is_odd(n) { 0 } else { 1 };
         Registers {
-            processors: n / 2,
-            pairs: std::array::from_fn(|k| (2 * k + 1, 2 * k + 2)),
+            processors: processors(n),
+            pairs: std::array::from_fn(|k| (2 * k + first, 2 * k + 1 + first)),
         }
     }
 
-    /// The registers in a step, from 0. They repeat every n - 1 steps.
+    /// The registers in a step, from 0. They repeat every sweep.
     pub fn at(n: usize, step: usize) -> Registers {
         let mut registers = Registers::start(n);
-        for _ in 0..step % (n - 1) {
+        for _ in 0..step % sweep_steps(n) {
             registers.step();
         }
         registers
@@ -50,6 +52,14 @@ impl Registers {
 
     pub fn pairs(&self) -> &[(usize, usize)] {
         &self.pairs[..self.processors]
+    }
+
+    /// The pairs of two real lines: all but that of line 0, where there is one.
+    pub fn real_pairs(&self) -> &[(usize, usize)] {
+        match self.pairs() {
+            [(0, _), rest @ ..] => rest,
+            all => all,
+        }
     }
 
     /// The movement after a step: right 1 goes to left 2, left k to left k + 1, the last left to its right, and right k

@@ -1,7 +1,9 @@
-//! The plain run (document 01, "Plain run"), with the processor's square root.
+//! The plain run (document 01, "Plain run"), with the processor's square root. Line 0 of an odd order is left out: its
+//! pair is still, and what is cleared there is never reported.
 use crate::checks;
 use crate::ordering::Registers;
 use crate::rotation::{parameters, Turn};
+use crate::sizes::sweep_steps;
 use crate::Refusal;
 
 /// When the two matrices are tested for refusal 8. An entry that is not finite stays so, so both give the same answer.
@@ -26,8 +28,8 @@ pub fn run(
     vectors.iter_mut().step_by(n + 1).for_each(|x| *x = 1.0);
     let mut registers = Registers::start(n);
     let mut spoiled = false;
-    for _ in 0..sweeps * (n - 1) {
-        for &(p, q) in registers.pairs() {
+    for _ in 0..sweeps * sweep_steps(n) {
+        for &(p, q) in registers.real_pairs() {
             turn_pair(n, p - 1, q - 1, result, vectors);
         }
         spoiled |= tested == Tested::EachStep && !all_finite(result, vectors);

@@ -1,4 +1,4 @@
-//! The reader and the writer of sheets (document 01, "A sheet"; document 02, line codes above 255).
+//! The reader and the writer of sheets (document 01, "A sheet"; document 02, line codes above 255 and odd orders).
 use crate::checks;
 use crate::sizes::{long_sheet_length, sheet_length, MOST_LINES};
 use crate::Refusal;

@@ -5,7 +5,7 @@ pub const MOST_LINES: usize = 32;
 pub const MOST_SWEEPS: usize = 16;
 
 /// Tiles in a row and in a column of an array's record.
-pub const MOST_TILES: usize = MOST_LINES / 2;
+pub const MOST_TILES: usize = processors(MOST_LINES);
 /// Words before the first tile: the order, the sweeps and the number of the next tick.
 pub const HEAD_WORDS: usize = 3;
 pub const TILE_WORDS: usize = 19;
@@ -31,7 +31,26 @@ pub const fn tile(i: usize, j: usize) -> usize {
     HEAD_WORDS + (MOST_TILES * i + j) * TILE_WORDS
 }
 
+/// The number of processors, and of tiles in use in a row of the array.
+pub const fn processors(n: usize) -> usize {
+    n.div_ceil(2)
+}
+
+/// The steps of a sweep.
+pub const fn sweep_steps(n: usize) -> usize {
+    if is_odd(n) {
+        n
+    } else {
+        n - 1
+    }
+}
+
+/// Whether the registers hold a line 0 too, in the left one of processor 1, which then is always still.
+pub const fn is_odd(n: usize) -> bool {
+    n % 2 == 1
+}
+
 /// The number of ticks of a run.
 pub const fn ticks(n: usize, sweeps: usize) -> usize {
-    3 * sweeps * (n - 1) + n / 2
+    3 * sweeps * sweep_steps(n) + processors(n)
 }

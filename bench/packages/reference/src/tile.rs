@@ -1,5 +1,5 @@
-//! One tile: its rotation, its wires, its mark (document 01, "The array"). Rows and columns of tiles are counted from
-//! 0.
+//! One tile: its rotation, its wires, its mark (document 01, "The array"; document 02, odd orders). Rows and columns of
+//! tiles are counted from 0.
 use crate::rotation::{of_tangent, parameters, Turn};
 
 /// An entry of the matrix and the like entry of the eigenvectors, which move together.
@@ -24,18 +24,23 @@ pub struct Tile {
 }
 
 impl Tile {
-    /// Off the diagonal the tile turns by the tangents that its parameter wires hold.
-    pub fn rotate(&mut self, i: usize, j: usize) {
+    /// Off the diagonal the tile turns by the tangents that its parameter wires hold. On it the tile may be always
+    /// still, whatever its cells hold.
+    pub fn rotate(&mut self, i: usize, j: usize, always_still: bool) {
         if i == j {
-            self.rotate_on_diagonal();
+            self.rotate_on_diagonal(always_still);
         } else {
             self.rotate_off_diagonal(i < j);
         }
     }
 
-    fn rotate_on_diagonal(&mut self) {
+    fn rotate_on_diagonal(&mut self, always_still: bool) {
         let [[a, b], [_, d]] = self.cells.map(|row| row.map(|cell| cell.entry));
-        let turn = parameters(a, d, b);
+        let turn = if always_still {
+            None
+        } else {
+            parameters(a, d, b)
+        };
         let (t, a, d) = match turn {
             Some(Turn { t, .. }) => (t, a - t * b, d + t * b),
             None => (0.0, a, d),

@@ -38,7 +38,7 @@ hand-over-requires c κs =
     let k = c .before .before in
     let b = starting (k .before .before) in
     let e = ap (λ (x : Array). x .n) (ended k) ∙ start-order _ _ _ _ in
-    (rw e (order-is _ (b .order) .2), rw e (b .result-long), rw e (b .vectors-long))
+    (rw e (order-is _ (b .order) .1), rw e (b .result-long), rw e (b .vectors-long))
 
 same-length : tie.Need-same-length
 same-length c = search needs

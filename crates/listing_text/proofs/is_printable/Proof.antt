@@ -15,7 +15,7 @@ ordered : (c : tie.Else1) → isOrder (c .before .before .args .n) ≡ true
 ordered c = sym (c .before .is-order .ensures) ∙ not-false _ (c .if1 .left)
 
 small : (c : tie.Else1) → c .before .before .args .n * c .before .before .args .n ≤ largestOrder * largestOrder
-small c = let h = order-is _ (ordered c) .2 in mul-le-mul h h
+small c = let h = order-is _ (ordered c) .1 in mul-le-mul h h
 
 is-order-requires : tie.Need-is-order-requires
 is-order-requires c κs = search needs
@@ -53,7 +53,7 @@ returns-6 c =
 room-for-requires : tie.Need-room-for-requires
 room-for-requires c κs =
     let first = c .before .before .before .before .before in
-    order-is _ (ordered first) .2
+    order-is _ (ordered first) .1
 
 returns-7 : tie.Need-returns-7
 returns-7 c =

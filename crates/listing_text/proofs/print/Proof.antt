@@ -31,7 +31,7 @@ returns c = not-printed _ _ _ _ _ _ _ (sym (c .before .is-printable .ensures) �
 put-head-requires : tie.Need-put-head-requires
 put-head-requires c κs =
     let z = fine (c .before) in
-    (omega (arith, order-is _ (z .order) .2), z .few-sweeps, z .few-ticks, omega (arith, z .enough))
+    (omega (arith, order-is _ (z .order) .1), z .few-sweeps, z .few-ticks, omega (arith, z .enough))
 
 put-text-lines-requires : tie.Need-put-text-lines-requires
 put-text-lines-requires c κs =

@@ -3,21 +3,23 @@ use mathlib.Core.Path.{refl}
 use native.Mathlib.Nat.{le-antisymm}
 use native.Mathlib.Omega.{arith}
 use borrow.Author.Needs.{needs}
+use Rattle.sizes.specs.Sizes.{stillOf}
 use Rattle.matrix_turns.proofs.LinePairs.{two-as}
 use Rattle.plain_pair.specs.Pair.{stateOf, Held}
 use Rattle.plain_pair.proofs.AlikeStates.{held-itself, held-long}
 use Rattle.plain_pair.proofs.PairLines.{pair-held}
-use Rattle.plain_run.specs.State.{pairsRotated}
-use Rattle.plain_run.proofs.HeldStates.{Paired, no-pairs, pair-next}
+use Rattle.plain_run.specs.State.{Paired, pairsRotated}
+use Rattle.plain_run.proofs.HeldStates.{no-pairs, pair-next}
+use Rattle.plain_run.proofs.ProcessorPairs.{are-real}
 use Rattle.plain_run.proofs.StepParameters.{Found}
 use Rattle.plain_run.proofs.make_pairs.Statement.{statement}
 use Rattle.plain_run.proofs.make_pairs.Tie as tie
 
--- The pairs of the processors below k are turned. What falls is processors - k.
+-- The pairs of the processors below k are turned, or always still. What falls is processors - k.
 abbrev Inv-loop : tie.InvT-loop
 Inv-loop n a₀ vectors₀ found lefts rights processors k₀ a vectors k =
-    (k ≤ processors) × Paired n lefts rights processors × Found found lefts rights (stateOf n a₀ vectors₀) processors
-    × Held n a vectors (pairsRotated lefts rights k (stateOf n a₀ vectors₀))
+    (k ≤ processors) × (stillOf n ≤ k) × Paired n lefts rights processors × Found n found lefts rights (stateOf n a₀ vectors₀) processors
+    × Held n a vectors (pairsRotated n lefts rights k (stateOf n a₀ vectors₀))
 
 abbrev μ-loop : tie.MeasureT-loop
 μ-loop n a₀ vectors₀ found lefts rights processors k₀ a vectors k = processors - k
@@ -25,11 +27,21 @@ abbrev μ-loop : tie.MeasureT-loop
 processors-of-requires : tie.Need-processors-of-requires Inv-loop μ-loop
 processors-of-requires c κs = search needs
 
+still-of-requires : tie.Need-still-of-requires Inv-loop μ-loop
+still-of-requires c κs = search needs
+
 loop-holds : tie.Need-loop-holds Inv-loop μ-loop
 loop-holds c =
-    let at-start = c .before .before .before .before .before in
-    let N = c .processors-of .ensures in
-    (omega arith, rw N (at-start .pre .1 .0), rw N (at-start .pre .1 .1), no-pairs _ _ _ _ (held-itself _ _ _ (omega arith) (omega arith)) _ _)
+    let at-start = c .before .before .before .before .before .before in
+    let N = c .before .processors-of .ensures in
+    let paired = at-start .pre .1 .0 in
+    let still = c .still-of .ensures in (
+      omega arith,
+      omega arith,
+      rw N paired,
+      rw N (at-start .pre .1 .1),
+      no-pairs _ _ _ _ (held-itself _ _ _ (omega arith) (omega arith)) _ _ _ paired still (omega arith),
+    )
 
 mul-turn : tie.Need-mul-turn Inv-loop μ-loop
 mul-turn c = omega arith
@@ -63,21 +75,21 @@ loop-again c =
     let turned = c .before .before .before .before in
     let at-loop = turned .before .before .before .before .before .loop in
     let i = at-loop .inv in
-    let h = held-long _ _ _ _ (i .3) in
-    let two = two-as _ _ _ (i .1 (at-loop .k) (omega arith)) (h .0) in
-    let held = pair-held _ _ _ _ _ _ two (h .1) (turned .turn .ensures) in
-    (omega arith, i .1, i .2, pair-next _ _ _ _ _ _ (i .3) _ _ _ _ _ _ (i .1) (omega arith) refl (i .2 (at-loop .k) (omega arith)) held)
+    let h = held-long _ _ _ _ (i .4) in
+    let two = are-real _ _ _ _ (i .2 (at-loop .k) (omega arith)) (i .1) in
+    let held = pair-held _ _ _ _ _ _ (two-as _ _ _ two (h .0)) (h .1) (turned .turn .ensures) in
+    (omega arith, omega arith, i .2, i .3, pair-next _ _ _ _ _ _ (i .4) _ _ _ _ _ (i .1) two refl (i .3 (at-loop .k) (i .1) (omega arith)) held)
 
 same-length : tie.Need-same-length Inv-loop μ-loop
-same-length c = omega (arith, held-long _ _ _ _ (c .before .loop .inv .3) .0)
+same-length c = omega (arith, held-long _ _ _ _ (c .before .loop .inv .4) .0)
 
 same-length-2 : tie.Need-same-length-2 Inv-loop μ-loop
-same-length-2 c = omega (arith, held-long _ _ _ _ (c .before .loop .inv .3) .1)
+same-length-2 c = omega (arith, held-long _ _ _ _ (c .before .loop .inv .4) .1)
 
 returns : tie.Need-returns Inv-loop μ-loop
 returns c =
     let i = c .before .loop .inv in
-    rw (le-antisymm (i .0) (c .loop-test .left), c .before .before .processors-of .ensures) at (i .3)
+    rw (le-antisymm (i .0) (c .loop-test .left), c .before .before .before .processors-of .ensures) at (i .4)
 
 pub make-pairs-spec : {M : Type 1} → statement M
 make-pairs-spec =
@@ -86,6 +98,7 @@ make-pairs-spec =
     Inv-loop
     μ-loop
     processors-of-requires
+    still-of-requires
     loop-holds
     mul-turn
     array-copy-out-turn

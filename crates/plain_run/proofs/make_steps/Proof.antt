@@ -11,7 +11,8 @@ use Rattle.ordering.proofs.OrderRegisters.{of-order, next-at}
 use Rattle.plain_pair.specs.Pair.{stateOf, Held}
 use Rattle.plain_pair.proofs.AlikeStates.{held-itself, held-long}
 use Rattle.plain_run.specs.State.{after}
-use Rattle.plain_run.proofs.HeldStates.{no-steps, step-next, registers-paired}
+use Rattle.plain_run.proofs.HeldStates.{no-steps, step-next}
+use Rattle.plain_run.proofs.ProcessorPairs.{registers-paired}
 use Rattle.plain_run.proofs.StepParameters.{step-found}
 use Rattle.plain_run.proofs.make_steps.Statement.{statement}
 use Rattle.plain_run.proofs.make_steps.Tie as tie
@@ -33,10 +34,10 @@ loop-holds c =
     (omega arith, p .0, of-order _ (p .0) (c .of-order .ensures), no-steps _ _ _ _ (held-itself _ _ _ (p .1) (p .2)))
 
 tangents-of-requires : tie.Need-tangents-of-requires Inv-loop μ-loop
-tangents-of-requires c κs = order-is _ (c .before .before .loop .inv .1) .2
+tangents-of-requires c κs = order-is _ (c .before .before .loop .inv .1) .1
 
 parameters-of-requires : tie.Need-parameters-of-requires Inv-loop μ-loop
-parameters-of-requires c κs = order-is _ (c .before .before .before .loop .inv .1) .2
+parameters-of-requires c κs = order-is _ (c .before .before .before .loop .inv .1) .1
 
 make-pairs-requires : tie.Need-make-pairs-requires Inv-loop μ-loop
 make-pairs-requires c κs =
@@ -47,7 +48,7 @@ make-pairs-requires c κs =
     let h = held-long _ _ _ _ (i .3) in
     let tangents = with-tangents .tangents-of in
     let found = with-parameters .parameters-of in (
-      (order-is _ (i .1) .2, h .0, h .1),
+      (order-is _ (i .1) .1, h .0, h .1),
       (
         rw (i .2) (registers-paired _ (i .1) _),
         step-found _ (i .1) (at-loop .k) (at-loop .registers) (i .2) (tangents .result) (found .result) _ _ (h .0) (tangents .ensures) (found .ensures),

@@ -4,22 +4,25 @@ use native.Mathlib.Omega.{arith}
 use borrow.Author.Needs.{needs}
 use lib.Ieee.{nan}
 use lib.ListN.{getD}
-use Rattle.lists.proofs.Filled.{Filled, filled-none, filled-next}
+use Rattle.lists.proofs.Filled.{FilledFrom, filled-none, filled-next}
 use Rattle.sizes.specs.Sizes.{mostProcessors}
 use Rattle.rotation.specs.declared.Parameters.the-variants.{Still}
 use Rattle.rotation.specs.Rotation.{ofTangent}
 use Rattle.plain_run.proofs.parameters_of.Statement.{statement}
 use Rattle.plain_run.proofs.parameters_of.Tie as tie
 
--- The parameters of the processors below k are found. What falls is processors - k.
+-- The parameters of the processors from k₀ to k are found. What falls is processors - k.
 abbrev Inv-loop : tie.InvT-loop
-Inv-loop n tangents found₀ processors k₀ found k = (k ≤ processors) × Filled Still (λ i. ofTangent (getD tangents i nan)) mostProcessors k found
+Inv-loop n tangents found₀ processors k₀ found k = (k ≤ processors) × FilledFrom k₀ Still (λ i. ofTangent (getD tangents i nan)) mostProcessors k found
 
 abbrev μ-loop : tie.MeasureT-loop
 μ-loop n tangents found₀ processors k₀ found k = processors - k
 
 processors-of-requires : tie.Need-processors-of-requires Inv-loop μ-loop
 processors-of-requires c κs = search needs
+
+still-of-requires : tie.Need-still-of-requires Inv-loop μ-loop
+still-of-requires c κs = search needs
 
 loop-holds : tie.Need-loop-holds Inv-loop μ-loop
 loop-holds c = (omega arith, filled-none _ refl)
@@ -51,7 +54,7 @@ loop-again c =
     (omega arith, filled-next _ _ _ (at-loop .inv .1) (omega arith) (c .of-tangent .ensures))
 
 returns : tie.Need-returns Inv-loop μ-loop
-returns c i h = c .before .loop .inv .1 .filled i (omega arith)
+returns c i w h = c .before .loop .inv .1 .filled i (omega arith) (omega arith)
 
 pub parameters-of-spec : {M : Type 1} → statement M
 parameters-of-spec =
@@ -60,6 +63,7 @@ parameters-of-spec =
     Inv-loop
     μ-loop
     processors-of-requires
+    still-of-requires
     loop-holds
     mul-of-tangent
     array-read-of-tangent

@@ -4,23 +4,26 @@ use native.Mathlib.Omega.{arith}
 use borrow.Author.Needs.{needs}
 use lib.Ieee.{nan}
 use lib.ListN.{getD}
-use Rattle.lists.proofs.Filled.{Filled, filled-none, filled-next}
+use Rattle.lists.proofs.Filled.{FilledFrom, filled-none, filled-next}
 use Rattle.sizes.specs.Sizes.{mostProcessors}
 use Rattle.matrix.specs.Matrix.{entryOf}
 use Rattle.matrix_turns.specs.Turns.{tangentAt}
 use Rattle.plain_run.proofs.tangents_of.Statement.{statement}
 use Rattle.plain_run.proofs.tangents_of.Tie as tie
 
--- The tangents of the processors below k are found. What falls is processors - k.
+-- The tangents of the processors from k₀ to k are found. What falls is processors - k.
 abbrev Inv-loop : tie.InvT-loop
 Inv-loop n a lefts rights tangents₀ processors k₀ tangents k =
-    (k ≤ processors) × Filled nan (λ i. tangentAt (getD lefts i 0) (getD rights i 0) (entryOf n a)) mostProcessors k tangents
+    (k ≤ processors) × FilledFrom k₀ nan (λ i. tangentAt (getD lefts i 0) (getD rights i 0) (entryOf n a)) mostProcessors k tangents
 
 abbrev μ-loop : tie.MeasureT-loop
 μ-loop n a lefts rights tangents₀ processors k₀ tangents k = processors - k
 
 processors-of-requires : tie.Need-processors-of-requires Inv-loop μ-loop
 processors-of-requires c κs = search needs
+
+still-of-requires : tie.Need-still-of-requires Inv-loop μ-loop
+still-of-requires c κs = search needs
 
 loop-holds : tie.Need-loop-holds Inv-loop μ-loop
 loop-holds c = (omega arith, filled-none _ refl)
@@ -58,7 +61,7 @@ loop-again c =
     (omega arith, filled-next _ _ _ (at-loop .inv .1) (omega arith) (c .tangent-at .ensures))
 
 returns : tie.Need-returns Inv-loop μ-loop
-returns c i h = c .before .loop .inv .1 .filled i (omega arith)
+returns c i w h = c .before .loop .inv .1 .filled i (omega arith) (omega arith)
 
 pub tangents-of-spec : {M : Type 1} → statement M
 tangents-of-spec =
@@ -67,6 +70,7 @@ tangents-of-spec =
     Inv-loop
     μ-loop
     processors-of-requires
+    still-of-requires
     loop-holds
     mul-tangent-at
     array-read-tangent-at

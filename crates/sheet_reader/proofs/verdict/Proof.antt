@@ -23,7 +23,7 @@ sized : (c : tie.After-enum-told) → let found = at-found c in
 sized c = sizes-given _ _ (sym (ap answered (sym (c .enum-told .given .1)) ∙ c .before .before .tested .ensures))
 
 small : (c : tie.After-enum-told) → at-found c .order-in .result ≤ largestOrder
-small c = order-is _ (sized c .0) .2
+small c = order-is _ (sized c .0) .1
 
 -- what is known of the sheet past the test of its length
 abbrev at-sizes : tie.After-width-in → tie.After-enum-told

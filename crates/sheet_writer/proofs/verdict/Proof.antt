@@ -22,7 +22,7 @@ sized : (c : tie.After-enum-told) → let a = at-start c .args in
 sized c = sizes-given _ _ (sym (ap answered (sym (c .enum-told .given .1)) ∙ c .before .before .tested .ensures))
 
 small : (c : tie.After-enum-told) → at-start c .args .n ≤ largestOrder
-small c = order-is _ (sized c .0) .2
+small c = order-is _ (sized c .0) .1
 
 tested-requires : tie.Need-tested-requires
 tested-requires c κs = search needs

@@ -16,7 +16,7 @@ known : (c : tie.Start) → Writable (c .args .n) (c .args .sweeps) (c .args .co
 known c = writable _ _ _ _ _ (c .pre)
 
 small : (c : tie.Start) → c .args .n ≤ largestOrder
-small c = order-is _ (known c .order) .2
+small c = order-is _ (known c .order) .1
 
 abbrev at-start : tie.After-width-for → tie.Start
 at-start c = c .before .before .before .before

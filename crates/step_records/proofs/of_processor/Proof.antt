@@ -1,5 +1,6 @@
 use mathlib.Core.Path.{ap, _∙_}
 use lib.ListN.{length-map}
+use Rattle.runs.specs.Blocks.{ruled}
 use Rattle.step_records.proofs.AbsentProcessor.{no-processor}
 use Rattle.step_records.specs.Records.{recordOf, recordAt}
 use borrow.Author.Needs.{needs}
@@ -21,12 +22,17 @@ array-read-parameters-2 c = search needs
 parameters-requires : tie.Need-parameters-requires
 parameters-requires c κs = search needs
 
+ruled-requires : tie.Need-ruled-requires
+ruled-requires c κs = search needs
+
 of-parameters-requires : tie.Need-of-parameters-requires
 of-parameters-requires c κs = search needs
 
 returns : tie.Need-returns
 unfolding recordAt
-returns c = c .of-parameters .ensures ∙ ap recordOf (c .before .parameters .ensures)
+returns c =
+    let turns = c .before in
+    c .of-parameters .ensures ∙ ap recordOf (turns .ruled .ensures ∙ ap (ruled _ _) (turns .before .parameters .ensures))
 
 parameters-requires-2 : tie.Need-parameters-requires-2
 parameters-requires-2 c κs = search needs
@@ -50,6 +56,7 @@ of-processor-spec =
     mul-parameters-2
     array-read-parameters-2
     parameters-requires
+    ruled-requires
     of-parameters-requires
     returns
     parameters-requires-2

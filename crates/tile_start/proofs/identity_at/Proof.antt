@@ -1,62 +1,48 @@
-use Rattle.tile_start.specs.Beginning.{quadAt}
+use Rattle.tile_start.proofs.StartTiles.{corners}
 use borrow.Author.Needs.{needs}
 use Rattle.tile_start.proofs.identity_at.Statement.{statement}
 use Rattle.tile_start.proofs.identity_at.Tie as tie
 
-mul-row : tie.Need-mul-row
-mul-row c = search needs
+unit-at-requires : tie.Need-unit-at-requires
+unit-at-requires c κs = search needs
 
-add-row : tie.Need-add-row
-add-row c = search needs
+add-unit-at : tie.Need-add-unit-at
+add-unit-at c = search needs
 
-mul-column : tie.Need-mul-column
-mul-column c = search needs
+unit-at-requires-2 : tie.Need-unit-at-requires-2
+unit-at-requires-2 c κs = search needs
 
-add-column : tie.Need-add-column
-add-column c = search needs
+add-unit-at-2 : tie.Need-add-unit-at-2
+add-unit-at-2 c = search needs
 
-identity-requires : tie.Need-identity-requires
-identity-requires c κs = search needs
+unit-at-requires-3 : tie.Need-unit-at-requires-3
+unit-at-requires-3 c κs = search needs
 
-add-identity : tie.Need-add-identity
-add-identity c = search needs
+add-unit-at-3 : tie.Need-add-unit-at-3
+add-unit-at-3 c = search needs
 
-identity-requires-2 : tie.Need-identity-requires-2
-identity-requires-2 c κs = search needs
+add-unit-at-4 : tie.Need-add-unit-at-4
+add-unit-at-4 c = search needs
 
-add-identity-2 : tie.Need-add-identity-2
-add-identity-2 c = search needs
-
-identity-requires-3 : tie.Need-identity-requires-3
-identity-requires-3 c κs = search needs
-
-add-identity-3 : tie.Need-add-identity-3
-add-identity-3 c = search needs
-
-add-identity-4 : tie.Need-add-identity-4
-add-identity-4 c = search needs
-
-identity-requires-4 : tie.Need-identity-requires-4
-identity-requires-4 c κs = search needs
+unit-at-requires-4 : tie.Need-unit-at-requires-4
+unit-at-requires-4 c κs = search needs
 
 returns : tie.Need-returns
-unfolding quadAt
-returns c = rw (c .before .before .before .identity .ensures, c .before .before .identity2 .ensures, c .before .identity3 .ensures, c .identity4 .ensures)
+returns c =
+    let third = c .before in
+    let second = third .before in
+    corners _ _ _ (second .before .unit-at .ensures) (second .unit-at2 .ensures) (third .unit-at3 .ensures) (c .unit-at4 .ensures)
 
 pub identity-at-spec : {M : Type 1} → statement M
 identity-at-spec =
     tie.close
     (tie.spec
-    mul-row
-    add-row
-    mul-column
-    add-column
-    identity-requires
-    add-identity
-    identity-requires-2
-    add-identity-2
-    identity-requires-3
-    add-identity-3
-    add-identity-4
-    identity-requires-4
+    unit-at-requires
+    add-unit-at
+    unit-at-requires-2
+    add-unit-at-2
+    unit-at-requires-3
+    add-unit-at-3
+    add-unit-at-4
+    unit-at-requires-4
     returns)

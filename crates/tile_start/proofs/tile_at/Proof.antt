@@ -20,6 +20,21 @@ zero-tile-requires-2 c κs = search needs
 returns-2 : tie.Need-returns-2
 returns-2 c = c .zero-tile2 .ensures ∙ column-unused _ _ _ _ (omega arith) (omega arith)
 
+first-line-requires : tie.Need-first-line-requires
+first-line-requires c κs = search needs
+
+mul-row : tie.Need-mul-row
+mul-row c = search needs
+
+add-row : tie.Need-add-row
+add-row c = search needs
+
+mul-column : tie.Need-mul-column
+mul-column c = search needs
+
+add-column : tie.Need-add-column
+add-column c = search needs
+
 entries-at-requires : tie.Need-entries-at-requires
 entries-at-requires c κs = search needs
 
@@ -31,8 +46,10 @@ tile-with-requires c κs = search needs
 
 returns-3 : tie.Need-returns-3
 returns-3 c =
-    let entries = c .before .before .entries-at .ensures in
-    in-use _ _ _ _ (omega arith) (omega arith) entries (c .before .identity-at .ensures) (c .tile-with .ensures)
+    let identity = c .before in
+    let entries = identity .before in
+    in-use _ _ _ _ (omega arith) (omega arith) (entries .before .first-line .ensures) (entries .entries-at .ensures) (identity .identity-at .ensures)
+    (c .tile-with .ensures)
 
 pub tile-at-spec : {M : Type 1} → statement M
 tile-at-spec =
@@ -43,6 +60,11 @@ tile-at-spec =
     returns
     zero-tile-requires-2
     returns-2
+    first-line-requires
+    mul-row
+    add-row
+    mul-column
+    add-column
     entries-at-requires
     identity-at-requires
     tile-with-requires

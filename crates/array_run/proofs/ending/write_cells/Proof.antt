@@ -14,12 +14,12 @@ use Rattle.array_run.proofs.ending.write_cells.Statement.{statement}
 use Rattle.array_run.proofs.ending.write_cells.Tie as tie
 
 abbrev Inv-loop : tie.InvT-loop
-Inv-loop result₀ vectors₀ array n k₀ k-end result vectors k =
-    (k ≤ n * n) × Filled nan (λ i. matrixIn (array .tiles) (i / n + 1) (i % n + 1)) (n * n) k result
-    × Filled nan (λ i. vectorsIn (array .tiles) (i / n + 1) (i % n + 1)) (n * n) k vectors
+Inv-loop result₀ vectors₀ array n first k₀ k-end result vectors k =
+    (k ≤ n * n) × Filled nan (λ i. matrixIn n (array .tiles) (i / n + 1) (i % n + 1)) (n * n) k result
+    × Filled nan (λ i. vectorsIn n (array .tiles) (i / n + 1) (i % n + 1)) (n * n) k vectors
 
 abbrev μ-loop : tie.MeasureT-loop
-μ-loop result₀ vectors₀ array n k₀ k-end result vectors k = n * n - k
+μ-loop result₀ vectors₀ array n first k₀ k-end result vectors k = n * n - k
 
 -- the row and the column of the entry that is written
 record Place (n k : ℕ) : Type 0 where
@@ -28,12 +28,15 @@ record Place (n k : ℕ) : Type 0 where
   few : n ≤ largestOrder
 
 abbrev at-start : tie.In-loop Inv-loop μ-loop → tie.Start Inv-loop μ-loop
-at-start c = c .before .before .before .before
+at-start c = c .before .before .before .before .before
 
 place : (c : tie.In-loop Inv-loop μ-loop) → Place (at-start c .args .t1 .n) (c .before .loop .k)
 place c =
     let n = at-start c .args .t1 .n in
     record { row-in = row-lt n (c .before .loop .k) (omega arith); column-in = column-lt n (c .before .loop .k) (omega arith); few = omega arith }
+
+first-line-requires : tie.Need-first-line-requires Inv-loop μ-loop
+first-line-requires c κs = search needs
 
 loop-holds : tie.Need-loop-holds Inv-loop μ-loop
 loop-holds c = (omega arith, filled-none _ (omega arith), filled-none _ (omega arith))
@@ -41,20 +44,32 @@ loop-holds c = (omega arith, filled-none _ (omega arith), filled-none _ (omega a
 div-i : tie.Need-div-i Inv-loop μ-loop
 div-i c = omega (arith, place c .row-in)
 
+add-i : tie.Need-add-i Inv-loop μ-loop
+add-i c = let p = place c in omega (arith, p .row-in, p .few)
+
+sub-i : tie.Need-sub-i Inv-loop μ-loop
+sub-i c = omega arith
+
 rem-j : tie.Need-rem-j Inv-loop μ-loop
 rem-j c = omega (arith, place c .row-in)
 
+add-j : tie.Need-add-j Inv-loop μ-loop
+add-j c = let p = place c in omega (arith, p .column-in, p .few)
+
+sub-j : tie.Need-sub-j Inv-loop μ-loop
+sub-j c = omega arith
+
 mul-tile : tie.Need-mul-tile Inv-loop μ-loop
-mul-tile c = let p = place c in let a = p .row-in in let b = p .column-in in let d = p .few in omega arith
+mul-tile c = let p = place c in omega (arith, p .row-in, p .column-in, p .few)
 
 add-tile : tie.Need-add-tile Inv-loop μ-loop
-add-tile c = let p = place c in let a = p .row-in in let b = p .column-in in let d = p .few in omega arith
+add-tile c = let p = place c in omega (arith, p .row-in, p .column-in, p .few)
 
 mul-tile-2 : tie.Need-mul-tile-2 Inv-loop μ-loop
-mul-tile-2 c = let p = place c in let a = p .row-in in let b = p .column-in in let d = p .few in omega arith
+mul-tile-2 c = let p = place c in omega (arith, p .row-in, p .column-in, p .few)
 
 element-copy-out-tile : tie.Need-element-copy-out-tile Inv-loop μ-loop
-element-copy-out-tile c = let p = place c in let a = p .row-in in let b = p .column-in in let d = p .few in omega arith
+element-copy-out-tile c = let p = place c in omega (arith, p .row-in, p .column-in, p .few)
 
 corner-requires : tie.Need-corner-requires Inv-loop μ-loop
 corner-requires c κs = search needs
@@ -85,10 +100,11 @@ unfolding tileAt noTile noPart noQuad
 loop-again c =
     let turn = c .before .before .before .before .before .before in
     let u = turn .before .loop .inv in
+    let e = turn .before .before .first-line .ensures in
     let t = at-start turn .args .t1 .tiles in (
       omega arith,
-      filled-next _ _ _ (u .1) (omega arith) (c .before .corner .ensures ∙ joined-at (λ i j. tileAt t i j .cells .matrix) _ _),
-      filled-next _ _ _ (u .2) (omega arith) (c .corner2 .ensures ∙ joined-at (λ i j. tileAt t i j .cells .vectors) _ _),
+      filled-next _ _ _ (u .1) (omega arith) (c .before .corner .ensures ∙ joined-at (λ i j. tileAt t i j .cells .matrix) _ _ e),
+      filled-next _ _ _ (u .2) (omega arith) (c .corner2 .ensures ∙ joined-at (λ i j. tileAt t i j .cells .vectors) _ _ e),
     )
 
 same-length : tie.Need-same-length Inv-loop μ-loop
@@ -108,9 +124,14 @@ write-cells-spec =
     (tie.spec
     Inv-loop
     μ-loop
+    first-line-requires
     loop-holds
     div-i
+    add-i
+    sub-i
     rem-j
+    add-j
+    sub-j
     mul-tile
     add-tile
     mul-tile-2

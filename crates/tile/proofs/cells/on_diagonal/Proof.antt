@@ -1,11 +1,13 @@
-use Rattle.runs.specs.Blocks.{matrixBlock}
-use Rattle.tile.specs.Turned.{onDiagonalOf}
+use Rattle.tile.proofs.DiagonalWork.{worked}
 use borrow.Author.Needs.{needs}
 use Rattle.tile.proofs.cells.on_diagonal.Statement.{statement}
 use Rattle.tile.proofs.cells.on_diagonal.Tie as tie
 
 of-pair-requires : tie.Need-of-pair-requires
 of-pair-requires c κs = search needs
+
+ruled-requires : tie.Need-ruled-requires
+ruled-requires c κs = search needs
 
 diagonal-requires : tie.Need-diagonal-requires
 diagonal-requires c κs = search needs
@@ -17,13 +19,13 @@ sent-requires : tie.Need-sent-requires
 sent-requires c κs = search needs
 
 returns : tie.Need-returns
-unfolding onDiagonalOf matrixBlock
 returns c =
     let turned = c .before in
     let sides = turned .before in
-    rw (← (sides .before .of-pair .ensures), ← (sides .diagonal .ensures), ← (turned .turn-columns .ensures), ← (c .sent .ensures))
+    let ruled = sides .before in
+    worked _ _ _ (ruled .before .of-pair .ensures) (ruled .ruled .ensures) (sides .diagonal .ensures) (turned .turn-columns .ensures) (c .sent .ensures)
 
 pub on-diagonal-spec : {M : Type 1} → statement M
 on-diagonal-spec =
     tie.close
-    (tie.spec of-pair-requires diagonal-requires turn-columns-requires sent-requires returns)
+    (tie.spec of-pair-requires ruled-requires diagonal-requires turn-columns-requires sent-requires returns)
