@@ -150,25 +150,25 @@ module _ (n sweeps : ℕ) (l : List Float) (order : isOrder n ≡ true) (few : s
       ∙ ticked-is (ticksOf n sweeps) (omega arith)
 
   -- ---- the end
-  steps-odd : K ≡ sweeps * (2 * m + 1)
-  steps-odd = ap (λ k. sweeps * k) (sweep-is n order)
+  whole-sweeps : K ≡ sweeps * (2 * m + 1)
+  whole-sweeps = ap (λ k. sweeps * k) (sweep-is n order)
 
   last-tick : ticksOf n sweeps ≡ 3 * (sweeps * (2 * m + 1)) + suc m
-  last-tick = let h = order-half n order .0 in let e : suc m ≡ N = omega arith in rw (e, ← steps-odd)
+  last-tick = let h = order-half n order .0 in let e : suc m ≡ N = omega arith in rw (e, ← whole-sweeps)
 
   abbrev lastTiles : List Tile
   lastTiles = tilesBy (ticksOf n sweeps)
 
   last-as : (i j : ℕ) → i ≤ m → j ≤ m
       → theArray lastTiles i j ≡ arrayAfter S m (sweeps * (2 * m + 1)) (3 * (sweeps * (2 * m + 1)) + suc m) i j
-  last-as i j hi hj = rw (← last-tick, ← steps-odd) (tiles-are (ticksOf n sweeps) i j hi hj)
+  last-as i j hi hj = rw (← last-tick, ← whole-sweeps) (tiles-are (ticksOf n sweeps) i j hi hj)
 
   cells-are : (u z : Slot) → u .processor ≤ m → z .processor ≤ m
       → pick (λ i j. theArray lastTiles i j .cells) u z ≡ cellOf (after n K X) (inOrder (firstLine n) u) (inOrder (firstLine n) z)
   cells-are u z p q =
       unfold pick in (ap (λ (x : theory.Tile Cell Float Float). cell (u .side) (z .side) (x .cells)) (last-as (u .processor) (z .processor) p q))
       ∙ agreement (rules s) (firstLine n) m (cellOf X) (cellWith plusZero plusZero) plusZero plusZero sweeps .cells u z p q
-      ∙ rw (← steps-odd) (ap (λ (f : ℕ → ℕ → Cell). f (inOrder (firstLine n) u) (inOrder (firstLine n) z)) (plain-sequential s order X K))
+      ∙ rw (← whole-sweeps) (ap (λ (f : ℕ → ℕ → Cell). f (inOrder (firstLine n) u) (inOrder (firstLine n) z)) (plain-sequential s order X K))
 
   -- the slot of a real line
   abbrev slotBy : ℕ → Slot
@@ -195,7 +195,7 @@ module _ (n sweeps : ℕ) (l : List Float) (order : isOrder n ≡ true) (few : s
   last-marked f =
       unfold someMarked in (marks-same)
       ∙ agreement (rules s) (firstLine n) m (cellOf X) (cellWith plusZero plusZero) plusZero plusZero sweeps .mark (rw whole (fails-are s order X X ∙ f))
-      ∙ rw (whole, ← steps-odd) (plain-fails s order X K)
+      ∙ rw (whole, ← whole-sweeps) (plain-fails s order X K)
     where
       whole : 2 * suc m ≡ linesOf n
       whole = let h = order-half n order .0 in omega arith

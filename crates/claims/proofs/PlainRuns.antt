@@ -23,6 +23,7 @@ use Rattle.runs.specs.State.{State, bordered, startOf, identity}
 use Rattle.runs.specs.Blocks.{ruled}
 use Rattle.runs.proofs.LineZero.{bordered-real, row-0, column-0, always-still, not-still}
 use Rattle.plain_run.specs.State.{pairsRotated, after, spoiled}
+use Rattle.plain_run.proofs.ProcessorPairs.{one-pair-more}
 use Rattle.plain_run.proofs.RunResults.{last-matrices, spoiled-by, BadEntry, bad-entry, bad-real-entry}
 use Rattle.step_records.specs.Records.{recordOf}
 use Rattle.step_records.proofs.FoundRecords.{accepted-call, record-found, answer-given}
@@ -35,7 +36,9 @@ in-order : (n : ℕ) (list : PairList) (k : ℕ) (X : State)
     → pairsRotated n (list .registers .left) (list .registers .right) k X ≡ processorsTurned n list k X
 unfolding pairsRotated processorsTurned
 in-order n list zero X = refl
-in-order n list (suc k) X = let e : suc k - 1 ≡ k = omega arith in rw (e, in-order n list k X)
+in-order n list (suc k) X =
+    let e : suc k - 1 ≡ k = omega arith in
+    one-pair-more n (list .registers .left) (list .registers .right) k X ∙ rw (e, in-order n list k X)
 
 line-0 : (A : ℕ → ℕ → Float) (r c : ℕ) → (r ≡ 0) ⊎ (c ≡ 0) → bordered A r c ≡ plusZero
 line-0 A r c (inl e) = sym (row-0 A r c e)

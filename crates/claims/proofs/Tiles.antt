@@ -22,7 +22,7 @@ use Rattle.rotation.specs.Rotation.{sent}
 use Rattle.matrix.specs.Matrix.{at}
 use Rattle.runs.specs.State.{identity, bordered, startOf}
 use Rattle.runs.specs.Blocks.{blockParameters}
-use Rattle.runs.specs.Cells.{Cell, cell, cellOf, blockEntries, Setting, setting}
+use Rattle.runs.specs.Cells.{Cell, cell, cellOf, blockEntries, Setting, setting, ruledBlock}
 use Rattle.runs.proofs.BlockTurns.{rows-turned, columns-turned}
 use Rattle.tile_schedule.specs.Answers.{made, progressAnswered}
 use Rattle.tile.specs.Tiles.{operations}
@@ -33,7 +33,7 @@ use Rattle.array.specs.declared.Ticked.{Ticked}
 use Rattle.array.specs.Arrays.{Ticks}
 use Rattle.array.specs.Runs.{startArray, Starts}
 use Rattle.array.proofs.MadeTicks.{made-array, made-tile, started-array, started-tile, begun}
-use Rattle.claims.specs.Tiles.{OneTile, tileIn, cellsRotated, CellsTicked, ParametersTicked, Sets, WiresTicked, TileTicked}
+use Rattle.claims.specs.Tiles.{OneTile, tileIn, diagonalParameters, cellsRotated, CellsTicked, ParametersTicked, Sets, WiresTicked, TileTicked}
 use Rattle.claims.specs.Tiles.{TickMade, cellAtFirst, TileStarted, StartMade, TilesAsPrinted}
 use Rattle.claims.proofs.FirstProcessor.{ruled-first}
 
@@ -54,8 +54,12 @@ module _ (n last K T : ℕ) (A : ℕ → ℕ → OneTile) (i j : ℕ) where
   abbrev v : Float
   v = A (nearer j i) j .columnWire
 
+  -- on the diagonal
+  ruled-as : (b : Block Cell) → ruledBlock s i b ≡ diagonalParameters n i b
+  ruled-as b = ruled-first n i (blockParameters (blockEntries b))
+
   turned : (k : ℕ) (b : Block Cell) → turnTile (operations s) k i j h v b ≡ cellsRotated n i j h v b
-  turned k b = tile-turns s k i b j h v ∙ simp (rows-turned, columns-turned, ruled-first)
+  turned k b = tile-turns s k i b j h v ∙ simp (rows-turned, columns-turned, ruled-as)
 
   cells-ticked : CellsTicked n K T i j (A i j) new brought h v
   cells-ticked =
@@ -72,7 +76,7 @@ module _ (n last K T : ℕ) (A : ℕ → ℕ → OneTile) (i j : ℕ) where
         sends = λ k l e d.
             let w = ticks.parameters-sent (operations s) last K T A i j k l (omega arith) in
             let z = tile-sends s k i (cond (eqb k 0) (A i j .cells) brought) in
-            let y = ap sent (ruled-first n i (blockParameters (blockEntries (cond (eqb k 0) (A i j .cells) brought)))) in
+            let y = ap sent (ruled-as (cond (eqb k 0) (A i j .cells) brought)) in
             (w .0 ∙ rw (eq-eqb i j d) (z .0) ∙ y, w .1 ∙ rw (eq-eqb i j d) (z .1) ∙ y);
         passes-on = λ k l e d.
             let w = ticks.parameters-sent (operations s) last K T A i j k l e in (w .0 ∙ rw (ne-eqb i j d), w .1 ∙ rw (ne-eqb i j d));

@@ -54,7 +54,7 @@ unfoldable pub codesPrinted : ℕ → List ℕ → (ℕ → ℕ → Float) → (
 codesPrinted n codes A E zero = []
 codesPrinted n codes A E (suc k) = codesPrinted n codes A E k ++ codePrinted n (getD codes k 0) A E (suc k)
 
--- First line: n, S, ticks. Then a line for each code.
+-- First line: n, S, ticks. Then a line for each code, so for the real lines only.
 abbrev pub sheetPrinted : List ℕ → ℕ → List ℕ
 sheetPrinted b ticks =
     let n = orderIn b in

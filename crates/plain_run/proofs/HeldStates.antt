@@ -19,7 +19,7 @@ use Rattle.runs.proofs.LineZero.{not-still}
 use Rattle.plain_pair.proofs.RuledPairs.{rotated-by}
 use Rattle.plain_pair.proofs.AlikeStates.{Alike, alike-sym, alike-trans, turned-alike, held-alike, read-alike}
 use Rattle.plain_run.specs.State.{Paired, pairsRotated, after}
-use Rattle.plain_run.proofs.ProcessorPairs.{registers-paired, rests-alike, rotated-alike}
+use Rattle.plain_run.proofs.ProcessorPairs.{one-pair-more, registers-paired, rests-alike, rotated-alike}
 
 module _ (n : ℕ) (ls rs : List ℕ) where
   pub pairs-alike : (N : ℕ) → Paired n ls rs N → (X Y : State) → Alike n X Y → Alike n (pairsRotated n ls rs N X) (pairsRotated n ls rs N Y)
@@ -40,10 +40,9 @@ module _ (n : ℕ) (l e l′ e′ : List Float) (X : State) (held : Held n l e X
   pub pair-next : (P : Parameters) (ls rs : List ℕ) (k : ℕ) (Y : State) → stillOf n ≤ k → twoLines n (getD ls k 0) (getD rs k 0) (n * n) ≡ true
       → X ≡ pairsRotated n ls rs k Y → P ≡ parametersOf (getD ls k 0) (getD rs k 0) (X .matrix)
       → Held n l′ e′ (stateTurned P (getD ls k 0) (getD rs k 0) (stateOf n l e)) → Held n l′ e′ (pairsRotated n ls rs (k + 1) Y)
-  unfolding pairsRotated
   pair-next P ls rs k Y w two z f h =
       let t = are-two n _ _ (n * n) two in
-      rw (add-one, ← z, rotated-by n k (getD ls k 0) (getD rs k 0) X (f ∙ not-still n k _ w))
+      rw (add-one, one-pair-more n ls rs k Y, ← z, rotated-by n k (getD ls k 0) (getD rs k 0) X (f ∙ not-still n k _ w))
       (held-alike n l′ e′ _ _ h (turned-alike n (getD ls k 0) (getD rs k 0) (first-line t) (second-line t) P _ _ (read-alike n l e X held)))
 
   -- one step more

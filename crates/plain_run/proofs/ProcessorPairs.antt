@@ -1,7 +1,8 @@
 -- The pairs of the processors: two real lines that turn by their own parameters, or line 0 and another, still. Assumes nothing.
-use Prim.Native.Nat.{ℕ, _*_, _≤_, _<_}
+use Prim.Native.Nat.{ℕ, suc, _*_, _≤_, _<_}
 use mathlib.Core.Path.{_≡_, refl}
 use mathlib.Core.Bool.{Bool, true, false}
+use mathlib.Core.List.{List}
 use mathlib.Core.Logic.{_≢_}
 use native.Mathlib.Omega.{arith}
 use borrow.Author.Tests.{ltb-true, ltb-false}
@@ -17,7 +18,13 @@ use Rattle.runs.proofs.LineZero.{always-still}
 use Rattle.plain_pair.specs.Pair.{pairRotated}
 use Rattle.plain_pair.proofs.RuledPairs.{rotated-by}
 use Rattle.plain_pair.proofs.AlikeStates.{Alike, alike-sym, alike-trans, still-alike, pair-alike}
-use Rattle.plain_run.specs.State.{ProcessorPair, real-lines, line-0, Paired}
+use Rattle.plain_run.specs.State.{ProcessorPair, real-lines, line-0, Paired, pairsRotated}
+
+-- the pair of processor k comes after those of all processors before it
+pub one-pair-more : (n : ℕ) (ls rs : List ℕ) (k : ℕ) (X : State)
+    → pairsRotated n ls rs (suc k) X ≡ pairRotated n k (getD ls k 0) (getD rs k 0) (pairsRotated n ls rs k X)
+unfolding pairsRotated
+one-pair-more n ls rs k X = refl
 
 -- the registers of a step hold such pairs
 pub registers-paired : (n : ℕ) → isOrder n ≡ true → (s : ℕ) → Paired n (registersAt n s .left) (registersAt n s .right) (processorsOf n)
