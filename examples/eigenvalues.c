@@ -1,4 +1,7 @@
-/* The eigenvalues of four coded lines: by plain sweeps, by the array in one call, and by the array tick by tick. */
+/*
+ * The eigenvalues of four coded lines: by plain sweeps, by the array in one call, and by the array tick by tick. First,
+ * what the array's run will take.
+ */
 #include "weimrukas.h"
 
 #include <math.h>
@@ -25,6 +28,12 @@ static void accepted(int number) {
         fprintf(stderr, "refused %d\n", number);
         exit(1);
     }
+}
+
+static void forecast(void) {
+    size_t ticks = 0, values = 0, parameters = 0;
+    accepted(weimrukas_forecast(N, SWEEPS, &ticks, &values, &parameters));
+    printf("forecast: %zu ticks, %zu values set on wires, %zu parameters received\n", ticks, values, parameters);
 }
 
 static void run(void) {
@@ -77,6 +86,7 @@ int main(void) {
         fprintf(stderr, "the floating-point environment is not the default one: the bits would not hold\n");
         return 1;
     }
+    forecast();
     run();
     run_by_hand();
     use_sheet();

@@ -58,7 +58,7 @@ extern "C" {
 #define WEIMRUKAS_RESTRICT restrict
 #endif
 
-#define WEIMRUKAS_VERSION "0.4.0"
+#define WEIMRUKAS_VERSION "0.5.0"
 
 #define WEIMRUKAS_MOST_LINES 32 /* the largest order */
 #define WEIMRUKAS_MOST_SWEEPS 16
@@ -124,6 +124,15 @@ uint8_t weimrukas_array_run(size_t n, size_t sweeps, const double *matrix, size_
                             double *WEIMRUKAS_RESTRICT result, size_t result_length, double *WEIMRUKAS_RESTRICT vectors,
                             size_t vectors_length, size_t *WEIMRUKAS_RESTRICT ticks, size_t *WEIMRUKAS_RESTRICT row,
                             size_t *WEIMRUKAS_RESTRICT column);
+
+/*
+ * What a run by the array takes, before it is made: *ticks becomes the number of its ticks, *values that of the values
+ * of the matrix and the eigenvectors that tiles set on their wires, *parameters that of the parameters, a tangent each,
+ * that tiles off the diagonal receive. With K = sweeps times the steps of a sweep they are 3 K + N, 8 N N K and
+ * 2 N (N - 1) K, where n is even and where it is odd. A run that will answer 8 takes the same. 1, 2.
+ */
+uint8_t weimrukas_forecast(size_t n, size_t sweeps, size_t *WEIMRUKAS_RESTRICT ticks, size_t *WEIMRUKAS_RESTRICT values,
+                           size_t *WEIMRUKAS_RESTRICT parameters);
 
 /*
  * Takes a sheet of either form apart: *n and *sweeps, n codes, and the whole matrix. The caller lends as many codes and

@@ -58,11 +58,14 @@ class Tile:
 
 
 class Array:
-    """A record with one value in every cell and line. Tiles beyond row and column N are not in use."""
+    """A record with one value in every cell and line. Tiles beyond row and column N are not in use. Beside the record
+    it counts what its ticks do: the values set on matrix and vector lines, and the parameters received off the
+    diagonal."""
 
     def __init__(self, n, sweeps, tick, value):
         self.n, self.sweeps, self.tick = n, sweeps, tick
         self.tiles = {(i, j): Tile(value) for i in range(1, MOST + 1) for j in range(1, MOST + 1)}
+        self.values_set = self.received = 0
 
     @property
     def N(self):
@@ -251,10 +254,12 @@ def work(array, i, j, brought):
         rotate_diagonal(tile, plain.always_still(array.n, i))
     elif brought:
         rotate_off_diagonal(tile, i < j, *brought[1])
+        array.received += len(brought[1])
     for corner in lines_set(array.N, i, j, since % 3):
         cell = leaving(i, j)[CORNERS.index(corner)]
         for cells, lines in zip(tile.cells, tile.lines):
             lines[corner] = cells[cell]
+            array.values_set += 1
 
 
 def is_finite(tile):

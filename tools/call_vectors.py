@@ -1,22 +1,23 @@
 #!/usr/bin/env python3
-"""Writes crates/test_calls/stdin and crates/test_calls/stdout: square roots, the parameters of pairs, lists of pairs and the
-records of steps, and what comes of them by document 01.
+"""Writes crates/test_calls/stdin and crates/test_calls/stdout: square roots, the parameters of pairs, lists of pairs, the
+records of steps and forecasts of runs, and what comes of them by documents 01 and 02.
 
-A case begins with a word for its kind: 0 is a square root, 1 the parameters of a pair, 2 a list of pairs and 3 the records of
-a step. Its other words and its answer are those of root_vectors.py, rotation_vectors.py, ordering_vectors.py and
-records_vectors.py.
+A case begins with a word for its kind: 0 is a square root, 1 the parameters of a pair, 2 a list of pairs, 3 the records of a
+step and 4 a forecast. Its other words and its answer are those of root_vectors.py, rotation_vectors.py, ordering_vectors.py,
+records_vectors.py and forecast_vectors.py.
 """
 import argparse
 import pathlib
 import sys
 
 sys.dont_write_bytecode = True  # the imports below leave no file
+import forecast_vectors as forecast
 import ordering_vectors as ordering
 import records_vectors as records
 import root_vectors as root
 import rotation_vectors as rotation
 
-MODELS = [root, rotation, ordering, records]  # by the word for the kind
+MODELS = [root, rotation, ordering, records, forecast]  # by the word for the kind
 
 
 def lines_of(kind):

@@ -1,6 +1,6 @@
-//! The eigenvalues of four coded lines: by plain sweeps, by the array in one call, and by the array tick by tick. It
-//! prints what the example in C prints.
-use weimrukas::{Array, Refusal};
+//! The eigenvalues of four coded lines: by plain sweeps, by the array in one call, and by the array tick by tick.
+//! First, what the array's run will take. It prints what the example in C prints.
+use weimrukas::{Array, Forecast, Refusal};
 
 const N: usize = 4;
 const SWEEPS: usize = 8;
@@ -17,6 +17,7 @@ const MATRIX: Matrix = [
 ];
 
 fn main() -> Result<(), Refusal> {
+    forecast()?;
     let (mut result, mut vectors) = ([0.0; N * N], [0.0; N * N]);
     weimrukas::plain_run(N, SWEEPS, &MATRIX, &mut result, &mut vectors)?;
     run(&result, &vectors)?;
@@ -27,6 +28,17 @@ fn main() -> Result<(), Refusal> {
     if let Err(refusal) = weimrukas::plain_run(N, SWEEPS, &matrix, &mut result, &mut vectors) {
         println!("{refusal}");
     }
+    Ok(())
+}
+
+fn forecast() -> Result<(), Refusal> {
+    let Forecast {
+        ticks,
+        values,
+        parameters,
+    } = weimrukas::forecast(N, SWEEPS)?;
+    print!("forecast: {ticks} ticks, ");
+    println!("{values} values set on wires, {parameters} parameters received");
     Ok(())
 }
 

@@ -64,6 +64,13 @@ extern "C" {
         row: *mut usize,
         column: *mut usize,
     ) -> u8;
+    fn weimrukas_forecast(
+        n: usize,
+        sweeps: usize,
+        ticks: *mut usize,
+        values: *mut usize,
+        parameters: *mut usize,
+    ) -> u8;
     fn weimrukas_read_sheet(
         sheet: *const u8,
         sheet_length: usize,
@@ -201,6 +208,16 @@ pub fn array_run(
             &mut place.column,
         )
     }
+}
+
+pub fn forecast(
+    n: usize,
+    sweeps: usize,
+    ticks: &mut usize,
+    values: &mut usize,
+    parameters: &mut usize,
+) -> u8 {
+    unsafe { weimrukas_forecast(n, sweeps, ticks, values, parameters) }
 }
 
 pub fn read_sheet(

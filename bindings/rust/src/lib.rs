@@ -35,6 +35,16 @@ pub enum Parameters {
     Turn(f64, f64, f64),
 }
 
+/// What a run by the array takes.
+#[derive(Clone, Copy, Debug, PartialEq, Eq)]
+pub struct Forecast {
+    pub ticks: usize,
+    /// Values of the matrix and the eigenvectors that tiles set on their wires.
+    pub values: usize,
+    /// Parameters, a tangent each, that tiles off the diagonal receive.
+    pub parameters: usize,
+}
+
 /// The f64 nearest to the exact square root of x.
 pub fn root(x: f64) -> Result<f64, Refusal> {
     let mut root = 0.0;
@@ -97,6 +107,19 @@ pub fn array_run(
     let (mut ticks, mut place) = (0, Place::default());
     let number = calls::array_run(n, sweeps, matrix, result, vectors, &mut ticks, &mut place);
     answer(number, place, ticks)
+}
+
+/// What a run by the array takes, before it is made: by the order and the sweeps alone, for a run that will be refused
+/// by 8 too.
+pub fn forecast(n: usize, sweeps: usize) -> Result<Forecast, Refusal> {
+    let (mut ticks, mut values, mut parameters) = (0, 0, 0);
+    let number = calls::forecast(n, sweeps, &mut ticks, &mut values, &mut parameters);
+    let forecast = Forecast {
+        ticks,
+        values,
+        parameters,
+    };
+    answer(number, Place::default(), forecast)
 }
 
 /// Reads a sheet into lent codes and a lent matrix, and answers the order and the sweeps. The order is the first byte

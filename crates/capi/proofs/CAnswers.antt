@@ -3,14 +3,12 @@ use Prim.Native.Nat.{ℕ}
 use mathlib.Core.Path.{_≡_, ap}
 use mathlib.Core.List.{List, [], _∷_}
 use lib.Ieee.{Float}
-use Rattle.refusal.specs.Answers.{Answered}
+use Rattle.refusal.specs.Answers.{Answered, given, refusedBy}
 use Rattle.refusal.specs.Refusal.{numberOf, valuesOf}
 use Rattle.refusal.specs.declared.Refusal.{Refusal}
 use Rattle.runs.specs.Outcome.{Outcome, outcome}
-use Rattle.root.specs.declared.Root.{Root}
-use Rattle.root.specs.declared.Root.the-variants as root
-use Rattle.root.specs.Sqrt.{rootAnswered}
 use Rattle.rotation.specs.declared.Parameters.{Parameters}
+use Rattle.forecast.specs.declared.Figures.{Figures}
 use Rattle.step_records.specs.declared.Record.{Record}
 use Rattle.step_records.specs.Records.{recordOf}
 use Rattle.sheet_reader.specs.declared.Reading.{Reading}
@@ -25,7 +23,7 @@ use Rattle.array_run.specs.declared.Completion.{Completion}
 use Rattle.array_run.specs.declared.Completion.the-variants.{Completed, Refused}
 use Rattle.array_run.specs.Whole.{completionAnswered}
 use Rattle.capi.specs.CAnswers.{CAnswer, cAnswer, placeOr, refusedAs, cAnswerOf, numberAnswered}
-use Rattle.capi.specs.Calls.{ofRoot, turns, ofParameters, ofRun, ofWhole, ofReading, ofWriting, ofListing}
+use Rattle.capi.specs.Calls.{numberAndValue, figures, turns, ofParameters, ofRun, ofWhole, ofReading, ofWriting, ofListing}
 
 -- ---- the lent row and column
 module _ (i j : ℕ) where
@@ -87,15 +85,20 @@ module _ (i j : ℕ) where
   unfolding ofListing
   list-said o h k = rw k (ap (λ (x : ListingOutcome). ofListing x i j) h)
 
--- ---- a root
-module _ (old : Float) (x : Root) where
-  pub root-given : {a : Answered Float} (y : Float) → x ≡ root.Of y → rootAnswered x ≡ a → (0, y) ≡ ofRoot a old
-  unfolding ofRoot numberAnswered
-  root-given y z h = ap (λ (a : Answered Float). ofRoot a old) (rw z at h)
+-- ---- a value
+module _ {A : Type 0} (old : A) {a : Answered A} where
+  pub value-given : (x : A) → given x ≡ a → (0, x) ≡ numberAndValue a old
+  unfolding numberAndValue numberAnswered
+  value-given x e = rw (← e)
 
-  pub root-refused : {a : Answered Float} {k : ℕ} (r : Refusal) → x ≡ root.Refused r → rootAnswered x ≡ a → k ≡ numberOf r → (k, old) ≡ ofRoot a old
-  unfolding ofRoot numberAnswered
-  root-refused r z h e = rw e (ap (λ (a : Answered Float). ofRoot a old) (rw z at h))
+  pub value-refused : {k : ℕ} (r : Refusal) → refusedBy r ≡ a → k ≡ numberOf r → (k, old) ≡ numberAndValue a old
+  unfolding numberAndValue numberAnswered
+  value-refused r e f = rw (← e, f)
+
+-- ---- a forecast
+pub forecast-given : (old : Figures) {a : Answered Figures} (f : Figures) {ticks values parameters : ℕ} → given f ≡ a → ticks ≡ f .ticks → values ≡ f .values
+    → parameters ≡ f .parameters → (0, figures ticks values parameters) ≡ numberAndValue a old
+forecast-given old f e t v p = rw (t, v, p) (value-given old f e)
 
 -- ---- the parameters of a pair
 pub parameters-said : {P Q : Parameters} {x : Record} {k : ℕ} {t c s : Float} → P ≡ Q → x ≡ recordOf P → k ≡ turns P → t ≡ x .t → c ≡ x .c → s ≡ x .s

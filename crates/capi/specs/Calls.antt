@@ -12,6 +12,7 @@ use Rattle.lists.specs.Tabulate.{tabulate}
 use Rattle.rotation.specs.declared.Parameters.{Parameters}
 use Rattle.rotation.specs.declared.Parameters.the-variants.{Still, Turn}
 use Rattle.sizes.specs.Sizes.{isOrder, processorsOf, orderRow}
+use Rattle.forecast.specs.declared.Figures.{Figures}
 use Rattle.ordering.specs.Pairs.{orNone, registersAt}
 use Rattle.runs.specs.Outcome.{Outcome, beforeRun}
 use Rattle.step_records.specs.declared.Record.{Record}
@@ -26,9 +27,13 @@ use Rattle.sheet_writer.specs.Writer.{WriteOutcome}
 use Rattle.listing.specs.Listing.{ListingOutcome}
 use Rattle.capi.specs.CAnswers.{CAnswer, cAnswerOf, numberAnswered}
 
--- ---- root: the number, and the lent root
-unfoldable pub ofRoot : Answered Float → Float → ℕ × Float
-ofRoot a y = (numberAnswered a, valueOr a y)
+-- ---- a root, a forecast: the number, and what is lent for the value
+unfoldable pub numberAndValue : {A : Type 0} → Answered A → A → ℕ × A
+numberAndValue a y = (numberAnswered a, valueOr a y)
+
+-- The figures of a forecast as they are lent.
+abbrev pub figures : ℕ → ℕ → ℕ → Figures
+figures ticks values parameters = record { ticks = ticks; values = values; parameters = parameters }
 
 -- ---- parameters: 1 for a turn and 0 for still, and the record
 abbrev pub turns : Parameters → ℕ

@@ -2,13 +2,13 @@
 ghost use mathlib.Core.Path.{_≡_};
 ghost use Rattle.root.specs.Sqrt.{sqrtOf};
 ghost use Rattle.rotation.specs.Rotation.{ofPair};
-ghost use Rattle.capi.specs.Calls.{ofRoot, turns, ofParameters};
+ghost use Rattle.capi.specs.Calls.{numberAndValue, turns, ofParameters};
 use root::Root;
 use rotation::Parameters;
 
 #[no_mangle]
 pub extern "C" fn weimrukas_root(x: f64, found: &mut f64) -> u8
-    ensures { λ r. ⌜ (r, now (found .exit)) ≡ ofRoot (sqrtOf x) (now (found .entry)) ⌝ }
+    ensures { λ r. ⌜ (r, now (found .exit)) ≡ numberAndValue (sqrtOf x) (now (found .entry)) ⌝ }
 {
     match root::sqrt(x) {
         Root::Of(y) => {

@@ -8,6 +8,7 @@ use Rattle.claims.proofs.PlainRuns.{plain-runs-as-stated}
 use Rattle.claims.proofs.Tiles.{tiles-as-printed}
 use Rattle.claims.proofs.Listings.{listings-as-stated}
 use Rattle.claims.proofs.Histories.{one-history}
+use Rattle.claims.proofs.Forecasts.{forecasts-as-stated}
 use Rattle.claims.proofs.Examples.{examples-hold}
 
 pub demands-met : Demands
@@ -21,5 +22,6 @@ demands-met =
       demand-2-sheets = sheets-kept;
       demand-2-listings = listings-as-stated;
       demand-3 = one-history;
+      forecasts = forecasts-as-stated;
       examples-hold = examples-hold;
     }

@@ -11,6 +11,7 @@ use Rattle.refusal.specs.Answers.{Answered, given, refused, answered, giving}
 use Rattle.refusal.proofs.FirstRefusal.{refused-given}
 use Rattle.refusal.proofs.RefusedOutcomes.{giving-given}
 use Rattle.lists.proofs.Bounded.{count-none}
+use Rattle.systolic.proofs.Clock.{receiving}
 use Rattle.ordering.proofs.Meetings as ordering
 use Rattle.sizes.specs.Sizes.{isOrder, ticksOf}
 use Rattle.matrix.proofs.AcceptedEntries.{accepted-long, accepted-if}
@@ -116,6 +117,6 @@ one-history =
       no-bit-differs = no-bit-differs;
       every-run-by-hand = by-hand;
       no-bit-differs-by-hand = no-bit-differs-by-hand;
-      neighbourhood = λ x y e f g r s p q i j. neighbours.array-neighbourhood x y e f g i j p q;
+      neighbourhood = λ x y e f g r s p q i j. neighbours.array-neighbourhood x y e f g i j (λ z. receiving _ _ i j z .off-diagonal) p q;
       meet-once = ordering.meet-once;
     }

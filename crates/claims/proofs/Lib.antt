@@ -7,6 +7,7 @@ pub mod Refusals
 pub mod Report
 pub mod Sheets
 pub mod Histories
+pub mod Forecasts
 pub mod Tiles
 pub mod Demands
 pub mod FirstProcessor

@@ -9,6 +9,7 @@ use Rattle.claims.specs.PlainRuns.{PlainRunsAsStated}
 use Rattle.claims.specs.Tiles.{TilesAsPrinted}
 use Rattle.claims.specs.Listings.{ListingsAsStated}
 use Rattle.claims.specs.Histories.{OneHistory}
+use Rattle.claims.specs.Forecasts.{ForecastsAsStated}
 use Rattle.claims.specs.Examples.{All, examples}
 
 pub record Demands : Type 0 where
@@ -20,4 +21,5 @@ pub record Demands : Type 0 where
   pub demand-2-sheets : SheetsKept
   pub demand-2-listings : ListingsAsStated
   pub demand-3 : OneHistory
+  pub forecasts : ForecastsAsStated
   pub examples-hold : All examples

@@ -6,5 +6,6 @@ pub mod Sheets
 pub mod PlainRuns
 pub mod Tiles
 pub mod Histories
+pub mod Forecasts
 pub mod Listings
 pub mod Examples

@@ -3,3 +3,4 @@ pub mod Filled
 pub mod Replaced
 pub mod Over
 pub mod Bounded
+pub mod Sums

@@ -1,4 +1,4 @@
--- Tests over the numbers below a bound. Definitions only.
+-- Tests and sums over the numbers below a bound. Definitions only.
 use Prim.Native.Nat.{ℕ, zero, suc, _+_}
 use mathlib.Core.Bool.{Bool, false, cond, _||_}
 
@@ -11,3 +11,8 @@ count f (suc n) = cond (f n) 1 0 + count f n
 unfoldable pub any : ℕ → (ℕ → Bool) → Bool
 any zero f = false
 any (suc n) f = any n f || f n
+
+-- the sum of f 0 to f (n - 1)
+unfoldable pub total : ℕ → (ℕ → ℕ) → ℕ
+total zero f = 0
+total (suc n) f = total n f + f n

@@ -1,12 +1,12 @@
 -- What a tile does at a tick, as facts on the tick. Assumes nothing.
 use Prim.Native.Nat.{ℕ, zero, suc, _+_, _-_, _*_, _/_, _%_, _≤_, _<_}
-use mathlib.Core.Path.{_≡_, refl}
-use mathlib.Core.Bool.{Bool, true, false, cond}
+use mathlib.Core.Path.{_≡_, refl, sym}
+use mathlib.Core.Bool.{Bool, true, false, not, cond, _&&_, true≢false}
 use native.Mathlib.Omega.{arith}
 use borrow.Author.Tests.{ltb-true, ltb-false, eqb-true, eqb-false, eq-eqb, ne-eqb}
 use lib.Dec.{ltb, eqb}
-use Rattle.systolic.specs.Tiles.{Action, idle, first, rotate, phase1, phase2, final, action, actionAt, stepAt, phaseIn}
-use Rattle.systolic.specs.Traffic.{rotates, changesCells}
+use Rattle.systolic.specs.Tiles.{distance, Action, idle, first, rotate, phase1, phase2, final, action, actionAt, stepAt, phaseIn}
+use Rattle.systolic.specs.Traffic.{rotates, receives, changesCells}
 
 pub data View (K δ t : ℕ) : Action → Type 0 where
   waiting : t < δ → View K δ t idle
@@ -116,16 +116,31 @@ module _ (K δ t : ℕ) where
       go idle (finished w) = absurd (omega arith)
       go idle (stepless w z) = absurd (omega arith)
 
-  pub no-rotation : ((k : ℕ) → k < K → ¬ (t ≡ δ + 3 * k)) → rotates (actionAt K δ t) ≡ false
-  no-rotation f = go (actionAt K δ t) (view K δ t)
+  pub rotates-at : (k : ℕ) → k < K → t ≡ δ + 3 * k → rotates (actionAt K δ t) ≡ true
+  rotates-at k h e = rw (rotation-at k h e) (either (eqb k 0))
     where
-      go : (a : Action) → View K δ t a → rotates a ≡ false
-      go idle v = refl
-      go first (starting w z) = absurd (f 0 z (omega arith))
-      go rotate (rotating n w z) = absurd (f (suc n) z w)
-      go phase1 v = refl
-      go phase2 v = refl
-      go final v = refl
+      either : (b : Bool) → rotates (cond b first rotate) ≡ true
+      either true = refl
+      either false = refl
+
+  -- and back
+  pub at-rotation : rotates (actionAt K δ t) ≡ true → (k : ℕ) × (k < K) × (t ≡ δ + 3 * k)
+  at-rotation = go (actionAt K δ t) (view K δ t)
+    where
+      go : (a : Action) → View K δ t a → rotates a ≡ true → (k : ℕ) × (k < K) × (t ≡ δ + 3 * k)
+      go idle v e = absurd (true≢false (sym e))
+      go first (starting w z) e = (0, z, omega arith)
+      go rotate (rotating n w z) e = (suc n, z, w)
+      go phase1 v e = absurd (true≢false (sym e))
+      go phase2 v e = absurd (true≢false (sym e))
+      go final v e = absurd (true≢false (sym e))
+
+  pub no-rotation : ((k : ℕ) → k < K → ¬ (t ≡ δ + 3 * k)) → rotates (actionAt K δ t) ≡ false
+  no-rotation f = go (rotates (actionAt K δ t)) refl
+    where
+      go : (b : Bool) → rotates (actionAt K δ t) ≡ b → b ≡ false
+      go true e = let w = at-rotation e in absurd (f (w .0) (w .1) (w .2))
+      go false e = refl
 
   pub no-change : ((k : ℕ) → 0 < K → k ≤ K → ¬ (t ≡ δ + 3 * k)) → changesCells (actionAt K δ t) ≡ false
   no-change f = go (actionAt K δ t) (view K δ t)
@@ -149,3 +164,19 @@ module _ (K δ t : ℕ) where
       go phase1 (setting-phase1 n w z) = let l = f (omega arith) in absurd (omega arith)
       go phase2 (setting-phase2 n w z) = let l = f (omega arith) in absurd (omega arith)
       go final v = refl
+
+-- what is known where tile (i, j) receives parameters
+pub record Receiving (K t i j : ℕ) : Type 0 where
+  pub off-diagonal : ¬ (i ≡ j)
+  pub step : ℕ
+  pub few : step < K
+  pub when : t ≡ distance i j + 3 * step
+
+pub receiving : (K t i j : ℕ) → receives K t i j ≡ true → Receiving K t i j
+unfolding receives
+receiving K t i j = go (eqb i j) refl
+  where
+    go : (b : Bool) → eqb i j ≡ b → (not b && rotates (actionAt K (distance i j) t)) ≡ true → Receiving K t i j
+    go true z e = absurd (true≢false (sym e))
+    go false z e =
+        let w = at-rotation K (distance i j) t e in record { off-diagonal = eqb-false _ _ z; step = w .0; few = w .1; when = w .2 }

@@ -7,6 +7,7 @@ pub mod Skew
 pub mod Ticks
 pub mod PrintedTables
 pub mod TileTicks
+pub mod TrafficCounts
 pub mod Neighbourhood
 pub mod Starts
 pub mod TurnOrder

@@ -10,11 +10,11 @@ use Rattle.systolic.specs.Blocks.{Block, cell, pick}
 use Rattle.systolic.specs.Synchronous.{Operations}
 use Rattle.systolic.specs.Tiles.{Tile, distance, joined, phaseOf, first, rotate, turnTile, newCells, newParameter, newWires, newTile, tickTile}
 use Rattle.systolic.specs.Arrays.{nearer, incoming, tick}
-use Rattle.systolic.specs.Traffic.{setsWire}
+use Rattle.systolic.specs.Traffic.{setsWire, receives}
 use Rattle.systolic.specs.Schedule.{interchange, leadsTo}
 use Rattle.systolic.proofs.Cells.{cell-tab, tab-ext, tab-cell}
 use Rattle.systolic.proofs.Wires.{phase-lt}
-use Rattle.systolic.proofs.Clock.{view, at-writes, step-at, rotation-at, reads-last, no-rotation, no-change, sets-none}
+use Rattle.systolic.proofs.Clock.{view, at-writes, step-at, rotation-at, reads-last, no-rotation, no-change, sets-none, receiving}
 use Rattle.systolic.proofs.PrintedTables.{values-printed, joined-twice, leads-printed}
 use Rattle.systolic.proofs.TurnOrder.{tile-kept, parameter-kept}
 
@@ -61,6 +61,14 @@ module _ {X H W : Type 0} (S : Operations X H W) (m K t : ℕ) (A : ℕ → ℕ 
     parameters-sent =
         rw (rotation-at K (distance i j) t k few e, step-at (distance i j) t k e)
         (parameter-by (S .sendsRow k i) i j _ _ _ _ (eqb k 0), parameter-by (S .sendsColumn k i) i j _ _ _ _ (eqb k 0))
+
+  pub parameters-received : receives K t i j ≡ true
+      → (tick S m K t A i j .rowWire ≡ A i (nearer i j) .rowWire) × (tick S m K t A i j .columnWire ≡ A (nearer j i) j .columnWire)
+  parameters-received e =
+      let r = receiving K t i j e in
+      let w = parameters-sent (r .step) (r .few) (r .when) in
+      let d = ne-eqb i j (r .off-diagonal) in
+      (w .0 ∙ rw d, w .1 ∙ rw d)
 
   pub cells-read-last : 0 < K → t ≡ distance i j + 3 * K → tick S m K t A i j .cells ≡ incoming m A i j
   unfolding tick tickTile newTile newCells

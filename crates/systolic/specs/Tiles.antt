@@ -90,10 +90,14 @@ phaseIn phase1 = 1
 phaseIn phase2 = 2
 phaseIn final = 3
 
+-- the tile (i, j) sets its wire by the corner (r, s) in an action
+abbrev pub setsIn : ℕ → Action → Side → Side → ℕ → ℕ → Bool
+setsIn m a r s i j = eqb (phaseIn a) (phaseOf m r s i j)
+
 -- the cell wires after the tick, from the cells c after it: a wire keeps its value until it is set
 unfoldable pub newWires : {X : Type 0} → ℕ → ℕ → ℕ → Action → Block X → Block X → Block X
 newWires m i j a c old =
-    tab (λ r s. cond (eqb (phaseIn a) (phaseOf m r s i j)) (cell (carried i r) (carried j s) c) (cell r s old))
+    tab (λ r s. cond (setsIn m a r s i j) (cell (carried i r) (carried j s) c) (cell r s old))
 
 -- the first part of a tick: the cells and the parameter wires
 abbrev pub turnedTile : {X H W : Type 0} → Operations X H W → ℕ → ℕ → ℕ → Action → Tile X H W → Block X → H → W → Tile X H W

@@ -1,13 +1,14 @@
--- What crosses the wires in a tick, as tests, so that it can be counted. Definitions only.
-use Prim.Native.Nat.{ℕ}
+-- What crosses the wires in a tick, as tests, and how often it does over many ticks. Definitions only.
+use Prim.Native.Nat.{ℕ, suc, _+_}
 use mathlib.Core.Bool.{Bool, true, false, not, _&&_, _||_}
 use lib.Dec.{eqb}
-use Rattle.systolic.specs.Slots.{Side}
-use Rattle.systolic.specs.Tiles.{distance, Action, idle, first, rotate, phase1, phase2, final, actionAt, phaseIn, phaseOf}
+use Rattle.lists.specs.Bounded.{count, total}
+use Rattle.systolic.specs.Slots.{Side, left, right}
+use Rattle.systolic.specs.Tiles.{distance, Action, idle, first, rotate, phase1, phase2, final, actionAt, setsIn}
 
 -- tile (i, j) sets its wire by the corner (r, s) in tick t
 unfoldable pub setsWire : ℕ → ℕ → ℕ → Side → Side → ℕ → ℕ → Bool
-setsWire m K t r s i j = eqb (phaseIn (actionAt K (distance i j) t)) (phaseOf m r s i j)
+setsWire m K t r s i j = setsIn m (actionAt K (distance i j) t) r s i j
 
 abbrev pub rotates : Action → Bool
 rotates idle = false
@@ -17,9 +18,13 @@ rotates phase1 = false
 rotates phase2 = false
 rotates final = false
 
--- tile (i, j) receives a parameter along its row and one along its column in tick t
+-- a tile (i, j) off the diagonal receives a parameter along its row and one along its column when it rotates
+abbrev pub receivesIn : Action → ℕ → ℕ → Bool
+receivesIn a i j = not (eqb i j) && rotates a
+
+-- it receives them in tick t
 unfoldable pub receives : ℕ → ℕ → ℕ → ℕ → Bool
-receives K t i j = not (eqb i j) && rotates (actionAt K (distance i j) t)
+receives K t i j = receivesIn (actionAt K (distance i j) t) i j
 
 -- A tile reads its cell wires.
 abbrev pub readsCells : Action → Bool
@@ -33,3 +38,20 @@ readsCells final = true
 -- A tile's cells change: it rotates, or takes in what its wires bring.
 abbrev pub changesCells : Action → Bool
 changesCells a = rotates a || readsCells a
+
+-- ---- over the ticks 0 to n - 1 of an array of m + 1 by m + 1 tiles that runs K steps
+-- how often a tile sets a wire, and its four wires
+abbrev pub timesSet : ℕ → ℕ → ℕ → Side → Side → ℕ → ℕ → ℕ
+timesSet m K n r s i j = count (λ t. setsWire m K t r s i j) n
+
+abbrev pub timesSetByTile : ℕ → ℕ → ℕ → ℕ → ℕ → ℕ
+timesSetByTile m K n i j =
+    timesSet m K n left left i j + timesSet m K n left right i j + timesSet m K n right left i j + timesSet m K n right right i j
+
+-- how often all tiles do
+unfoldable pub wiresSet : ℕ → ℕ → ℕ → ℕ
+wiresSet m K n = total (suc m) (λ i. total (suc m) (λ j. timesSetByTile m K n i j))
+
+-- how often tiles receive
+unfoldable pub tilesReceive : ℕ → ℕ → ℕ → ℕ
+tilesReceive m K n = total (suc m) (λ i. total (suc m) (λ j. count (λ t. receives K t i j) n))

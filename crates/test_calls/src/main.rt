@@ -1,8 +1,9 @@
 // Reads cases of the small calls, one word to a line, and writes what comes of each. A case begins with the number of its kind: 0 is a square
-// root, 1 the parameters of a pair, 2 a list of pairs and 3 the records of a step.
+// root, 1 the parameters of a pair, 2 a list of pairs, 3 the records of a step and 4 a forecast.
 // tools/call_vectors.py writes the input and the expected output.
 use test_io::TextLine;
 
+mod forecasts;
 mod orderings;
 mod records;
 mod roots;
@@ -26,6 +27,7 @@ fn answer_case() -> bool {
         1 => rotations::answer_pair(),
         2 => orderings::answer_list(),
         3 => records::answer_step(),
+        4 => forecasts::answer_forecast(),
         _ => false,
     }
 }

@@ -6,14 +6,14 @@ use mathlib.Core.List.{List, [], _∷_}
 use lib.Dec.{eqb}
 use Rattle.systolic.specs.Slots.{Side, left, right, flip, Slot, slot, moved, intoLast, cameFrom, next, prior, nextBy, lineAt, inOrder}
 use Rattle.systolic.specs.Slots.{meetIn, meetAt}
-use Rattle.lists.specs.Bounded.{any}
+use Rattle.lists.specs.Bounded.{count, any, total}
 use Rattle.systolic.specs.Blocks.{Block, cell, tab, pick}
 use Rattle.systolic.specs.Synchronous.{rotateAll, moveAll, blocksAt, rotatedAt, rowParameter, columnParameter}
 use Rattle.systolic.specs.Tiles.{Tile, carried, joined, phaseOf, action, actionAt, stepAt, turnTile}
 use Rattle.systolic.specs.Tiles.{newCells, newParameter, phaseIn, newWires, newTile, tickTile}
 use Rattle.systolic.specs.Arrays.{nearer, incoming, tick, arrayAfter}
 use Rattle.systolic.specs.Schedule.{interchange, Input, leadsTo, setInPhase0, setInPhase1, setInPhase2}
-use Rattle.systolic.specs.Traffic.{setsWire, receives}
+use Rattle.systolic.specs.Traffic.{setsWire, receives, wiresSet, tilesReceive}
 use Rattle.systolic.specs.Sequential.{turnRows, turnColumns, pairBlock, place, pairStep, pairsStep, sequential, failsIn}
 use Rattle.test_systolic.specs.Toy.{toy, entry, toyArray, stampedArray}
 
@@ -37,10 +37,6 @@ each (t ∷ ts) f = f t ∷ each ts f
 unfoldable pub upTo : ℕ → List ℕ
 unfolding listFrom
 upTo n = listFrom 0 (suc n) (λ t. t)
-
-unfoldable pub sum : ℕ → (ℕ → ℕ) → ℕ
-sum zero f = 0
-sum (suc n) f = sum n f + f n
 
 -- f 0, .., f (n - 1) beside each other, as digits to the base d
 unfoldable pub digits : ℕ → ℕ → (ℕ → ℕ) → ℕ
@@ -87,8 +83,8 @@ movesOver m = listFrom 0 (2 * m + 3) (λ s. digits 10 (2 * m + 2) (λ k. slotNum
 
 -- the steps of a sweep, from 1, in which p and q meet, added up
 unfoldable pub meetingStep : ℕ → ℕ → ℕ → ℕ → ℕ
-unfolding sum meetAt any meetIn lineAt inOrder slot prior cameFrom intoLast
-meetingStep b m p q = sum (2 * m + 1) (λ s. cond (meetAt (inOrder b) m s p q) (suc s) 0)
+unfolding total meetAt any meetIn lineAt inOrder slot prior cameFrom intoLast
+meetingStep b m p q = total (2 * m + 1) (λ s. cond (meetAt (inOrder b) m s p q) (suc s) 0)
 
 unfoldable pub meetingSteps : ℕ → ℕ → List ℕ
 unfolding listFrom digits meetingStep
@@ -109,18 +105,18 @@ unfolding interchange
 interchanged i j = interchange i j (record { α = 1; β = 2; γ = 3; δ = 4 })
 
 -- and what is then set of it, by a test, over the wires 5 6 / 7 8
-unfoldable pub wiresSet : (Side → Side → ℕ → ℕ → Bool) → ℕ → ℕ → ℕ
+unfoldable pub setByTest : (Side → Side → ℕ → ℕ → Bool) → ℕ → ℕ → ℕ
 unfolding tab cell blockDigits interchanged
-wiresSet f i j =
+setByTest f i j =
     blockDigits 10 (tab (λ r s. cond (f r s i j) (cell r s (interchanged i j)) (cell r s (record { α = 5; β = 6; γ = 7; δ = 8 }))))
 
 -- the outputs, and the wires after each phase
 unfoldable pub outputs : ℕ → List (List ℕ)
-unfolding square blockDigits interchanged wiresSet setInPhase0 setInPhase1 setInPhase2
+unfolding square blockDigits interchanged setByTest setInPhase0 setInPhase1 setInPhase2
 outputs m =
     square (suc m)
     (λ i j.
-    blockDigits 10 (interchanged i j) ∷ wiresSet (setInPhase0 m) i j ∷ wiresSet (setInPhase1 m) i j ∷ wiresSet (setInPhase2 m) i j ∷ [])
+    blockDigits 10 (interchanged i j) ∷ setByTest (setInPhase0 m) i j ∷ setByTest (setInPhase1 m) i j ∷ setByTest (setInPhase2 m) i j ∷ [])
 
 -- ---- the array
 unfoldable pub array : ℕ → ℕ → ℕ → ℕ → ℕ → Tile ℕ ℕ ℕ
@@ -174,19 +170,15 @@ unfoldable pub trafficIn : ℕ → ℕ → ℕ → List (List ℕ)
 unfolding listFrom square digits sets gets
 trafficIn m K n = listFrom 0 n (λ t. square (suc m) (λ i j. digits 10 4 (λ k. sets m K t k i j) * 10 + gets K t i j))
 
-unfoldable pub sumSquare : ℕ → (ℕ → ℕ → ℕ) → ℕ
-unfolding sum
-sumSquare n f = sum n (λ i. sum n (λ j. f i j))
-
 -- over a run, the wires set
 unfoldable pub wiresSetIn : ℕ → ℕ → ℕ
-unfolding sum sumSquare sets
-wiresSetIn m K = sum (3 * K + m + 1) (λ t. sumSquare (suc m) (λ i j. sum 4 (λ k. sets m K t k i j)))
+unfolding wiresSet total count setsWire phaseIn actionAt action phaseOf
+wiresSetIn m K = wiresSet m K (3 * K + m + 1)
 
 -- and the parameters received, one along the row and one along the column
 unfoldable pub receivedIn : ℕ → ℕ → ℕ
-unfolding sum sumSquare gets
-receivedIn m K = sum (3 * K + m + 1) (λ t. sumSquare (suc m) (λ i j. 2 * gets K t i j))
+unfolding tilesReceive total count receives actionAt action
+receivedIn m K = 2 * tilesReceive m K (3 * K + m + 1)
 
 -- for N = 1 to n, in runs of 0 to 3 steps
 unfoldable pub wiresSetOver : ℕ → List (List ℕ)

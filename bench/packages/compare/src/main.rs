@@ -2,6 +2,7 @@
 //! program.
 mod arrays;
 mod expected;
+mod forecasts;
 mod orderings;
 mod roots;
 mod rotations;
@@ -21,13 +22,14 @@ const STACK: usize = 1 << 18;
 /// Draws and compares, prints a line to a subject, and tells whether all is as expected.
 type Subject = fn(&mut Random) -> bool;
 
-const SUBJECTS: [Subject; 8] = [
+const SUBJECTS: [Subject; 9] = [
     sizes::compare,
     roots::compare,
     rotations::compare,
     orderings::compare,
     runs::compare,
     arrays::compare,
+    forecasts::compare,
     sheets::compare,
     wrapper::compare,
 ];

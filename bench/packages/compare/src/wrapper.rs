@@ -5,7 +5,7 @@ use draw::{Contents, Lent, Random};
 use reference::plain::{self, Tested};
 use reference::sizes::{ARRAY_WORDS, MOST_TILES};
 use reference::Refusal;
-use reference::{array, by_hand, listing, ordering, records, root, rotation, sheet};
+use reference::{array, by_hand, forecast, listing, ordering, records, root, rotation, sheet};
 use weimrukas::{Array, Parameters};
 
 const DRAWS: usize = 1_000;
@@ -17,6 +17,7 @@ pub fn compare(random: &mut Random) -> bool {
         let k = random.below(Lent::EACH);
         compare_numbers(random, &mut tally);
         compare_step(&Lent::any(k, random), random, &mut tally);
+        compare_forecast(&Lent::any(k, random), &mut tally);
         compare_runs(Lent::any(k, random), &mut tally);
         compare_by_hand(&Lent::any(k, random), &mut tally);
         let form = random.form();
@@ -67,6 +68,17 @@ fn compare_step(lent: &Lent, random: &mut Random, tally: &mut Tally) {
     let answer = weimrukas::records(lent.n, &lent.matrix, step, &mut one);
     let expected = records::of_step(lent.n, &lent.matrix, step, &mut other);
     count(tally, answer, expected, same_bits(&one, &other));
+}
+
+fn compare_forecast(lent: &Lent, tally: &mut Tally) {
+    let answer = weimrukas::forecast(lent.n, lent.sweeps);
+    let expected = forecast::of_run(lent.n, lent.sweeps);
+    count(
+        tally,
+        answer.map(|told| [told.ticks, told.values, told.parameters]),
+        expected.map(|told| [told.ticks, told.values, told.parameters]),
+        true,
+    );
 }
 
 fn compare_runs(lent: Lent, tally: &mut Tally) {

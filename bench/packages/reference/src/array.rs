@@ -1,7 +1,7 @@
 //! The array and its whole run (document 01, "The array"; document 02, odd orders), with the processor's square root.
 use crate::checks;
 use crate::sizes::{self, is_odd, MOST_TILES};
-use crate::tile::{Cell, Tile};
+use crate::tile::{wires_set, Cell, Tile};
 use crate::Refusal;
 
 /// The tiles in use, row by row, as many rows as columns; whether the order is odd, so that the first row and column of
@@ -42,7 +42,7 @@ pub fn run(
     for _ in 0..sizes::ticks(n, sweeps) {
         array.make_tick();
     }
-    if array.tiles.iter().any(|tile| tile.marked) {
+    if array.is_spoiled() {
         result.fill(0.0);
         vectors.fill(0.0);
         return Err(Refusal::of(8));
@@ -82,6 +82,16 @@ impl Array {
         }
     }
 
+    pub fn is_spoiled(&self) -> bool {
+        self.tiles.iter().any(|tile| tile.marked)
+    }
+
+    /// Whether every tile has stopped. A tile begins in the tick of its distance from the diagonal, and stops 3 ticks a
+    /// step later.
+    pub fn has_stopped(&self) -> bool {
+        (0..self.side).all(|away| self.tick > away + 3 * self.steps)
+    }
+
     /// Makes a tick. Tiles are marked where their cells may have changed.
     pub fn make_tick(&mut self) {
         let actions = self.actions();
@@ -102,6 +112,26 @@ impl Array {
             Some(since) if since == last && last > 0 => Action::Stop,
             _ => Action::Nothing,
         })
+    }
+
+    /// How many wires of corners the next tick sets, and how many tiles read their parameter wires in it.
+    pub fn traffic(&self) -> (usize, usize) {
+        let (actions, last) = (self.actions(), self.side - 1);
+        let (mut wires, mut readings) = (0, 0);
+        for i in 0..self.side {
+            for j in 0..self.side {
+                let phase = match actions[i.abs_diff(j)] {
+                    Action::First | Action::Rotate => 0,
+                    Action::Phase1 => 1,
+                    Action::Phase2 => 2,
+                    Action::Nothing | Action::Stop => continue,
+                };
+                let set = wires_set(phase, i, j, last);
+                wires += set.as_flattened().iter().filter(|&&is_set| is_set).count();
+                readings += (phase == 0 && i != j) as usize;
+            }
+        }
+        (wires, readings)
     }
 
     /// All tiles read before any tile sets the wires of its corners.
@@ -129,10 +159,10 @@ impl Array {
                     Action::First | Action::Rotate => {
                         tile.rotate(i, j, odd && i == 0);
                         tile.mark();
-                        tile.set_wires_in_phase_0(i, j);
+                        tile.set_wires(0, i, j, last);
                     }
-                    Action::Phase1 => tile.set_wires_in_phase_1(i, j, last),
-                    Action::Phase2 => tile.set_wires_in_phase_2(i, j, last),
+                    Action::Phase1 => tile.set_wires(1, i, j, last),
+                    Action::Phase2 => tile.set_wires(2, i, j, last),
                     Action::Stop => tile.mark(),
                     Action::Nothing => {}
                 }

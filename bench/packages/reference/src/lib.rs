@@ -1,11 +1,12 @@
-//! Document 01, with document 02's line codes and odd orders, in plain Rust. It shares nothing with the library that it
-//! is compared with, nor with the library's wrapper. Its square root is found by whole numbers; its runs use the
-//! processor's.
+//! Document 01, with document 02's line codes, odd orders and forecasts, in plain Rust. It shares nothing with the
+//! library that it is compared with, nor with the library's wrapper. Its square root is found by whole numbers; its
+//! runs use the processor's.
 #![forbid(unsafe_code)]
 
 pub mod array;
 pub mod by_hand;
 mod checks;
+pub mod forecast;
 pub mod listing;
 mod numbers;
 pub mod ordering;

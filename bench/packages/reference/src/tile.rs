@@ -23,6 +23,15 @@ pub struct Tile {
     pub marked: bool,
 }
 
+/// Which wires of a tile are set in a phase, by row and column of their corners (document 003, Program 3).
+pub fn wires_set(phase: usize, i: usize, j: usize, last: usize) -> [[bool; 2]; 2] {
+    match phase {
+        0 => [[false, i > j], [i < j, false]],
+        1 => [[i == 0 || j == 0, false], [false, i == last || j == last]],
+        _ => [[i > 0 && j > 0, i <= j], [i >= j, i < last && j < last]],
+    }
+}
+
 impl Tile {
     /// Off the diagonal the tile turns by the tangents that its parameter wires hold. On it the tile may be always
     /// still, whatever its cells hold.
@@ -91,38 +100,12 @@ impl Tile {
         self.marked |= !(finite(a) & finite(b) & finite(c) & finite(d));
     }
 
-    // Which wire is set in which phase: document 003, Program 3.
-
-    pub fn set_wires_in_phase_0(&mut self, i: usize, j: usize) {
-        if i > j {
-            self.wires[0][1] = self.leaving(i, j, 0, 1);
-        }
-        if i < j {
-            self.wires[1][0] = self.leaving(i, j, 1, 0);
-        }
-    }
-
-    pub fn set_wires_in_phase_1(&mut self, i: usize, j: usize, last: usize) {
-        if i == 0 || j == 0 {
-            self.wires[0][0] = self.leaving(i, j, 0, 0);
-        }
-        if i == last || j == last {
-            self.wires[1][1] = self.leaving(i, j, 1, 1);
-        }
-    }
-
-    pub fn set_wires_in_phase_2(&mut self, i: usize, j: usize, last: usize) {
-        if i > 0 && j > 0 {
-            self.wires[0][0] = self.leaving(i, j, 0, 0);
-        }
-        if i <= j {
-            self.wires[0][1] = self.leaving(i, j, 0, 1);
-        }
-        if i >= j {
-            self.wires[1][0] = self.leaving(i, j, 1, 0);
-        }
-        if i < last && j < last {
-            self.wires[1][1] = self.leaving(i, j, 1, 1);
+    pub fn set_wires(&mut self, phase: usize, i: usize, j: usize, last: usize) {
+        let set = wires_set(phase, i, j, last);
+        for (row, column) in [(0, 0), (0, 1), (1, 0), (1, 1)] {
+            if set[row][column] {
+                self.wires[row][column] = self.leaving(i, j, row, column);
+            }
         }
     }
 

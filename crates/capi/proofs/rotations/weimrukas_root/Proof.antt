@@ -1,5 +1,7 @@
-use Rattle.capi.proofs.CAnswers.{root-given, root-refused}
+use mathlib.Core.Path.{sym, ap, _∙_}
 use borrow.Author.Needs.{needs}
+use Rattle.root.specs.Sqrt.{rootAnswered}
+use Rattle.capi.proofs.CAnswers.{value-given, value-refused}
 use Rattle.capi.proofs.rotations.weimrukas_root.Statement.{statement}
 use Rattle.capi.proofs.rotations.weimrukas_root.Tie as tie
 
@@ -18,12 +20,13 @@ number-requires c κs = search needs
 returns : tie.Need-returns
 returns c =
     let told = c .before in
-    root-given _ _ _ (told .y .given .1) (told .before .before .sqrt .ensures)
+    value-given _ _ (ap rootAnswered (sym (told .y .given .1)) ∙ told .before .before .sqrt .ensures)
 
 returns-2 : tie.Need-returns-2
 returns-2 c =
     let told = c .before .before in
-    root-refused _ _ _ (told .refused .given .1) (told .before .before .sqrt .ensures) (c .number .ensures)
+    let refused = told .refused .given in
+    value-refused _ (refused .0 .0) (ap rootAnswered (sym (refused .1)) ∙ told .before .before .sqrt .ensures) (c .number .ensures)
 
 pub weimrukas-root-spec : {M : Type 1} → statement M
 weimrukas-root-spec =

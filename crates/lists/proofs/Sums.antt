@@ -1,0 +1,37 @@
+-- Sums over the numbers below a bound. Assumes nothing.
+use Prim.Native.Nat.{ℕ, zero, suc, _+_, _*_, _≤_, _<_}
+use mathlib.Core.Path.{_≡_, refl}
+use mathlib.Core.Bool.{Bool, true, false, cond}
+use native.Mathlib.Omega.{arith}
+use native.Mathlib.Nat.{suc-mul}
+use borrow.Author.Tests.{ltb-true, ltb-false, eqb-true, eqb-false, lt-ltb, le-ltb}
+use lib.Dec.{ltb, eqb}
+use Rattle.lists.specs.Bounded.{total}
+
+module _ (f : ℕ → ℕ) (x : ℕ) where
+  -- n terms alike
+  pub total-same : (n : ℕ) → ((i : ℕ) → i < n → f i ≡ x) → total n f ≡ n * x
+  unfolding total
+  total-same zero e = omega arith
+  total-same (suc n) e = rw (total-same n (λ i l. e i (omega arith)), e n (omega arith), suc-mul n x)
+
+  -- terms alike but for one, which is 0: what is left out is put back below it
+  but-one : (k n : ℕ) → ((i : ℕ) → i < n → f i ≡ cond (eqb k i) 0 x) → total n f + cond (ltb k n) x 0 ≡ n * x
+  unfolding total
+  but-one k zero e = rw (le-ltb k 0 (omega arith)) (omega arith)
+  but-one k (suc n) e = go (ltb k n) (eqb k n) refl refl (but-one k n (λ i l. e i (omega arith)))
+    where
+      go : (a b : Bool) → ltb k n ≡ a → eqb k n ≡ b → total n f + cond a x 0 ≡ n * x → total n f + f n + cond (ltb k (suc n)) x 0 ≡ suc n * x
+      go true true y z h = absurd (let w : k < n = ltb-true _ _ y in let u : k ≡ n = eqb-true _ _ z in omega arith)
+      go true false y z h = let w : k < n = ltb-true _ _ y in rw (e n (omega arith), z, lt-ltb k (suc n) (omega arith), suc-mul n x) (omega arith)
+      go false true y z h = let u : k ≡ n = eqb-true _ _ z in rw (e n (omega arith), z, lt-ltb k (suc n) (omega arith), suc-mul n x) (omega arith)
+      go false false y z h =
+          let w : n ≤ k = ltb-false _ _ y in
+          let u : ¬ (k ≡ n) = eqb-false _ _ z in
+          rw (e n (omega arith), z, le-ltb k (suc n) (omega arith), suc-mul n x) (omega arith)
+
+  pub total-but-one : (k n : ℕ) → k < suc n → ((i : ℕ) → i < suc n → f i ≡ cond (eqb k i) 0 x) → total (suc n) f ≡ n * x
+  total-but-one k n l e =
+      let h : total (suc n) f + cond (ltb k (suc n)) x 0 ≡ suc n * x = but-one k (suc n) e in
+      let g : total (suc n) f + x ≡ n * x + x = rw (lt-ltb k (suc n) l, suc-mul n x) at h in
+      omega arith
