@@ -109,7 +109,7 @@ module _ (n sweeps : ℕ) (l : List Float) where
       ∙ begun-as i j
 
   module _ (s : Started) (p : Starts n sweeps l s) (h : answered (s .answer) ≡ given tt) where
-    is-given : startAnswer n sweeps l ≡ given tt
+    pub is-given : startAnswer n sweeps l ≡ given tt
     is-given = sym (p .answers) ∙ h
 
     pub started-array : s .array ≡ startArray n sweeps l

@@ -31,7 +31,7 @@ abbrev answerTo : Array → Answered Tick
 answerTo x = progressOf (x .n) (x .sweeps) (x .tick)
 
 module _ (s : Started) where
-  last-is : (rs : List Ticked) → Follow s rs → lastArray s rs ≡ ticked (length rs) (s .array)
+  pub last-is : (rs : List Ticked) → Follow s rs → lastArray s rs ≡ ticked (length rs) (s .array)
   unfolding ticked nextArray
   last-is [] f = refl
   last-is (r ∷ rs) f = f .1 .hands-back ∙ ap nextArray (last-is rs (f .0))
@@ -69,7 +69,7 @@ module _ (n sweeps : ℕ) (l : List Float) (order : isOrder n ≡ true) (few : s
   stays : (t : ℕ) → last ≤ t → ticked t (startArray n sweeps l) ≡ recordBy n sweeps l order few long last
   stays t h = let e : t - last + last ≡ t = omega arith in rw e at (ticked-stays n sweeps l order few long (t - last))
 
-  answer-is : (t : ℕ) → answerTo (ticked t (startArray n sweeps l)) ≡ firstMade last t
+  pub answer-is : (t : ℕ) → answerTo (ticked t (startArray n sweeps l)) ≡ firstMade last t
   unfolding firstMade
   answer-is t = go (ltb t last) refl
     where

@@ -1,3 +1,4 @@
 pub mod Neighbours
 pub mod Agreement
 pub mod Hand
+pub mod HandCounts

@@ -1,7 +1,7 @@
 -- Document 01, "Runs by hand": one start and then any number of ticks. Ticks are listed with the last first. Definitions only.
-use Prim.Native.Nat.{ℕ, zero, suc, _≤_}
+use Prim.Native.Nat.{ℕ, zero, suc, _+_, _≤_}
 use mathlib.Core.Path.{_≡_}
-use mathlib.Core.Bool.{true, false, cond}
+use mathlib.Core.Bool.{Bool, true, false, cond, _&&_}
 use mathlib.Core.List.{List, [], _∷_}
 use lib.Dec.{ltb}
 use lib.ListN.{length}
@@ -37,6 +37,16 @@ pub record ByHand (n sweeps : ℕ) (l : List Float) (s : Started) (rs : List Tic
 abbrev pub answersOf : List Ticked → List (Answered Tick)
 answersOf [] = []
 answersOf (r ∷ rs) = progressAnswered (r .answer) ∷ answersOf rs
+
+abbrev pub isMade : Answered Tick → Bool
+isMade (given made) = true
+isMade (given stopped) = false
+isMade (refused k values) = false
+
+-- How many of the ticks were made of a record that passes a test.
+abbrev pub madeWhere : (Array → Bool) → Started → List Ticked → ℕ
+madeWhere f s [] = 0
+madeWhere f s (r ∷ rs) = cond (isMade (progressAnswered (r .answer)) && f (lastArray s rs)) 1 0 + madeWhere f s rs
 
 -- f 0 to f (k - 1), the last first.
 abbrev pub counted : (ℕ → Answered Tick) → ℕ → List (Answered Tick)

@@ -1,13 +1,17 @@
 -- Document 02 (iii), each part by the law that proves it. Assumes nothing.
-use Prim.Native.Nat.{ℕ, zero, suc, _-_, _≤_, _<_, min}
-use mathlib.Core.Path.{_≡_, refl, ap, _∙_}
-use mathlib.Core.Bool.{Bool, true, false, cond}
-use mathlib.Core.List.{List, _∷_}
+use Prim.Native.Nat.{ℕ, suc, _+_, _-_, _*_, _≤_, min}
+use mathlib.Core.Path.{_≡_, refl, sym, ap, fun-ext, _∙_}
+use mathlib.Core.Bool.{true}
+use mathlib.Core.List.{List}
 use native.Mathlib.Omega.{arith}
-use borrow.Author.Tests.{ltb-true, ltb-false, ne-eqb}
-use lib.Dec.{ltb}
+use borrow.Author.Tests.{ne-eqb}
 use lib.ListN.{length}
-use Rattle.refusal.specs.Answers.{Answered, given}
+use lib.Ieee.{Float}
+use Rattle.refusal.specs.Answers.{given, answered}
+use Rattle.lists.specs.Bounded.{count}
+use Rattle.lists.proofs.Bounded.{count-all}
+use Rattle.systolic.specs.Slots.{Side, left, right}
+use Rattle.systolic.specs.Traffic.{setsWire, receives, timesSetByTile, overTiles, wiresSet, tilesReceive}
 use Rattle.systolic.proofs.Clock.{receiving}
 use Rattle.systolic.proofs.TileTicks as ticks
 use Rattle.systolic.proofs.TrafficCounts.{wire-times, receive-times}
@@ -17,13 +21,16 @@ use Rattle.forecast.specs.Forecast.{figuresOf, forecastOf}
 use Rattle.forecast.proofs.Answers.{forecast-given}
 use Rattle.forecast.proofs.Counted.{values-counted, parameters-counted}
 use Rattle.runs.specs.Cells.{setting}
-use Rattle.tile_schedule.specs.Answers.{Tick, made, stopped}
 use Rattle.tile.specs.Tiles.{operations}
+use Rattle.array.specs.declared.Started.{Started}
+use Rattle.array.specs.declared.Ticked.{Ticked}
 use Rattle.array.proofs.MadeTicks.{made-tile}
-use Rattle.array_agreement.specs.Hand.{counted}
+use Rattle.array_agreement.specs.Hand.{ByHand, madeWhere}
+use Rattle.array_agreement.proofs.HandCounts.{made-where, all-made-where}
 use Rattle.array_agreement.proofs.Neighbours as neighbours
 use Rattle.claims.specs.Tiles.{tileIn}
-use Rattle.claims.specs.Forecasts.{TicksCross, FiguresCounted, madeIn, TicksMade, TicksOfWholeRun, Forecasted, ForecastsAsStated}
+use Rattle.claims.specs.Forecasts.{tickSets, tickReceives, setInRun, TicksCross, FiguresCounted, RunCounted, RunsCounted}
+use Rattle.claims.specs.Forecasts.{TicksOfWholeRun, Forecasted, ForecastsAsStated}
 use Rattle.claims.proofs.Histories.{one-history}
 
 -- ---- what crosses the wires
@@ -33,33 +40,15 @@ ticks-cross x r p m i j hi hj =
     let last = processorsOf (x .n) - 1 in
     let K = stepsOf (x .n) (x .sweeps) in
     let wire = ticks.wire-set S last K (x .tick) (tileIn x) i j in
-    rw (made-tile x r p m i j hi hj)
-    (record {
-      set = λ a b e. wire a b ∙ rw e;
-      not-set = λ a b e. wire a b ∙ rw e;
-      received = ticks.parameters-received S last K (x .tick) (tileIn x) i j;
+    let tile = made-tile x r p m i j hi hj in
+    record {
+      set = λ a b e. rw tile (wire a b ∙ rw e);
+      not-set = λ a b e. rw tile (wire a b ∙ rw e);
       off-diagonal = λ e. receiving K (x .tick) i j e .off-diagonal;
-    })
-
--- ---- the ticks
--- of the first k ticks those before T are made
-made-before : (T k : ℕ) → madeIn (counted (λ t. cond (ltb t T) (given made) (given stopped)) k) ≡ min T k
-made-before T zero = omega arith
-made-before T (suc k) = go (ltb k T) refl (made-before T k)
-  where
-    earlier : List (Answered Tick)
-    earlier = counted (λ t. cond (ltb t T) (given made) (given stopped)) k
-
-    go : (b : Bool) → ltb k T ≡ b → madeIn earlier ≡ min T k → madeIn (cond b (given made) (given stopped) ∷ earlier) ≡ min T (suc k)
-    go true e h = let w : k < T = ltb-true _ _ e in omega arith
-    go false e h = let w : T ≤ k = ltb-false _ _ e in omega arith
+      received = λ e. rw tile (ticks.parameters-received S last K (x .tick) (tileIn x) i j e);
+    }
 
 module _ (n sweeps : ℕ) where
-  ticks-made : TicksMade n sweeps (figuresOf n sweeps)
-  unfolding figuresOf
-  ticks-made l fit s rs h e =
-      ap madeIn (one-history .every-run-by-hand n sweeps l fit s rs h .0 e .made-then-stopped) ∙ made-before (ticksOf n sweeps) (length rs)
-
   whole-run : TicksOfWholeRun n sweeps (figuresOf n sweeps)
   unfolding figuresOf
   whole-run = one-history .ticks-reported n sweeps
@@ -80,12 +69,44 @@ module _ (n sweeps : ℕ) where
               let w = receive-times (processorsOf n - 1) (stepsOf n sweeps) i j (omega arith) (omega arith) in rw (one-more, ne-eqb i j d) at w;
         }
 
+    -- ---- over the ticks of a run by hand
+    module _ (l : List Float) (s : Started) (rs : List Ticked) (h : ByHand n sweeps l s rs) (e : answered (s .answer) ≡ given tt) where
+      made-so-far : madeWhere (λ x. true) s rs ≡ min (ticksOf n sweeps) (length rs)
+      made-so-far = made-where n sweeps (λ x. true) (λ T. true) (λ x p q. refl) l s rs h e ∙ count-all _ _ (λ T z. refl)
+
+      module _ (all : ticksOf n sweeps ≤ length rs) where
+        set-in-run : (a b : Side) (i j : ℕ) → madeWhere (tickSets a b i j) s rs
+            ≡ count (λ T. setsWire (processorsOf n - 1) (stepsOf n sweeps) T a b i j) (ticksOf n sweeps)
+        set-in-run a b i j = all-made-where n sweeps (tickSets a b i j) _ (λ x p q. rw (p, q)) l s rs h e all
+
+        received-in-run : (i j : ℕ) → madeWhere (tickReceives i j) s rs ≡ count (λ T. receives (stepsOf n sweeps) T i j) (ticksOf n sweeps)
+        received-in-run i j = all-made-where n sweeps (tickReceives i j) _ (λ x p q. rw (p, q)) l s rs h e all
+
+        tile-in-run : (i j : ℕ) → timesSetByTile (processorsOf n - 1) (stepsOf n sweeps) (ticksOf n sweeps) i j ≡ setInRun s rs i j
+        tile-in-run i j = rw (set-in-run left left i j, set-in-run left right i j, set-in-run right left i j, set-in-run right right i j)
+
+        over-tiles : (f g : ℕ → ℕ → ℕ) → ((i j : ℕ) → f i j ≡ g i j) → 2 * overTiles (suc (processorsOf n - 1)) f ≡ 2 * overTiles (processorsOf n) g
+        over-tiles f g same = rw one-more (ap (λ h. 2 * overTiles (processorsOf n) h) (fun-ext (λ i. fun-ext (λ j. same i j))))
+
+        run-counted : RunCounted (processorsOf n) (figuresOf n sweeps) s rs
+        unfolding figuresOf wiresSet tilesReceive
+        run-counted =
+            record {
+              ticks = let w = made-so-far in omega arith;
+              values = values-counted n sweeps order ∙ over-tiles _ _ tile-in-run;
+              parameters = parameters-counted n sweeps order ∙ over-tiles _ _ (λ i j. sym (received-in-run i j));
+            }
+
+    runs-counted : RunsCounted n sweeps (figuresOf n sweeps)
+    unfolding figuresOf
+    runs-counted l s rs h e = record { made-so-far = made-so-far l s rs h e; once-all-made = λ w. run-counted l s rs h e (omega arith) }
+
     forecasted : Forecasted n sweeps (figuresOf n sweeps)
     forecasted =
         record {
           figures-are = unfold figuresOf in record { ticks = refl; values = refl; parameters = refl };
           figures-counted = figures-counted;
-          ticks-made = ticks-made;
+          runs-counted = runs-counted;
           ticks-of-whole-run = whole-run;
         }
 

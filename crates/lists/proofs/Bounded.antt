@@ -81,12 +81,17 @@ unfolding count
 count-ext f g zero e = refl
 count-ext f g (suc n) e = rw (e n, count-ext f g n e)
 
--- a test that passes at one s < n only is counted once
+pub count-all : (f : ℕ → Bool) (n : ℕ) → ((t : ℕ) → t < n → f t ≡ true) → count f n ≡ n
+unfolding count
+count-all f zero g = refl
+count-all f (suc n) g = rw (g n (omega arith), count-all f n (λ t l. g t (omega arith))) (omega arith)
+
 pub count-none : (f : ℕ → Bool) (n : ℕ) → ((t : ℕ) → t < n → f t ≡ false) → count f n ≡ 0
 unfolding count
 count-none f zero g = refl
 count-none f (suc n) g = let e : count f n ≡ 0 = count-none f n (λ t l. g t (omega arith)) in rw (g n (omega arith), e)
 
+-- a test that passes at one s < n only is counted once
 pub count-one : (f : ℕ → Bool) (n s : ℕ) → s < n → f s ≡ true → ((t : ℕ) → t < n → f t ≡ true → t ≡ s) → count f n ≡ 1
 unfolding count
 count-one f zero s l e g = absurd (omega arith)

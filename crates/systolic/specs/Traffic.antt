@@ -48,10 +48,14 @@ abbrev pub timesSetByTile : ℕ → ℕ → ℕ → ℕ → ℕ → ℕ
 timesSetByTile m K n i j =
     timesSet m K n left left i j + timesSet m K n left right i j + timesSet m K n right left i j + timesSet m K n right right i j
 
--- how often all tiles do
+-- the sum over N by N tiles
+abbrev pub overTiles : ℕ → (ℕ → ℕ → ℕ) → ℕ
+overTiles N f = total N (λ i. total N (λ j. f i j))
+
+-- how often all tiles set a wire
 unfoldable pub wiresSet : ℕ → ℕ → ℕ → ℕ
-wiresSet m K n = total (suc m) (λ i. total (suc m) (λ j. timesSetByTile m K n i j))
+wiresSet m K n = overTiles (suc m) (λ i j. timesSetByTile m K n i j)
 
 -- how often tiles receive
 unfoldable pub tilesReceive : ℕ → ℕ → ℕ → ℕ
-tilesReceive m K n = total (suc m) (λ i. total (suc m) (λ j. count (λ t. receives K t i j) n))
+tilesReceive m K n = overTiles (suc m) (λ i j. count (λ t. receives K t i j) n)
