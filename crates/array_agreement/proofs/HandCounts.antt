@@ -29,15 +29,13 @@ module _ (n sweeps : ℕ) (f : Array → Bool) (g : ℕ → Bool) (same : (x : A
 
   module _ (l : List Float) (order : isOrder n ≡ true) (few : sweeps ≤ mostSweeps) (long : length l ≡ n * n)
       (s : Started) (start : s .array ≡ startArray n sweeps l) where
-    abbrev by : ℕ → Array
-    by = recordBy n sweeps l order few long
-
     -- the record after as many ticks as there are, none of them stopped
     passes : (rs : List Ticked) → Follow s rs → length rs ≤ last → f (lastArray s rs) ≡ g (length rs)
     unfolding recordBy
     passes rs p h =
-        let e : lastArray s rs ≡ by (length rs) = last-is s rs p ∙ rw start (ticked-is n sweeps l order few long (length rs) h) in
-        ap f e ∙ same (by (length rs)) refl refl
+        let x = recordBy n sweeps l order few long (length rs) in
+        let e : lastArray s rs ≡ x = last-is s rs p ∙ rw start (ticked-is n sweeps l order few long (length rs) h) in
+        ap f e ∙ same x refl refl
 
     from-start : (rs : List Ticked) → Follow s rs → madeWhere f s rs ≡ count g (min last (length rs))
     unfolding count firstMade
@@ -59,7 +57,7 @@ module _ (n sweeps : ℕ) (f : Array → Bool) (g : ℕ → Bool) (same : (x : A
             let a : min last (suc (length rs)) ≡ min last (length rs) = omega arith in
             rw (a, zero-add) h
 
-  -- they are the ticks from 0 on, up to the last, at which the test holds
+  -- They are the ticks from 0 on, up to the last, at which the test holds.
   pub made-where : (l : List Float) (s : Started) (rs : List Ticked) → ByHand n sweeps l s rs → answered (s .answer) ≡ given tt
       → madeWhere f s rs ≡ count g (min last (length rs))
   made-where l s rs h e =
@@ -68,4 +66,4 @@ module _ (n sweeps : ℕ) (f : Array → Bool) (g : ℕ → Bool) (same : (x : A
 
   pub all-made-where : (l : List Float) (s : Started) (rs : List Ticked) → ByHand n sweeps l s rs → answered (s .answer) ≡ given tt
       → last ≤ length rs → madeWhere f s rs ≡ count g last
-  all-made-where l s rs h e w = made-where l s rs h e ∙ ap (count g) (let w : min last (length rs) ≡ last = omega arith in w)
+  all-made-where l s rs h e all = let w : min last (length rs) ≡ last = omega arith in rw w at (made-where l s rs h e)

@@ -16,7 +16,7 @@ use Rattle.systolic.proofs.Clock.{receiving}
 use Rattle.systolic.proofs.TileTicks as ticks
 use Rattle.systolic.proofs.TrafficCounts.{wire-times, receive-times}
 use Rattle.sizes.specs.Sizes.{isOrder, processorsOf, stepsOf, ticksOf, sizesAnswer}
-use Rattle.sizes.proofs.Orders.{order-half}
+use Rattle.sizes.proofs.Orders.{processors-end}
 use Rattle.forecast.specs.Forecast.{figuresOf, forecastOf}
 use Rattle.forecast.proofs.Answers.{forecast-given}
 use Rattle.forecast.proofs.Counted.{values-counted, parameters-counted}
@@ -29,9 +29,13 @@ use Rattle.array_agreement.specs.Hand.{ByHand, madeWhere}
 use Rattle.array_agreement.proofs.HandCounts.{made-where, all-made-where}
 use Rattle.array_agreement.proofs.Neighbours as neighbours
 use Rattle.claims.specs.Tiles.{tileIn}
-use Rattle.claims.specs.Forecasts.{tickSets, tickReceives, setInRun, TicksCross, FiguresCounted, RunCounted, RunsCounted}
-use Rattle.claims.specs.Forecasts.{TicksOfWholeRun, Forecasted, ForecastsAsStated}
+use Rattle.claims.specs.Forecasts.{FiguresComputed, tickSets, tickReceives, setInRun, TicksCross, FiguresCounted, RunCounted}
+use Rattle.claims.specs.Forecasts.{RunsCounted, TicksOfWholeRun, Forecasted, ForecastsAsStated}
 use Rattle.claims.proofs.Histories.{one-history}
+
+figures-computed : FiguresComputed
+unfolding forecastOf figuresOf sizesAnswer isOrder
+figures-computed = record { two-lines = refl; eight-lines = refl; seven-lines = refl; three-lines = refl; thirty-two-lines = refl }
 
 -- ---- what crosses the wires
 ticks-cross : TicksCross
@@ -56,7 +60,7 @@ module _ (n sweeps : ℕ) where
   -- ---- the counts
   module _ (order : isOrder n ≡ true) where
     one-more : suc (processorsOf n - 1) ≡ processorsOf n
-    one-more = omega (arith, order-half n order .0)
+    one-more = sym (processors-end n order)
 
     figures-counted : FiguresCounted n sweeps (figuresOf n sweeps)
     unfolding figuresOf
@@ -115,6 +119,7 @@ unfolding forecastOf sizesAnswer
 forecasts-as-stated =
     record {
       forecast-answers = λ n sweeps. refl;
+      figures-computed = figures-computed;
       ticks-cross = ticks-cross;
       nothing-else-received = λ x y e f g r s p q i j. neighbours.array-neighbourhood x y e f g i j (λ z. z) p q;
       forecasted = λ n sweeps f e. let w = forecast-given n sweeps e in rw (w .1) (forecasted n sweeps (w .0));

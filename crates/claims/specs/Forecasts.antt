@@ -43,6 +43,14 @@ pub record FiguresAre (n sweeps : ℕ) (f : Figures) : Type 0 where
   pub values : f .values ≡ 8 * processorsOf n * processorsOf n * stepsOf n sweeps
   pub parameters : f .parameters ≡ 2 * processorsOf n * (processorsOf n - 1) * stepsOf n sweeps
 
+-- Computed: n = 2, S = 0 and n = 8, S = 1, for which document 01 has the ticks, two odd orders, and n = 32, S = 16.
+pub record FiguresComputed : Type 0 where
+  pub two-lines : forecastOf 2 0 ≡ given (record { ticks = 1; values = 0; parameters = 0 })
+  pub eight-lines : forecastOf 8 1 ≡ given (record { ticks = 25; values = 896; parameters = 168 })
+  pub seven-lines : forecastOf 7 1 ≡ given (record { ticks = 25; values = 896; parameters = 168 })
+  pub three-lines : forecastOf 3 1 ≡ given (record { ticks = 11; values = 96; parameters = 12 })
+  pub thirty-two-lines : forecastOf 32 16 ≡ given (record { ticks = 1504; values = 1015808; parameters = 238080 })
+
 -- ---- what crosses the wires in a tick
 -- A tick of the record x sets the wire of tile (i, j) by the corner (a, b); tile (i, j) receives parameters in it.
 abbrev pub tickSets : Side → Side → ℕ → ℕ → Array → Bool
@@ -57,7 +65,8 @@ tickReceives i j x = receives (stepsOf (x .n) (x .sweeps)) (x .tick) i j
 pub record Crosses (x y : Array) (i j : ℕ) : Type 0 where
   pub set : (a b : Side) → tickSets a b i j x ≡ true
       → corner a b (tileIn y i j .wires) ≡ corner a b (interchange i j (tileIn y i j .cells))
-  pub not-set : (a b : Side) → tickSets a b i j x ≡ false → corner a b (tileIn y i j .wires) ≡ corner a b (tileIn x i j .wires)
+  pub not-set : (a b : Side) → tickSets a b i j x ≡ false
+      → corner a b (tileIn y i j .wires) ≡ corner a b (tileIn x i j .wires)
   pub off-diagonal : tickReceives i j x ≡ true → ¬ (i ≡ j)
   pub received : tickReceives i j x ≡ true
       → (tileIn y i j .rowWire ≡ tileIn x i (nearer i j) .rowWire)
@@ -129,6 +138,7 @@ pub record Forecasted (n sweeps : ℕ) (f : Figures) : Type 0 where
 
 pub record ForecastsAsStated : Type 0 where
   pub forecast-answers : ForecastAnswers
+  pub figures-computed : FiguresComputed
   pub ticks-cross : TicksCross
   pub nothing-else-received : NothingElseReceived
   pub forecasted : (n sweeps : ℕ) (f : Figures) → forecastOf n sweeps ≡ given f → Forecasted n sweeps f

@@ -7,7 +7,7 @@ use native.Mathlib.Nat.{mul-assoc, mul-left-comm}
 use Rattle.systolic.specs.Traffic.{wiresSet, tilesReceive}
 use Rattle.systolic.proofs.TrafficCounts.{wires-set, tiles-receive}
 use Rattle.sizes.specs.Sizes.{isOrder, processorsOf, stepsOf, ticksOf}
-use Rattle.sizes.proofs.Orders.{order-half}
+use Rattle.sizes.proofs.Orders.{processors-end}
 use Rattle.forecast.specs.Forecast.{figuresOf}
 
 -- of N = m + 1 processors and K steps
@@ -26,15 +26,12 @@ module _ (N m K : ℕ) (e : N ≡ suc m) where
       omega arith
 
 module _ (n sweeps : ℕ) (order : isOrder n ≡ true) where
-  one-more : processorsOf n ≡ suc (processorsOf n - 1)
-  one-more = let h = order-half n order in omega arith
-
   -- two values on each wire that is set, one of the matrix and one of the eigenvectors
   pub values-counted : figuresOf n sweeps .values ≡ 2 * wiresSet (processorsOf n - 1) (stepsOf n sweeps) (ticksOf n sweeps)
   unfolding figuresOf
-  values-counted = values-of (processorsOf n) (processorsOf n - 1) (stepsOf n sweeps) one-more
+  values-counted = values-of (processorsOf n) (processorsOf n - 1) (stepsOf n sweeps) (processors-end n order)
 
   -- two parameters for each tile that receives, one along its row and one along its column
   pub parameters-counted : figuresOf n sweeps .parameters ≡ 2 * tilesReceive (processorsOf n - 1) (stepsOf n sweeps) (ticksOf n sweeps)
   unfolding figuresOf
-  parameters-counted = parameters-of (processorsOf n) (processorsOf n - 1) (stepsOf n sweeps) one-more
+  parameters-counted = parameters-of (processorsOf n) (processorsOf n - 1) (stepsOf n sweeps) (processors-end n order)

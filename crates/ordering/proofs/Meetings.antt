@@ -16,7 +16,7 @@ use Rattle.sizes.specs.Sizes.{mostProcessors, isOrder, processorsOf, sweepSteps
 use Rattle.ordering.specs.Pairs.{noRegisters, registersAt, Lists, meetInList, standsIn}
 use Rattle.ordering.proofs.Columns.{column-at, column-above}
 use Rattle.ordering.proofs.Movement.{registers-ext}
-use Rattle.sizes.proofs.Orders.{order-is, order-half, sweep-is}
+use Rattle.sizes.proofs.Orders.{order-is, order-half, processors-end, sweep-is}
 
 -- ---- a line in one column
 module _ (N : ℕ) (f : ℕ → ℕ) (h : N ≤ mostProcessors) (p : ℕ) (P : 1 ≤ p) where
@@ -77,9 +77,6 @@ module _ (n : ℕ) (order : isOrder n ≡ true) (list : ℕ → PairList) (lists
   the-list : (s : ℕ) → list s .registers ≡ registersAt n s
   the-list s = lists s .lists ∙ ap (λ (b : Bool). cond b (registersAt n s) noRegisters) order
 
-  half : processorsOf n ≡ suc (processorsOf n - 1)
-  half = let o = order-half n order in omega arith
-
   whole : (p : ℕ) → p ≤ n → p < firstLine n + 2 * suc (processorsOf n - 1)
   whole p h = let o = order-is n order .0 in omega arith
 
@@ -116,7 +113,8 @@ module _ (n : ℕ) (order : isOrder n ≡ true) (list : ℕ → PairList) (lists
       ∙ numbers-meet-once (firstLine n) (processorsOf n - 1) z p q (omega arith) (whole p p1) (omega arith) (whole q q1) d
     where
       same : (s : ℕ) → meetInList (registersAt n (z + s)) p q ≡ meetAt (inOrder (firstLine n)) (processorsOf n - 1) (z + s) p q
-      same s = unfold registersAt in (meets-as (firstLine n) (processorsOf n) (processorsOf n - 1) (z + s) p q half (order-half n order .1) P Q)
+      same s = unfold registersAt in
+          (meets-as (firstLine n) (processorsOf n) (processorsOf n - 1) (z + s) p q (processors-end n order) (order-half n order .1) P Q)
 
   -- Two different lines meet in exactly one step of each sweep.
   pub meet-once : (sweep p q : ℕ) → 1 ≤ sweep → 1 ≤ p → p ≤ n → 1 ≤ q → q ≤ n → ¬ (p ≡ q)

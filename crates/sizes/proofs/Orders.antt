@@ -1,5 +1,5 @@
 -- Which numbers are orders, and what is known of one. Assumes nothing.
-use Prim.Native.Nat.{ℕ, _+_, _-_, _*_, _^_, _≤_, _<_}
+use Prim.Native.Nat.{ℕ, suc, _+_, _-_, _*_, _^_, _≤_, _<_}
 use mathlib.Core.Path.{_≡_, refl, sym, ap, _∙_}
 use mathlib.Core.Bool.{Bool, true, false, not, _&&_, true≢false}
 use mathlib.Core.List.{[], _∷_}
@@ -35,6 +35,10 @@ module _ (n : ℕ) where
 -- ---- what follows from it
 pub order-half : (n : ℕ) → isOrder n ≡ true → (1 ≤ processorsOf n) × (processorsOf n ≤ mostProcessors)
 order-half n e = let o = order-is n e in (omega arith, omega arith)
+
+-- the last processor, counted from 0, and one more
+pub processors-end : (n : ℕ) → isOrder n ≡ true → processorsOf n ≡ suc (processorsOf n - 1)
+processors-end n e = let o = order-half n e in omega arith
 
 -- the lines in the registers are those from the first line to n
 pub lines-end : (n : ℕ) → firstLine n + linesOf n ≡ n + 1
