@@ -2,7 +2,6 @@
 //! and starts this program.
 mod orders;
 mod roots;
-mod rounds;
 mod runs;
 mod sheets;
 

@@ -1,5 +1,5 @@
 //! Calls of the library beside those of the reference, by order.
-use crate::rounds::{fastest, round, shown};
+use measure::rounds::{fastest, round, shown};
 
 const ORDERS: [usize; 4] = [2, 8, 16, 32];
 

@@ -1,6 +1,6 @@
 //! The square root beside the processor's and the reference's.
-use crate::rounds::{fastest, nanoseconds, shown, Round};
 use draw::Random;
+use measure::rounds::{fastest, nanoseconds, shown, Round};
 
 use reference::root;
 use std::hint::black_box;

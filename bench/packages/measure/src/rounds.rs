@@ -1,5 +1,4 @@
 //! Times in the fastest of many rounds.
-use crate::orders::Call;
 use std::time::{Duration, Instant};
 
 /// How long calls that are compared are measured together.
@@ -22,7 +21,7 @@ pub fn fastest<const K: usize>(mut rounds: [Round; K]) -> [f64; K] {
 }
 
 /// A round that makes a call with each of what may be lent. None is refused.
-pub fn round<'a, T: Clone + 'a>(all: &[T], call: Call<T>) -> Round<'a> {
+pub fn round<'a, T: Clone + 'a>(all: &[T], call: impl Fn(&mut T) -> bool + 'a) -> Round<'a> {
     let mut all = all.to_vec();
     Box::new(move || {
         let start = Instant::now();

@@ -1,13 +1,12 @@
 //! The plain run and the array's whole run, by order, odd orders beside even ones, and by sweeps.
 use crate::orders::{self, Call};
-use crate::rounds::{fastest, round, shown};
 use draw::{Lent, Random};
+use measure::matrices::{drawn, SWEEPS};
+use measure::rounds::{fastest, round, shown};
 
 use reference::array;
 use reference::plain::{self, Tested};
 use reference::sizes::MOST_LINES;
-
-pub const SWEEPS: usize = 8;
 
 pub fn measure_orders(random: &mut Random) {
     let names = ["plain", "array"].map(|run| format!("{run} run, {SWEEPS} sweeps"));
@@ -71,12 +70,6 @@ pub fn measure_sweeps(random: &mut Random) {
             array / plain
         );
     }
-}
-
-/// The matrices of a round: fewer of a larger order, so that a round is short.
-fn drawn(n: usize, sweeps: usize, random: &mut Random) -> Vec<Lent> {
-    let draw = |_| Lent::drawn(n, sweeps, random, Random::unit);
-    (0..MOST_LINES * MOST_LINES / (n * n)).map(draw).collect()
 }
 
 fn library_plain(lent: &mut Lent) -> bool {

@@ -1,7 +1,7 @@
 //! Reading and writing sheets of both forms.
 use crate::orders::{self, Call};
-use crate::runs::SWEEPS;
 use draw::{Contents, Lent, Random};
+use measure::matrices::SWEEPS;
 use reference::sheet::{self, Form};
 
 const SHEETS: usize = 64;

@@ -1,0 +1,3 @@
+//! What the two programs share.
+pub mod matrices;
+pub mod rounds;
