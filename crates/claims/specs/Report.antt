@@ -1,5 +1,5 @@
 -- Demand 2 on numbers (document 00; document 01, "Square root", "One rotation", "Pairs and their movement"; document 02
--- (ii)). Definitions only.
+-- (ii) and (iv)). Definitions only.
 use Prim.Native.Nat.{ℕ, suc, _+_, _-_, _*_, _%_, _^_, _≤_, _<_}
 use mathlib.Core.Path.{_≡_}
 use mathlib.Core.Bool.{true, false, cond}
@@ -53,14 +53,18 @@ pub record RootRoundsCorrectly : Type 0 where
       → (r : Float) × CorrectlyRounded x r
 
 -- ---- rotation
--- a is a_pp, d is a_qq, b is a_pq.
+-- a is a_pp, d is a_qq, b is a_pq. The steps are those of document 003, (5.1), in that order: difference, double,
+-- quotient (ξ), tangent, cosine, sine.
 abbrev pub TurnsByTheReport : Type 0
 TurnsByTheReport =
     (a d b : Float) → isZero b ≡ false
-    → (let ξ = div binary64 (sub binary64 d a) (mul binary64 two b) in
+    → (let difference = sub binary64 d a in
+    let double = mul binary64 two b in
+    let ξ = div binary64 difference double in
     let t = div binary64 (signum ξ) (add binary64 (magnitude ξ) (rootOf (add binary64 one (mul binary64 ξ ξ)))) in
     let c = div binary64 one (rootOf (add binary64 one (mul binary64 t t))) in
-    ofPair a d b ≡ cond (isZero t) Still (Turn t c (mul binary64 t c)))
+    let s = mul binary64 t c in
+    ofPair a d b ≡ cond (isZero t) Still (Turn t c s))
 
 -- r is none of the two lines.
 abbrev pub Other : ℕ → ℕ → ℕ → Type 0

@@ -3,21 +3,14 @@ ghost use mathlib.Core.Path.{_≡_};
 ghost use Prim.Native.Nat.{ℕ, _+_, _*_, _<_};
 ghost use lib.ListN.{length};
 ghost use Rattle.matrix.specs.Matrix.{entryOf};
-ghost use Rattle.matrix_turns.specs.Turns.{tangentAt, parametersOf, twoLines, onLines, rowTurnAll, columnTurnAll, placesTurned, turnLines};
+ghost use Rattle.matrix_turns.specs.Turns.{parametersOf, twoLines, onLines, rowTurnAll, columnTurnAll, placesTurned, turnLines};
 use rotation::Parameters;
 
 // The parameters of the pair of the lines p and q, of NaNs where there is no such line.
 pub fn parameters(n: usize, p: usize, q: usize, a: &[f64]) -> Parameters
     ensures { λ r. ⌜ r ≡ parametersOf p q (entryOf n (now (a .entry))) ⌝ }
 {
-    rotation::of_tangent(tangent_at(n, p, q, a))
-}
-
-// The tangent of that pair.
-pub fn tangent_at(n: usize, p: usize, q: usize, a: &[f64]) -> f64
-    ensures { λ r. ⌜ r ≡ tangentAt p q (entryOf n (now (a .entry))) ⌝ }
-{
-    rotation::tangent_of_pair(
+    rotation::of_pair(
         matrix::entry(n, p, p, a),
         matrix::entry(n, q, q, a),
         matrix::entry(n, p, q, a),

@@ -1,17 +1,26 @@
 use mathlib.Core.Path.{_∙_}
 use borrow.Author.Needs.{needs}
-use Rattle.rotation.proofs.ParameterCases.{by-tangent}
+use Rattle.rotation.specs.Rotation.{ofPair}
+use Rattle.matrix_turns.proofs.LinePairs.{from-three}
 use Rattle.matrix_turns.proofs.parameters.Statement.{statement}
 use Rattle.matrix_turns.proofs.parameters.Tie as tie
 
-tangent-at-requires : tie.Need-tangent-at-requires
-tangent-at-requires c κs = search needs
+entry-requires : tie.Need-entry-requires
+entry-requires c κs = search needs
 
-of-tangent-requires : tie.Need-of-tangent-requires
-of-tangent-requires c κs = search needs
+entry-requires-2 : tie.Need-entry-requires-2
+entry-requires-2 c κs = search needs
+
+entry-requires-3 : tie.Need-entry-requires-3
+entry-requires-3 c κs = search needs
+
+of-pair-requires : tie.Need-of-pair-requires
+of-pair-requires c κs = search needs
 
 returns : tie.Need-returns
-returns c = c .of-tangent .ensures ∙ by-tangent _ _ _ (c .before .tangent-at .ensures)
+returns c =
+    let s = c .before in
+    c .of-pair .ensures ∙ from-three ofPair (s .before .before .entry .ensures) (s .before .entry2 .ensures) (s .entry3 .ensures)
 
 pub parameters-spec : {M : Type 1} → statement M
-parameters-spec = tie.close (tie.spec tangent-at-requires of-tangent-requires returns)
+parameters-spec = tie.close (tie.spec entry-requires entry-requires-2 entry-requires-3 of-pair-requires returns)
