@@ -58,7 +58,7 @@ extern "C" {
 #define WEIMRUKAS_RESTRICT restrict
 #endif
 
-#define WEIMRUKAS_VERSION "0.5.0"
+#define WEIMRUKAS_VERSION "0.5.1"
 
 #define WEIMRUKAS_MOST_LINES 32 /* the largest order */
 #define WEIMRUKAS_MOST_SWEEPS 16

@@ -6,10 +6,13 @@ use lib.Dec.{eqb}
 use lib.ListN.{length, getD, set}
 use lib.Ieee.{Float, nan}
 use Rattle.rotation.specs.declared.Parameters.{Parameters}
-use Rattle.rotation.specs.Rotation.{ofPair, turnOf}
+use Rattle.rotation.specs.Rotation.{tangentOfPair, ofPair, turnOf}
 use Rattle.matrix.specs.Matrix.{at, flat, isPlace}
 
--- The parameters of the pair of the lines p and q.
+-- The tangent of the pair of the lines p and q, and its parameters.
+abbrev pub tangentAt : ℕ → ℕ → (ℕ → ℕ → Float) → Float
+tangentAt p q A = tangentOfPair (A p p) (A q q) (A p q)
+
 abbrev pub parametersOf : ℕ → ℕ → (ℕ → ℕ → Float) → Parameters
 parametersOf p q A = ofPair (A p p) (A q q) (A p q)
 

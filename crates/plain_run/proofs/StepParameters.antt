@@ -7,7 +7,7 @@ use mathlib.Core.Logic.{_≢_}
 use native.Mathlib.Nat.{le-refl}
 use native.Mathlib.Omega.{arith}
 use lib.ListN.{length, getD}
-use lib.Ieee.{Float}
+use lib.Ieee.{Float, nan}
 use Rattle.systolic.specs.Slots.{Side, left, right}
 use Rattle.ordering.specs.declared.Registers.{Registers}
 use Rattle.ordering.specs.Registers.{standing}
@@ -16,9 +16,10 @@ use Rattle.ordering.specs.Pairs.{registersAt}
 use Rattle.ordering.proofs.RegisterLines.{stands, lines-apart}
 use Rattle.rotation.specs.declared.Parameters.{Parameters}
 use Rattle.rotation.specs.declared.Parameters.the-variants.{Still}
-use Rattle.rotation.specs.Rotation.{ofPair}
+use Rattle.rotation.specs.Rotation.{ofTangent, ofPair}
+use Rattle.rotation.proofs.ParameterCases.{by-tangent}
 use Rattle.matrix.specs.Matrix.{entryOf}
-use Rattle.matrix_turns.specs.Turns.{parametersOf}
+use Rattle.matrix_turns.specs.Turns.{tangentAt, parametersOf}
 use Rattle.matrix_turns.proofs.LinePairs.{two-as, from-three, pair-parameters}
 use Rattle.runs.specs.State.{State}
 use Rattle.plain_pair.specs.Pair.{pairRotated, stateOf}
@@ -68,8 +69,10 @@ module _ (n : ℕ) (ls rs : List ℕ) (N : ℕ) (paired : Paired n ls rs N) (apa
       stays r c = entry-stays (stateOf n l e) k k (le-refl k) below r c
 
 pub step-found : (n : ℕ) → isOrder n ≡ true → (s : ℕ) (R : Registers) → R ≡ registersAt n s
-    → (found : List Parameters) (l e : List Float) → length l ≡ n * n
-    → ((k : ℕ) → stillOf n ≤ k → k < processorsOf n → getD found k Still ≡ parametersOf (getD (R .left) k 0) (getD (R .right) k 0) (entryOf n l))
+    → (tangents : List Float) (found : List Parameters) (l e : List Float) → length l ≡ n * n
+    → ((k : ℕ) → stillOf n ≤ k → k < processorsOf n → getD tangents k nan ≡ tangentAt (getD (R .left) k 0) (getD (R .right) k 0) (entryOf n l))
+    → ((k : ℕ) → stillOf n ≤ k → k < processorsOf n → getD found k Still ≡ ofTangent (getD tangents k nan))
     → Found n found (R .left) (R .right) (stateOf n l e) (processorsOf n)
-step-found n order s R r =
-    found-before n (R .left) (R .right) (processorsOf n) (rw r (registers-paired n order s)) (rw r (registers-apart n order s))
+step-found n order s R r tangents found l e long f g =
+    found-before n (R .left) (R .right) (processorsOf n) (rw r (registers-paired n order s)) (rw r (registers-apart n order s)) found l e long
+    (λ k w below. g k w below ∙ by-tangent _ _ _ (f k w below))

@@ -3,12 +3,14 @@ ghost use mathlib.Core.Path.{_≡_};
 ghost use mathlib.Core.Bool.{true, not, _||_};
 ghost use Prim.Native.Nat.{ℕ, _*_, _<_, _≤_};
 ghost use lib.ListN.{length, getD};
+ghost use lib.Ieee.{nan};
 ghost use Rattle.refusal.specs.Answers.{given, refusedBy, answered};
 ghost use Rattle.refusal.specs.declared.Refusal.the-variants.{Spoiled};
 ghost use Rattle.sizes.specs.Sizes.{isOrder, largestOrder, processorsOf, stillOf};
 ghost use Rattle.rotation.specs.declared.Parameters.the-variants.{Still};
+ghost use Rattle.rotation.specs.Rotation.{ofTangent};
 ghost use Rattle.matrix.specs.Matrix.{flat, entryOf};
-ghost use Rattle.matrix_turns.specs.Turns.{parametersOf};
+ghost use Rattle.matrix_turns.specs.Turns.{tangentAt, parametersOf};
 ghost use Rattle.plain_pair.specs.Pair.{stateOf, Held};
 ghost use Rattle.runs.specs.State.{identity, zeros};
 ghost use Rattle.plain_run.specs.State.{Paired, pairsRotated, after};
@@ -73,8 +75,8 @@ fn set_identity(n: usize, a: &mut [f64])
     }
 }
 
-// Makes the steps 0 to count - 1. The parameters of all pairs of a step are found before any turn, so that the processor need not wait for one root
-// to begin the next.
+// Makes the steps 0 to count - 1. All tangents of a step are found before any cosine, and all cosines before any turn, so that the
+// processor need not wait for one root to begin the next.
 fn make_steps(n: usize, count: usize, a: &mut [f64], vectors: &mut [f64])
     requires { ⌜ (isOrder n ≡ true) × (length (now a) ≡ n * n) × (length (now vectors) ≡ n * n) ⌝ }
     ensures { λ _. ⌜ Held n (now (a .exit)) (now (vectors .exit)) (after n count (stateOf n (now (a .entry)) (now (vectors .entry)))) ⌝ }
@@ -82,7 +84,8 @@ fn make_steps(n: usize, count: usize, a: &mut [f64], vectors: &mut [f64])
     let mut registers = Registers::of_order(n);
     let mut k = 0;
     while k < count {
-        let found = parameters_of(n, registers, a);
+        let tangents = tangents_of(n, registers, a);
+        let found = parameters_of(n, tangents);
         make_pairs(n, registers, found, a, vectors);
         let next = registers.after_step(n);
         registers = next;
@@ -90,19 +93,43 @@ fn make_steps(n: usize, count: usize, a: &mut [f64], vectors: &mut [f64])
     }
 }
 
-// The parameters of the pairs of all processors, and still for a processor that always is.
-fn parameters_of(n: usize, registers: Registers, a: &[f64]) -> [Parameters; MOST_PROCESSORS]
+// The tangents of the pairs of all processors that are not always still.
+fn tangents_of(n: usize, registers: Registers, a: &[f64]) -> [f64; MOST_PROCESSORS]
     requires { ⌜ n ≤ largestOrder ⌝ }
     ensures { λ r. ⌜ ((k : ℕ) → stillOf n ≤ k → k < processorsOf n →
-        getD r k Still ≡ parametersOf (getD (registers .left) k 0) (getD (registers .right) k 0) (entryOf n (now (a .entry)))) ⌝ }
+        getD r k nan ≡ tangentAt (getD (registers .left) k 0) (getD (registers .right) k 0) (entryOf n (now (a .entry)))) ⌝ }
 {
     let lefts = registers.left;
     let rights = registers.right;
+    let mut tangents = [0.0; MOST_PROCESSORS];
+    let processors = sizes::processors_of(n);
+    for k in sizes::still_of(n)..processors {
+        tangents[k] = tangent_at(n, lefts[k], rights[k], a);
+    }
+    tangents
+}
+
+// The tangent of the pair of the lines p and q.
+fn tangent_at(n: usize, p: usize, q: usize, a: &[f64]) -> f64
+    ensures { λ r. ⌜ r ≡ tangentAt p q (entryOf n (now (a .entry))) ⌝ }
+{
+    rotation::tangent_of_pair(
+        matrix::entry(n, p, p, a),
+        matrix::entry(n, q, q, a),
+        matrix::entry(n, p, q, a),
+    )
+}
+
+// The parameters of pairs with these tangents, and still for a processor that always is.
+fn parameters_of(n: usize, tangents: [f64; MOST_PROCESSORS]) -> [Parameters; MOST_PROCESSORS]
+    requires { ⌜ n ≤ largestOrder ⌝ }
+    ensures { λ r. ⌜ ((k : ℕ) → stillOf n ≤ k → k < processorsOf n → getD r k Still ≡ ofTangent (getD tangents k nan)) ⌝ }
+{
     let still = Parameters::Still;
     let mut found = [still; MOST_PROCESSORS];
     let processors = sizes::processors_of(n);
     for k in sizes::still_of(n)..processors {
-        let parameters = matrix_turns::parameters(n, lefts[k], rights[k], a);
+        let parameters = rotation::of_tangent(tangents[k]);
         found[k] = parameters;
     }
     found

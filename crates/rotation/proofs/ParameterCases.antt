@@ -24,15 +24,23 @@ unfolding ofTangent ofAngle ofBits
 still-zero = refl
 
 module _ (a d b : Float) where
-  by-test : {z : Bool} → eq b plusZero ≡ z → ofTangent (cond z plusZero (tangentOf (quotient a d b))) ≡ ofPair a d b
-  unfolding ofPair tangentOfPair
-  by-test h = ap (λ (z : Bool). ofTangent (cond z plusZero (tangentOf (quotient a d b)))) (sym h ∙ equal-zero b)
+  pub zero-tangent : eq b plusZero ≡ true → plusZero ≡ tangentOfPair a d b
+  unfolding tangentOfPair
+  zero-tangent h = ap (λ (z : Bool). cond z plusZero (tangentOf (quotient a d b))) (sym h ∙ equal-zero b)
+
+  pub other-tangent : (t : Float) → eq b plusZero ≡ false → t ≡ tangentOf (quotient a d b) → t ≡ tangentOfPair a d b
+  unfolding tangentOfPair
+  other-tangent t h e = e ∙ ap (λ (z : Bool). cond z plusZero (tangentOf (quotient a d b))) (sym h ∙ equal-zero b)
+
+  pub by-tangent : {t : Float} → t ≡ tangentOfPair a d b → ofTangent t ≡ ofPair a d b
+  unfolding ofPair
+  by-tangent e = ap ofTangent e
 
   pub still-pair : eq b plusZero ≡ true → Still ≡ ofPair a d b
-  still-pair h = still-zero ∙ by-test h
+  still-pair h = still-zero ∙ by-tangent (zero-tangent h)
 
   pub other-pair : (t : Float) → eq b plusZero ≡ false → t ≡ tangentOf (quotient a d b) → ofTangent t ≡ ofPair a d b
-  other-pair t h e = ap ofTangent e ∙ by-test h
+  other-pair t h e = by-tangent (other-tangent t h e)
 
 -- ---- A tile that receives the tangent of a pair has the pair's own parameters.
 pub received : (t : Float) → ofTangent (sent (ofTangent t)) ≡ ofTangent t

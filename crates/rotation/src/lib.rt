@@ -1,6 +1,6 @@
 // One rotation of a pair of lines (document 01, "One rotation"; document 003, (5.1)).
 ghost use mathlib.Core.Path.{_≡_};
-ghost use Rattle.rotation.specs.Rotation.{rootOf, signum, tangentOf, cosineOf, angleOf, ofAngle, ofPair};
+ghost use Rattle.rotation.specs.Rotation.{rootOf, signum, tangentOf, cosineOf, angleOf, ofAngle, tangentOfPair, ofTangent, ofPair};
 ghost use Rattle.rotation.specs.Rotation.{sent, diagonalOf, turnOf};
 use root::Root;
 
@@ -22,9 +22,9 @@ pub struct Sides {
     pub right: f64,
 }
 
-// The parameters of a pair, from a = a_pp, d = a_qq and b = a_pq, in the steps of document 003, (5.1): ξ, which is the quotient, then t, cos θ and
-// sin θ. Document 01 completes them: a pair with b or t zero, of either sign, is still; the sign of zero is 1 (`sign`); a ξ that isn't a number has no
-// root, and is taken on as t, c and s that aren't numbers either (`root_or_nan`).
+// The parameters of a pair, from a = a_pp, d = a_qq and b = a_pq, in the steps of document 003, (5.1), where the quotient is ξ. Document 01 completes
+// them: a pair is still where b is zero, and where t is; the sign of zero is 1 (`sign`); and where ξ isn't a number, t, c and s aren't either
+// (`root_or_nan`).
 pub fn of_pair(a: f64, d: f64, b: f64) -> Parameters
     ensures { λ r. ⌜ r ≡ ofPair a d b ⌝ }
 {
@@ -41,6 +41,29 @@ pub fn of_pair(a: f64, d: f64, b: f64) -> Parameters
     let cosine = cosine_of(tangent);
     let sine = tangent * cosine;
     Parameters::Turn(tangent, cosine, sine)
+}
+
+// The tangent of a pair, +0 where b is zero: the steps of `of_pair` as far as the tangent, for a caller that finds many before any cosine.
+pub fn tangent_of_pair(a: f64, d: f64, b: f64) -> f64
+    ensures { λ r. ⌜ r ≡ tangentOfPair a d b ⌝ }
+{
+    if b == 0.0 {
+        return 0.0;
+    }
+    let difference = d - a;
+    let double = 2.0 * b;
+    let quotient = difference / double;
+    tangent_of(quotient)
+}
+
+// The parameters of a pair whose tangent is t: the steps of `of_pair` from there on.
+pub fn of_tangent(t: f64) -> Parameters
+    ensures { λ r. ⌜ r ≡ ofTangent t ⌝ }
+{
+    if t == 0.0 {
+        return Parameters::Still;
+    }
+    of_angle(Angle::of_tangent(t))
 }
 
 // The parameters of a pair that is turned by an angle.
@@ -102,19 +125,21 @@ pub fn turn(p: Parameters, x: f64, y: f64) -> Sides
     }
 }
 
+// t = sign(ξ) / (|ξ| + √(1 + ξ ξ))
 fn tangent_of(xi: f64) -> f64
     ensures { λ r. ⌜ r ≡ tangentOf xi ⌝ }
 {
     sign(xi) / (float64::magnitude(xi) + root_or_nan(1.0 + xi * xi))
 }
 
+// cos θ = 1 / √(1 + t t)
 fn cosine_of(t: f64) -> f64
     ensures { λ r. ⌜ r ≡ cosineOf t ⌝ }
 {
     1.0 / root_or_nan(1.0 + t * t)
 }
 
-// 1 for a zero of either sign, and for a ξ that isn't a number.
+// -1 below zero and otherwise 1, for a zero of either sign too.
 fn sign(xi: f64) -> f64
     ensures { λ r. ⌜ r ≡ signum xi ⌝ }
 {
@@ -124,7 +149,7 @@ fn sign(xi: f64) -> f64
     1.0
 }
 
-// The root, and for an x that isn't a number one that isn't either.
+// The root of x, or the NaN where x has none.
 fn root_or_nan(x: f64) -> f64
     ensures { λ r. ⌜ r ≡ rootOf x ⌝ }
 {

@@ -33,20 +33,25 @@ loop-holds c =
     let p = c .before .before .before .pre in
     (omega arith, p .0, of-order _ (p .0) (c .of-order .ensures), no-steps _ _ _ _ (held-itself _ _ _ (p .1) (p .2)))
 
+tangents-of-requires : tie.Need-tangents-of-requires Inv-loop μ-loop
+tangents-of-requires c κs = order-is _ (c .before .before .loop .inv .1) .1
+
 parameters-of-requires : tie.Need-parameters-of-requires Inv-loop μ-loop
-parameters-of-requires c κs = order-is _ (c .before .before .loop .inv .1) .1
+parameters-of-requires c κs = order-is _ (c .before .before .before .loop .inv .1) .1
 
 make-pairs-requires : tie.Need-make-pairs-requires Inv-loop μ-loop
 make-pairs-requires c κs =
     let with-parameters = c .before .before in
-    let at-loop = with-parameters .before .before .before .loop in
+    let with-tangents = with-parameters .before in
+    let at-loop = with-tangents .before .before .before .loop in
     let i = at-loop .inv in
     let h = held-long _ _ _ _ (i .3) in
+    let tangents = with-tangents .tangents-of in
     let found = with-parameters .parameters-of in (
       (order-is _ (i .1) .1, h .0, h .1),
       (
         rw (i .2) (registers-paired _ (i .1) _),
-        step-found _ (i .1) (at-loop .k) (at-loop .registers) (i .2) (found .result) _ _ (h .0) (found .ensures),
+        step-found _ (i .1) (at-loop .k) (at-loop .registers) (i .2) (tangents .result) (found .result) _ _ (h .0) (tangents .ensures) (found .ensures),
       ),
     )
 
@@ -62,7 +67,7 @@ loop-less c = omega arith
 loop-again : tie.Need-loop-again Inv-loop μ-loop
 loop-again c =
     let turned = c .before .before .before .before .before in
-    let at-loop = turned .before .before .before .before .before .before .loop in
+    let at-loop = turned .before .before .before .before .before .before .before .loop in
     let i = at-loop .inv in (
       omega arith,
       i .1,
@@ -89,6 +94,7 @@ make-steps-spec =
     μ-loop
     of-order-requires
     loop-holds
+    tangents-of-requires
     parameters-of-requires
     make-pairs-requires
     after-step-requires
