@@ -18,6 +18,28 @@ type ArrayRun = unsafe extern "C" fn(
     usize, usize, *const f64, usize, *mut f64, usize, *mut f64, usize, *mut usize, *mut usize, *mut usize,
 ) -> u8;
 
+/// Whether a run is accepted that is lent this and these numbers.
+macro_rules! accepts {
+    ($run:expr, $lent:ident, $($number:ident),*) => {{
+        $(let mut $number = 0;)*
+        // SAFETY: each pointer leads to as many values as the length after it says.
+        let answer = unsafe {
+            $run(
+                $lent.n,
+                $lent.sweeps,
+                $lent.matrix.as_ptr(),
+                $lent.matrix.len(),
+                $lent.result.as_mut_ptr(),
+                $lent.result.len(),
+                $lent.vectors.as_mut_ptr(),
+                $lent.vectors.len(),
+                $(&mut $number),*
+            )
+        };
+        answer == 0
+    }};
+}
+
 pub struct Library {
     plain_run: PlainRun,
     array_run: ArrayRun,
@@ -46,46 +68,11 @@ impl Library {
         }
     }
 
-    /// Whether the run was accepted.
     pub fn plain_run(&self, lent: &mut Lent) -> bool {
-        let (mut row, mut column) = (0, 0);
-        // SAFETY: each pointer leads to as many values as the length after it says.
-        let answer = unsafe {
-            (self.plain_run)(
-                lent.n,
-                lent.sweeps,
-                lent.matrix.as_ptr(),
-                lent.matrix.len(),
-                lent.result.as_mut_ptr(),
-                lent.result.len(),
-                lent.vectors.as_mut_ptr(),
-                lent.vectors.len(),
-                &mut row,
-                &mut column,
-            )
-        };
-        answer == 0
+        accepts!((self.plain_run), lent, row, column)
     }
 
-    /// The same by the array.
     pub fn array_run(&self, lent: &mut Lent) -> bool {
-        let (mut ticks, mut row, mut column) = (0, 0, 0);
-        // SAFETY: each pointer leads to as many values as the length after it says.
-        let answer = unsafe {
-            (self.array_run)(
-                lent.n,
-                lent.sweeps,
-                lent.matrix.as_ptr(),
-                lent.matrix.len(),
-                lent.result.as_mut_ptr(),
-                lent.result.len(),
-                lent.vectors.as_mut_ptr(),
-                lent.vectors.len(),
-                &mut ticks,
-                &mut row,
-                &mut column,
-            )
-        };
-        answer == 0
+        accepts!((self.array_run), lent, ticks, row, column)
     }
 }
