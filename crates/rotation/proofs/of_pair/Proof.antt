@@ -1,7 +1,6 @@
 use mathlib.Core.Path.{ap, _∙_}
 use borrow.Author.Needs.{needs}
 use lib.Ieee.{Float, binary64, mul}
-use Rattle.rotation.specs.declared.Parameters.{Parameters}
 use Rattle.rotation.specs.declared.Parameters.the-variants.{Turn}
 use Rattle.rotation.specs.Rotation.{angleOf, ofTangent, quotient}
 use Rattle.rotation.proofs.ParameterCases.{still-at, turn-at, still-pair, other-pair}
