@@ -8,3 +8,8 @@ pub mod Order
 pub mod PositiveValues
 pub mod Operands
 pub mod Vanishing
+pub mod Rounding
+pub mod Bounds
+pub mod UnitOperations
+pub mod Halving
+pub mod HalfDifferences

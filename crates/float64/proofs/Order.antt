@@ -13,7 +13,7 @@ use Rattle.float64.specs.Values.{finite, signOf}
 use Rattle.float64.specs.Units.{unitsOf}
 use Rattle.float64.proofs.Units.{held}
 
-cross : (a b : ℕ) → T (ltb a b || (eqb a b && true)) → a ≤ b
+pub cross : (a b : ℕ) → T (ltb a b || (eqb a b && true)) → a ≤ b
 cross a b t = go (ltb a b) (eqb a b) (ltb→lt a b) (eqb→eq a b) t
   where
     go : (p q : Bool) → (T p → a < b) → (T q → a ≡ b) → T (p || (q && true)) → a ≤ b

@@ -9,6 +9,9 @@ plusZero = ofBits binary64 0
 abbrev pub one : Float
 one = ofBits binary64 0x3ff0_0000_0000_0000
 
+abbrev pub two : Float
+two = ofBits binary64 0x4000_0000_0000_0000
+
 unfoldable pub finite : Float → Bool
 finite nan = false
 finite (inf s) = false

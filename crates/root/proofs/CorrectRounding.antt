@@ -11,14 +11,14 @@ use lib.Ieee.Positive.{positive}
 use Rattle.refusal.specs.Answers.{given}
 use Rattle.float64.specs.Values.{one, finite}
 use Rattle.float64.specs.Units.{unitsOf}
-use Rattle.float64.proofs.Grid.{Top, top-of, power-grid, power-lt-back}
+use Rattle.float64.proofs.Grid.{Top, top-of, power-lt-back}
 use Rattle.float64.proofs.Units.{held, units-above, same-units}
 use Rattle.float64.proofs.Patterns.{odd-units}
 use Rattle.float64.proofs.Order.{Magnitude, odd-magnitude, le-of-units, units-of-le}
 use Rattle.root.specs.Sqrt.{rootUnits, sqrtOf}
 use Rattle.root.proofs.Scales.{digitsOf, digits53, root-units-at}
 use Rattle.root.proofs.RootCases.{sqrt-positive}
-use Rattle.root.proofs.RootUnits.{Rooted, rooted-at, rooted-mono, rooted-ge, rooted-exact, nearest-above, nearest-below}
+use Rattle.root.proofs.RootUnits.{Rooted, rooted-at, rooted-mono, rooted-exact, nearest-above, nearest-below}
 
 -- x is a value of binary64, finite and above zero, and r is its root.
 pub record RootOf (x r : Float) : Type 0 where
@@ -86,22 +86,6 @@ ordered x y r s h k l =
 pub root-of-one : sqrtOf one ≡ given one
 unfolding sqrtOf ofBits
 root-of-one = refl
-
-one-magnitude : Magnitude one
-unfolding finite ofBits fits
-one-magnitude = record { is-finite = tt; unsigned = refl; is-held = tt }
-
-one-units : unitsOf one ≡ 2 ^ 1074
-unfolding ofBits
-one-units = refl
-
--- The root of a value of at least 1 is at least 1.
-pub at-least-one : (x r : Float) → RootOf x r → T (le one x) → T (le one r)
-at-least-one x r h l =
-    le-of-units one r one-magnitude (h .root)
-    (subst (λ (n : ℕ). n ≤ unitsOf r) (sym one-units)
-    (rooted-ge (unitsOf x) (unitsOf r) (2 ^ 1074) (h .rooted) (power-grid 1074)
-    (mul-le-mul-right (2 ^ 1074) (subst (λ (n : ℕ). n ≤ unitsOf x) one-units (units-of-le one x one-magnitude (h .value) l)))))
 
 -- A value of binary64 whose square is x is the root.
 pub exact : (x r y : Float) → RootOf x r → Magnitude y → unitsOf y * unitsOf y ≡ unitsOf x * 2 ^ 1074 → r ≡ y

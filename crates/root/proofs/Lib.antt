@@ -7,3 +7,4 @@ pub mod RootCases
 pub mod RootUnits
 pub mod CorrectRounding
 pub mod AnsweredRoots
+pub mod RootBounds
