@@ -58,7 +58,7 @@ extern "C" {
 #define WEIMRUKAS_RESTRICT restrict
 #endif
 
-#define WEIMRUKAS_VERSION "0.5.1"
+#define WEIMRUKAS_VERSION "0.6.0"
 
 #define WEIMRUKAS_MOST_LINES 32 /* the largest order */
 #define WEIMRUKAS_MOST_SWEEPS 16
@@ -89,7 +89,8 @@ uint8_t weimrukas_root(double x, double *WEIMRUKAS_RESTRICT root);
 
 /*
  * The parameters of a pair with the left line p and the right line q, from a = a_pp, d = a_qq and b = a_pq: *turn is 1
- * and *t, *c and *s are tangent, cosine and sine; or the pair is still, *turn is 0 and they are +0, 1 and +0.
+ * and *t, *c and *s are tangent, cosine and sine; or the pair is still, *turn is 0 and they are +0, 1 and +0. Where a, d
+ * and b are finite, so are these.
  */
 void weimrukas_parameters(double a, double d, double b, uint8_t *WEIMRUKAS_RESTRICT turn, double *WEIMRUKAS_RESTRICT t,
                           double *WEIMRUKAS_RESTRICT c, double *WEIMRUKAS_RESTRICT s);
@@ -104,8 +105,8 @@ uint8_t weimrukas_pairs(size_t n, size_t step, size_t *WEIMRUKAS_RESTRICT left, 
 
 /*
  * The parameters of the N pairs of a step, from 0, found from the matrix as lent: t, c and s of processor k become
- * records[3 k - 3], [3 k - 2] and [3 k - 1]; still is +0, 1, +0, as processor 1 always is where n is odd. What follows
- * stays. 1, 3, 5, 6; 7 where there are fewer than 3 N values.
+ * records[3 k - 3], [3 k - 2] and [3 k - 1]; still is +0, 1, +0, as processor 1 always is where n is odd. All of them
+ * are finite. What follows stays. 1, 3, 5, 6; 7 where there are fewer than 3 N values.
  */
 uint8_t weimrukas_records(size_t n, const double *matrix, size_t matrix_length, size_t step,
                           double *WEIMRUKAS_RESTRICT records, size_t records_length, size_t *WEIMRUKAS_RESTRICT row,

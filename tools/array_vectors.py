@@ -473,7 +473,7 @@ HAND_RUNS = [
     (2, 0, plain.ordinary, [0, 1, 2]),
     (2, 1, plain.ordinary, [0, 1, 2, 3, 4, 5]),
     (2, 16, plain.signed_zeros, [48, 60]),
-    (2, 1, plain.spoiled_by_nan, [1, 2, 4]),
+    (2, 1, plain.spoiled_by_spread, [1, 2, 4]),
     (4, 0, plain.sparse, [1, 2, 3]),
     (4, 1, plain.ordinary, [1, 2, 3, 4, 5, 10, 11, 12]),
     (4, 2, plain.spoiled_by_turn, [3, 7, 20]),
@@ -499,7 +499,7 @@ ODD_HAND_RUNS = [
     (3, 1, plain.ordinary, [0, 1, 2, 3, 4, 5, 9, 10, 11, 12]),
     (3, 1, plain.signed_zeros, [1, 2, 3, 8]),
     (3, 2, plain.spoiled_by_turn, [1, 3, 7, 20]),
-    (3, 2, plain.spoiled_by_nan, [1, 2, 20]),
+    (3, 2, plain.spoiled_by_spread, [1, 2, 20]),
     (3, 16, plain.whole_numbers, [146, 500]),
     (5, 0, plain.sparse, [1, 3, 4]),
     (5, 1, plain.ordinary, [1, 2, 3, 4, 17, 18, 19]),
@@ -704,6 +704,9 @@ def all_lines(rng, odd_rng):
     """The lines of each case and of its answer."""
     wholes = lines_of_wholes(whole_runs(rng), rng, plain.EVEN_ORDERS, TICKS, {1, 2, 3, 5, 6, 8})
     wholes += lines_of_wholes(odd_whole_runs(odd_rng), odd_rng, plain.ODD_ORDERS, ODD_TICKS, {2, 3, 5, 6, 8})
+    end_rng = random.Random(1074)
+    ends = [(case, *agreed(case)) for case in plain.ends_of_range(end_rng)]
+    wholes += [whole_run_lines(*drawn, fill) for drawn, fill in zip(ends, plain.finite_patterns(end_rng))]
     hands = [hand_run_lines(*drawn) for drawn in [*hand_runs(rng), *odd_hand_runs(odd_rng)]]
     wilds = list(lines_of_wilds())
     print(f"{len(wholes)} whole runs, {len(hands)} runs by hand, {len(wilds)} wild records")

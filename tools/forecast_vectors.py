@@ -87,7 +87,7 @@ def runs():
         for sweeps in range(4):
             yield n, sweeps, plain.ordinary
             yield n, sweeps, plain.spoiled_by_sum
-        yield n, 4 + n % 13, plain.spoiled_by_nan
+        yield n, 4 + n % 13, plain.spoiled_by_spread
         if 3 <= n <= 12:
             yield n, 3, plain.spoiled_late
 

@@ -111,7 +111,7 @@ def whole_sheets(rng):
 
 def spoiled_sheets(rng):
     """Sheets whose runs are spoiled, in the first step or later."""
-    kinds = [plain.spoiled_by_sum, plain.spoiled_by_nan, plain.spoiled_by_turn, plain.spoiled_late]
+    kinds = [plain.spoiled_by_sum, plain.spoiled_by_spread, plain.spoiled_by_turn, plain.spoiled_late]
     sizes = [(2, 1, 2), (4, 1, 4), (6, 3, 4), (16, 2, 4), (32, 1, 4)]  # n, sweeps, how many of the kinds
     for n, sweeps, count in sizes:
         for kind in kinds[:count]:
@@ -253,7 +253,7 @@ def whole_odd_sheets(rng):
 
 
 def spoiled_odd_sheets(rng):
-    kinds = [plain.spoiled_by_sum, plain.spoiled_by_nan, plain.spoiled_by_turn, plain.spoiled_late]
+    kinds = [plain.spoiled_by_sum, plain.spoiled_by_spread, plain.spoiled_by_turn, plain.spoiled_late]
     for n, sweeps in [(3, 1), (5, 3), (31, 1)]:
         for kind in kinds:
             yield 8, f"odd_{kind.__name__}", sheet_of(rng, n, sweeps, kind)
@@ -282,6 +282,17 @@ def wrong_odd_sheets(rng):
     yield 4, "odd_long_without_need", sheets.with_codes(three, [1, 2, 3])
 
 
+# The samples at the ends of the range.
+
+
+def end_sheets(rng):
+    """Document 02 (v)'s check sheet, a = 0, d = 2^1022 and b = 2^1023, and runs that stay finite."""
+    entries = {(1, 1): plain.ZERO, (2, 1): plain.TOP * plain.HIDDEN, (2, 2): (plain.TOP - 1) * plain.HIDDEN}
+    yield None, "check_at_top", sheets.put_together(1, 1, [7, 9], [entries[place] for place in sheets.stored_places(2)])
+    for n, kind in [(4, plain.pairs_at_top), (5, plain.pairs_at_top), (4, plain.at_bottom), (5, plain.at_bottom)]:
+        yield None, kind.__name__, sheet_of(rng, n, 3, kind)
+
+
 def samples(rng):
     """The samples: a name, the sheet, and what is printed of it."""
     made = [(None, "example", sheets.EXAMPLE)]
@@ -289,7 +300,7 @@ def samples(rng):
         made += group(rng)
     for group in (whole_long_sheets, wrong_long_lengths, wrong_long_sizes, wrong_long_codes):
         made += group(rng)
-    for group in (whole_odd_sheets, spoiled_odd_sheets, wrong_odd_sheets):
+    for group in (whole_odd_sheets, spoiled_odd_sheets, wrong_odd_sheets, end_sheets):
         made += group(rng)
     found = []
     for k, (number, word, sheet) in enumerate(made):

@@ -128,11 +128,29 @@ def always_still(n, k):
     return n % 2 == 1 and k == 1
 
 
-def parameters(a, d, b):
+def is_kept(a, d, b):
+    """Whether document 02 (v) has it that xi keeps the bits that it had by document 01."""
+    halved = all(x == 0 or abs(x) >= 2.0**-1021 for x in (a, d))
+    return halved and math.isfinite(d - a) and math.isfinite(2 * b)
+
+
+def first_quotient(a, d, b):
+    """xi as document 01 had it."""
+    return (d - a) / (2 * b)
+
+
+def quotient(a, d, b):
+    """xi by document 02 (v), whose theorem is held to every pair."""
+    xi = (d / 2 - a / 2) / b
+    assert not is_kept(a, d, b) or pattern_of(xi) == pattern_of(first_quotient(a, d, b))
+    return xi
+
+
+def parameters(a, d, b, xi_of=quotient):
     """STILL, or the tangent, the cosine and the sine."""
     t = 0.0
     if b != 0:
-        xi = (d - a) / (2 * b)
+        xi = xi_of(a, d, b)
         sign = -1.0 if xi < 0 else 1.0
         t = sign / (abs(xi) + math.sqrt(1 + xi * xi))
     if t == 0:
@@ -145,10 +163,10 @@ def turn(c, s, x, y):
     return c * x - s * y, s * x + c * y
 
 
-def turn_pair(a, vectors, p, q, is_still):
+def turn_pair(a, vectors, p, q, is_still, xi_of=quotient):
     """Gives the pair of the lines p and q its parameters, its row turn and its column turn."""
     pp, qq, pq = a[p][p], a[q][q], a[p][q]
-    found = STILL if is_still else parameters(pp, qq, pq)
+    found = STILL if is_still else parameters(pp, qq, pq, xi_of)
     if found is not STILL:
         t, c, s = found
         others = [r for r in range(len(a)) if r not in (p, q)]
@@ -174,12 +192,12 @@ def first_registers(n):
     return list(range(first, n, 2)), list(range(first + 1, n + 1, 2))
 
 
-def make_steps(n, sweeps, a, vectors):
+def make_steps(n, sweeps, a, vectors, xi_of=quotient):
     """Makes the steps of a run, and stops after each."""
     first, (left, right) = first_line(n), first_registers(n)
     for _ in range(steps_of(n, sweeps)):
         for k, (p, q) in enumerate(zip(left, right), 1):
-            turn_pair(a, vectors, p - first, q - first, always_still(n, k))
+            turn_pair(a, vectors, p - first, q - first, always_still(n, k), xi_of)
         yield
         left, right = moved(left, right)
 
@@ -218,10 +236,10 @@ def all_finite(a):
     return all(math.isfinite(value) for row in a for value in row)
 
 
-def ran(n, sweeps, matrix):
+def ran(n, sweeps, matrix, xi_of=quotient):
     """The outcome of a run that is not refused before it. A real line is not finite wherever line 0 is not."""
     a, vectors = first_rows(n, matrix)
-    for step, _ in enumerate(make_steps(n, sweeps, a, vectors)):
+    for step, _ in enumerate(make_steps(n, sweeps, a, vectors, xi_of)):
         is_finite = all_finite(a) and all_finite(vectors)
         assert is_finite == (all_finite(real_lines(n, a)) and all_finite(real_lines(n, vectors)))
         if not is_finite:
@@ -380,8 +398,9 @@ def spoiled_by_sum(rng, n, sweeps):
     return matrix
 
 
-def spoiled_by_nan(rng, n, sweeps):
-    """A pair of the first step with both d - a and 2 b infinite, of any sign."""
+def spoiled_by_spread(rng, n, sweeps):
+    """A pair of the first step whose diagonal entries lie farther apart than any finite value is large: its turn
+    takes them beyond the range."""
     matrix = ordinary(rng, n, sweeps)
     p = n % 2 + 2 * rng.randrange(n // 2)
     sign = rng.getrandbits(1)
@@ -418,7 +437,7 @@ def heights(n, sweeps, matrix):
 
 def spoiled_late(rng, n, sweeps):
     """A matrix scaled so that a step after the first spoils it, and none before, often a step after the
-    first sweep (order 3 and a sweep on)."""
+    first sweep (order 3 and a sweep on). It is chosen by document 01's xi, as it was before document 02 (v)."""
     while True:
         v = [rng.uniform(1, 2) for _ in range(n)]
         matrix = mirrored(n, lambda i, j: v[i] * v[j] + rng.uniform(-0.5, 0.5))
@@ -432,7 +451,7 @@ def spoiled_late(rng, n, sweeps):
         step = rng.choice(grown)
         scale = value_of(LARGEST) / math.sqrt(sizes[step] * sizes[step + 1])
         scaled = [pattern_of(value_of(pattern) * scale) for pattern in matrix]
-        if (ran(n, sweeps, scaled).spoiled or 0) > 0:
+        if (ran(n, sweeps, scaled, first_quotient).spoiled or 0) > 0:
             return scaled
 
 
@@ -458,13 +477,13 @@ KINDS = [
     reflected,
     top,
     diagonal,
-    spoiled_by_nan,
+    spoiled_by_spread,
     least,
     any_size,
     first_pairs,
     zero,
 ]
-FIRST_STEP = {spoiled_by_sum, spoiled_by_nan, spoiled_by_turn}
+FIRST_STEP = {spoiled_by_sum, spoiled_by_spread, spoiled_by_turn}
 MAY_SPOIL = FIRST_STEP | {spoiled_late, top, any_size, far_diagonals}
 # Kinds whose results are for the most part plain, left out where a matrix is large.
 PLAIN = FIRST_STEP | {zero, diagonal, signed_zeros, first_pairs, far_diagonals, top}
@@ -744,6 +763,39 @@ def summary(names):
     return ", ".join(f"{name} {count}" for name, count in collections.Counter(names).items())
 
 
+def pairs_at_top(rng, n, _):
+    """Only the first pairs' entries, from 2^1022 to 2^1023, so that most runs stay finite."""
+    less = n % 2
+    return mirrored(n, lambda i, j: within(rng, TOP - 1, TOP - 1) if (i + less) // 2 == (j + less) // 2 else 0.0)
+
+
+def at_top(rng, n, _):
+    """From 2^1022 to the largest finite value."""
+    return mirrored(n, lambda i, j: within(rng, TOP - 1, TOP))
+
+
+def at_bottom(rng, n, _):
+    """Subnormal values, and others on both sides of 2^-1021."""
+    return mirrored(n, lambda i, j: within(rng, 0, 3))
+
+
+def ends_of_range(rng):
+    """Runs with entries at one end of the range, for document 02 (v)."""
+    for kind in (pairs_at_top, at_top, at_bottom):
+        for n in (2, 2, 3, 4, 5, 6, 9):
+            sweeps = rng.randint(1, 3)
+            yield case_of(n, sweeps, kind(rng, n, sweeps))
+
+
+def checked_ends(rng):
+    """The runs at the ends of the range with their outcomes."""
+    made = [(case, outcome_of(case)) for case in ends_of_range(rng)]
+    spoiled = sum(outcome.number == 8 for _, outcome in made)
+    print(f"{len(made)} runs at the ends of the range, {spoiled} of them spoiled")
+    assert 0 < spoiled < len(made)
+    return made
+
+
 def checked_runs(rng, orders):
     """The runs of these orders with their outcomes."""
     made = list(runs(rng, orders))
@@ -774,7 +826,9 @@ def all_lines():
     rng = random.Random(562)
     odd_cases = [*ODD_EXAMPLES, *checked_runs(rng, ODD_ORDERS), *checked_refusals(odd_refusals(rng))]
     filled += zip(odd_cases, finite_patterns(rng))
-    print(f"{len(filled)} plain runs, {len(odd_cases)} of them of odd orders")
+    rng = random.Random(1022)
+    filled += zip(checked_ends(rng), finite_patterns(rng))
+    print(f"{len(filled)} plain runs, {len(odd_cases)} of them drawn for odd orders")
     for (case, outcome), fill in filled:
         yield lines_of(head(case, fill) + case.matrix), answer_of(case, fill, outcome)
 

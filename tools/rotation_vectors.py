@@ -1,7 +1,7 @@
 #!/usr/bin/env python3
 """Bit patterns of f64 values a = a_pp, d = a_qq and b = a_pq of pairs, and what the parameters of each pair are by
-document 01, "One rotation". call_vectors.py writes them to files; run alone, this file only makes and checks them, and
-prints how many there are.
+document 01, "One rotation", and document 02 (v). call_vectors.py writes them to files; run alone, this file only makes
+and checks them, and prints how many there are.
 
 The operations are worked out here with whole numbers alone. Python's own are only held against
 them.
@@ -22,6 +22,10 @@ LARGEST = (0x7FF << 52) - 1
 INFINITY = 0x7FF << 52
 NAN = 0x7FF8 << 48
 STILL = None
+
+LEAST_HALVED = 2 * HIDDEN  # 2^-1021: from there on halving is exact
+TOP_PAIR = (ZERO, 2045 * HIDDEN, 2046 * HIDDEN)  # document 02 (v): 0, 2^1022 and 2^1023
+QUARTER = 0x3FD << 52
 
 # Patterns of a, d and b, and the parameters by document 01: from its printed sheet, and from its
 # entries to try, a pair that stays still and the pair of the largest values.
@@ -141,8 +145,19 @@ def sqrt(x):
 
 
 def quotient(a, d, b):
-    """xi, for a b that is not zero."""
+    """xi by document 02 (v), for a b that is not zero."""
+    return div(sub(div(d, TWO), div(a, TWO)), b)
+
+
+def first_quotient(a, d, b):
+    """xi as document 01 had it."""
     return div(sub(d, a), mul(TWO, b))
+
+
+def is_kept(a, d, b):
+    """Whether document 02 (v) has it that xi keeps its bits."""
+    halved = all(size_of(x) == ZERO or size_of(x) >= LEAST_HALVED for x in (a, d))
+    return halved and is_finite(sub(d, a)) and is_finite(mul(TWO, b))
 
 
 def tangent(a, d, b):
@@ -269,6 +284,21 @@ def random_patterns(rng):
         yield tuple(rng.getrandbits(64) for _ in range(3))
 
 
+def at_the_ends(rng):
+    """Document 02 (v)'s pair; entries from 2^1022 to the largest finite value, subnormal ones and those on both sides of
+    2^-1021, with a zero or an ordinary value in places."""
+    yield TOP_PAIR
+    for low, high in [(2045, 2046), (0, 0), (1, 2), (0, 3)]:
+        for _ in range(60):
+            pair = [within(rng, low, high) for _ in range(3)]
+            if rng.getrandbits(1):
+                pair[rng.randrange(2)] = rng.choice((ZERO, SIGN, within(rng, 1013, 1033)))
+            yield tuple(pair)
+    for a in near(LEAST_HALVED):
+        yield a, ZERO, HIDDEN
+        yield SIGN, a, SIGN + HIDDEN
+
+
 def pairs():
     """All pairs, in order and each once."""
     rng = random.Random(1985)
@@ -282,6 +312,7 @@ def pairs():
     found += huge(rng)
     found += quotients(rng)
     found += random_patterns(rng)
+    found += at_the_ends(rng)
     return list(dict.fromkeys(found))
 
 
@@ -301,14 +332,25 @@ def check(pair, answer):
     a, d, b = map(float_of, pair)
     t = 0.0
     if b != 0:
-        xi = (d - a) / (2 * b)
+        xi = (d / 2 - a / 2) / b
         t = (-1.0 if xi < 0 else 1.0) / (abs(xi) + math.sqrt(1 + xi * xi))
     c = 1 / math.sqrt(1 + t * t)
     found = STILL if t == 0 else tuple(map(pattern_of, (t, c, t * c)))
     assert found == answer, pair
 
 
+def check_quotient(pair):
+    """Holds document 02 (v)'s theorem to a pair, and gives whether xi differs from document 01's."""
+    a, d, b = map(read, pair)
+    if size_of(b) == ZERO:
+        return False
+    differs = quotient(a, d, b) != first_quotient(a, d, b)
+    assert not (differs and is_kept(a, d, b)), pair
+    return differs
+
+
 def check_examples():
+    assert quotient(*TOP_PAIR) == QUARTER and first_quotient(*TOP_PAIR) == ZERO
     for pair, answer in EXAMPLES:
         assert parameters(pair) == answer, pair
 
@@ -322,7 +364,8 @@ def all_lines():
     check_examples()
     made = [(pair, parameters(pair)) for pair in pairs()]
     still = sum(answer == STILL for _, answer in made)
-    print(f"{len(made)} pairs, {still} of them still")
+    other = sum(check_quotient(pair) for pair, _ in made)
+    print(f"{len(made)} pairs, {still} of them still; xi is not document 01's in {other}")
     for pair, answer in made:
         check(pair, answer)
         yield lines_of(pair), ["still\n"] if answer == STILL else lines_of(answer)

@@ -3,6 +3,7 @@ use Rattle.claims.proofs.Sizes.{sizes-as-stated}
 use Rattle.claims.specs.Demands.{Demands}
 use Rattle.claims.proofs.Refusals.{refused-as-tabled}
 use Rattle.claims.proofs.Report.{as-the-report}
+use Rattle.claims.proofs.Quotients.{quotients-as-stated}
 use Rattle.claims.proofs.Sheets.{sheets-kept}
 use Rattle.claims.proofs.PlainRuns.{plain-runs-as-stated}
 use Rattle.claims.proofs.Tiles.{tiles-as-printed}
@@ -17,6 +18,7 @@ demands-met =
       sizes = sizes-as-stated;
       demand-1 = refused-as-tabled;
       demand-2-numbers = as-the-report;
+      quotients = quotients-as-stated;
       demand-2-runs = plain-runs-as-stated;
       demand-2-tiles = tiles-as-printed;
       demand-2-sheets = sheets-kept;

@@ -5,6 +5,7 @@ pub mod RootAnswers
 pub mod Moves
 pub mod Refusals
 pub mod Report
+pub mod Quotients
 pub mod Sheets
 pub mod Histories
 pub mod Forecasts

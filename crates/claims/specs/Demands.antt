@@ -4,6 +4,7 @@
 use Rattle.claims.specs.Sizes.{SizesAsStated}
 use Rattle.claims.specs.Refusals.{RefusedAsTabled}
 use Rattle.claims.specs.Report.{AsTheReport}
+use Rattle.claims.specs.Quotients.{QuotientsAsStated}
 use Rattle.claims.specs.Sheets.{SheetsKept}
 use Rattle.claims.specs.PlainRuns.{PlainRunsAsStated}
 use Rattle.claims.specs.Tiles.{TilesAsPrinted}
@@ -16,6 +17,7 @@ pub record Demands : Type 0 where
   pub sizes : SizesAsStated
   pub demand-1 : RefusedAsTabled
   pub demand-2-numbers : AsTheReport
+  pub quotients : QuotientsAsStated
   pub demand-2-runs : PlainRunsAsStated
   pub demand-2-tiles : TilesAsPrinted
   pub demand-2-sheets : SheetsKept

@@ -2,6 +2,7 @@ pub mod Demands
 pub mod Sizes
 pub mod Refusals
 pub mod Report
+pub mod Quotients
 pub mod Sheets
 pub mod PlainRuns
 pub mod Tiles

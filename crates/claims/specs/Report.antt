@@ -1,18 +1,18 @@
 -- Demand 2 on numbers (document 00; document 01, "Square root", "One rotation", "Pairs and their movement"; document 02
--- (ii) and (iv)). Definitions only.
+-- (ii), (iv) and (v)). Definitions only.
 use Prim.Native.Nat.{ℕ, suc, _+_, _-_, _*_, _%_, _^_, _≤_, _<_}
 use mathlib.Core.Path.{_≡_}
 use mathlib.Core.Bool.{true, false, cond}
 use lib.Dec.{T}
 use lib.ListN.{getD}
 use lib.Ieee.{Float, nan, inf, binary64, fits, neg, add, sub, mul, div, lt, ofBits, toBits}
-use Rattle.float64.specs.Values.{plusZero, one, finite, isZero, magnitude}
+use Rattle.float64.specs.Values.{plusZero, one, two, finite, isZero, magnitude}
 use Rattle.float64.specs.Units.{unitsOf}
 use Rattle.refusal.specs.Answers.{given}
 use Rattle.root.specs.Sqrt.{sqrtOf}
 use Rattle.rotation.specs.declared.Parameters.{Parameters}
 use Rattle.rotation.specs.declared.Parameters.the-variants.{Still, Turn}
-use Rattle.rotation.specs.Rotation.{two, rootOf, signum, ofPair}
+use Rattle.rotation.specs.Rotation.{rootOf, signum, ofPair}
 use Rattle.matrix_turns.specs.Turns.{parametersOf}
 use Rattle.runs.specs.State.{State}
 use Rattle.plain_pair.specs.Pair.{pairRotated}
@@ -53,14 +53,15 @@ pub record RootRoundsCorrectly : Type 0 where
       → (r : Float) × CorrectlyRounded x r
 
 -- ---- rotation
--- a is a_pp, d is a_qq, b is a_pq. The steps are those of document 003, (5.1), in that order: difference, double,
--- quotient (ξ), tangent, cosine, sine.
+-- a is a_pp, d is a_qq, b is a_pq. The steps are those of document 003, (5.1), in that order, with ξ by halves as
+-- document 02 (v) has it: half of d, half of a, difference, quotient (ξ), tangent, cosine, sine.
 abbrev pub TurnsByTheReport : Type 0
 TurnsByTheReport =
     (a d b : Float) → isZero b ≡ false
-    → (let difference = sub binary64 d a in
-    let double = mul binary64 two b in
-    let ξ = div binary64 difference double in
+    → (let half-d = div binary64 d two in
+    let half-a = div binary64 a two in
+    let difference = sub binary64 half-d half-a in
+    let ξ = div binary64 difference b in
     let t = div binary64 (signum ξ) (add binary64 (magnitude ξ) (rootOf (add binary64 one (mul binary64 ξ ξ)))) in
     let c = div binary64 one (rootOf (add binary64 one (mul binary64 t t))) in
     let s = mul binary64 t c in
@@ -120,7 +121,7 @@ pub record RotationIsTheReports : Type 0 where
   pub sign-above : (ξ : Float) → lt plusZero ξ ≡ true → signum ξ ≡ one
   -- if ξ isn't a number, neither are t, c and s, and what isn't a number has the bits 7FF8000000000000
   pub not-a-number : (a d b : Float) → isZero b ≡ false
-      → div binary64 (sub binary64 d a) (mul binary64 two b) ≡ nan
+      → div binary64 (sub binary64 (div binary64 d two) (div binary64 a two)) b ≡ nan
       → ofPair a d b ≡ Turn nan nan nan
   pub nan-bits : toBits binary64 nan ≡ 0x7ff8_0000_0000_0000
 

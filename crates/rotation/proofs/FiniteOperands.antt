@@ -2,7 +2,7 @@
 use lib.IntN.{pos}
 use mathlib.Core.Path.{_≡_, refl, sym, ap, _∙_}
 use mathlib.Core.Bool.{Bool, true, false, true≢false}
-use lib.Ieee.{Float, nan, inf, fin, binary64, neg, add, sub, mul, div, lt, ofBits}
+use lib.Ieee.{Float, nan, inf, fin, binary64, neg, add, mul, div, lt, ofBits}
 use Rattle.float64.specs.Values.{finite, isZero}
 use Rattle.float64.proofs.Operands.{BothFinite, sum-operands, difference-operands, product-operands}
 use Rattle.float64.proofs.Vanishing.{Zero, product-zero, sum-of-zeros, difference-of-zeros}
@@ -57,9 +57,9 @@ by-infinity (inf s) t = rw tangent-nan
 by-infinity (fin s m e) t = tangent-zero _
 
 pub still-kept : (a d b : Float) → ofPair a d b ≡ Still → finite b ≡ true
-unfolding ofPair tangentOfPair quotient mul ofBits finite
-still-kept a d nan e = absurd (true≢false (sym (ap isStill e) ∙ turns _ (by-nan (sub binary64 d a))))
-still-kept a d (inf t) e = absurd (true≢false (sym (ap isStill e) ∙ turns _ (by-infinity (sub binary64 d a) _)))
+unfolding ofPair tangentOfPair quotient finite
+still-kept a d nan e = absurd (true≢false (sym (ap isStill e) ∙ turns _ (by-nan _)))
+still-kept a d (inf t) e = absurd (true≢false (sym (ap isStill e) ∙ turns _ (by-infinity _ t)))
 still-kept a d (fin s m k) e = refl
 
 -- ---- the pair itself

@@ -1,3 +1,5 @@
 pub mod ParameterCases
 pub mod FiniteOperands
 pub mod ReportFormulas
+pub mod HalvedQuotient
+pub mod FiniteParameters

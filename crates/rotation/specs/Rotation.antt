@@ -1,17 +1,14 @@
--- Document 01, "One rotation": tangent, cosine and sine of a pair, and what they do to two values. Definitions only.
--- Each operation is rounded, in the order of document 003, (5.1).
+-- Document 01, "One rotation", and document 02 (v): tangent, cosine and sine of a pair, and what they do to two values. Definitions only.
+-- Each operation is rounded, in the order of document 003, (5.1), with ξ by halves.
 use mathlib.Core.Bool.{cond}
-use lib.Ieee.{Float, nan, binary64, neg, add, sub, mul, div, lt, ofBits}
+use lib.Ieee.{Float, nan, binary64, neg, add, sub, mul, div, lt}
 use Rattle.refusal.specs.Answers.{valueOr}
-use Rattle.float64.specs.Values.{plusZero, one, isZero, magnitude}
+use Rattle.float64.specs.Values.{plusZero, one, two, isZero, magnitude}
 use Rattle.root.specs.Sqrt.{sqrtOf}
 use Rattle.rotation.specs.declared.Parameters.{Parameters}
 use Rattle.rotation.specs.declared.Parameters.the-variants.{Still, Turn}
 use Rattle.rotation.specs.declared.Angle.{Angle}
 use Rattle.rotation.specs.declared.Sides.{Sides}
-
-abbrev pub two : Float
-two = ofBits binary64 0x4000_0000_0000_0000
 
 -- The root of x, or the NaN where it is refused.
 unfoldable pub rootOf : Float → Float
@@ -27,9 +24,9 @@ tangentOf ξ = div binary64 (signum ξ) (add binary64 (magnitude ξ) (rootOf (ad
 unfoldable pub cosineOf : Float → Float
 cosineOf t = div binary64 one (rootOf (add binary64 one (mul binary64 t t)))
 
--- The quotient ξ of a pair: a is a_pp, d is a_qq, b is a_pq.
+-- The quotient ξ of a pair by document 02 (v): a is a_pp, d is a_qq, b is a_pq.
 unfoldable pub quotient : Float → Float → Float → Float
-quotient a d b = div binary64 (sub binary64 d a) (mul binary64 two b)
+quotient a d b = div binary64 (sub binary64 (div binary64 d two) (div binary64 a two)) b
 
 unfoldable pub tangentOfPair : Float → Float → Float → Float
 tangentOfPair a d b = cond (isZero b) plusZero (tangentOf (quotient a d b))

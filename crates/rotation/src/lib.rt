@@ -1,4 +1,4 @@
-// One rotation of a pair of lines (document 01, "One rotation"; document 003, (5.1)).
+// One rotation of a pair of lines (document 01, "One rotation"; document 02 (v); document 003, (5.1)).
 ghost use mathlib.Core.Path.{_≡_};
 ghost use Rattle.rotation.specs.Rotation.{rootOf, signum, tangentOf, cosineOf, angleOf, ofAngle, tangentOfPair, ofTangent, ofPair};
 ghost use Rattle.rotation.specs.Rotation.{sent, diagonalOf, turnOf};
@@ -22,18 +22,19 @@ pub struct Sides {
     pub right: f64,
 }
 
-// The parameters of a pair, from a = a_pp, d = a_qq and b = a_pq, in the steps of document 003, (5.1), where the quotient is ξ. Document 01 completes
-// them: a pair is still where b is zero, and where t is; the sign of zero is 1 (`sign`); and where ξ isn't a number, t, c and s aren't either
-// (`root_or_nan`).
+// The parameters of a pair, from a = a_pp, d = a_qq and b = a_pq, in the steps of document 003, (5.1), where the quotient is ξ. Document 02 (v) has ξ by
+// halves, and no double. Document 01 completes the steps: a pair is still where b is zero, and where t is; the sign of zero is 1 (`sign`); and where ξ isn't
+// a number, t, c and s aren't either (`root_or_nan`), which finite entries never make.
 pub fn of_pair(a: f64, d: f64, b: f64) -> Parameters
     ensures { λ r. ⌜ r ≡ ofPair a d b ⌝ }
 {
     if b == 0.0 {
         return Parameters::Still;
     }
-    let difference = d - a;
-    let double = 2.0 * b;
-    let quotient = difference / double;
+    let half_d = d / 2.0;
+    let half_a = a / 2.0;
+    let difference = half_d - half_a;
+    let quotient = difference / b;
     let tangent = tangent_of(quotient);
     if tangent == 0.0 {
         return Parameters::Still;
@@ -50,9 +51,10 @@ pub fn tangent_of_pair(a: f64, d: f64, b: f64) -> f64
     if b == 0.0 {
         return 0.0;
     }
-    let difference = d - a;
-    let double = 2.0 * b;
-    let quotient = difference / double;
+    let half_d = d / 2.0;
+    let half_a = a / 2.0;
+    let difference = half_d - half_a;
+    let quotient = difference / b;
     tangent_of(quotient)
 }
 

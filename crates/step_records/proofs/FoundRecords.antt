@@ -30,6 +30,7 @@ use Rattle.step_records.specs.Records.{recordOf, recordAt, beforeRecords
 pub record AcceptedCall (n : ℕ) (l : List Float) (room : ℕ) : Type 0 where
   pub order : isOrder n ≡ true
   pub long : length l ≡ n * n
+  pub entries : entriesOf n l ≡ given tt
   pub enough : processorsOf n ≤ room
 
 pub accepted-call : (n : ℕ) (l : List Float) (room : ℕ) → beforeRecords n l room ≡ given tt → AcceptedCall n l room
@@ -42,6 +43,7 @@ accepted-call n l room e =
     record {
       order = positive (isOrder n) (row-given _ Order (order .0));
       long = eqb-true _ _ (positive (isSquare n (length l)) (row-given _ Length (square .0)));
+      entries = entries .0;
       enough = ltb-false _ _ (row-given _ TooShort (entries .1));
     }
   where

@@ -3,3 +3,4 @@ pub mod AbsentProcessor
 pub mod WrittenRows
 pub mod FoundRecords
 pub mod LeftRows
+pub mod FiniteRecords

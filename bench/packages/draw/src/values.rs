@@ -8,7 +8,7 @@ const POWER: u64 = 1 << 52;
 const TOP: u64 = 0x7FF * POWER;
 
 /// Kinds of entries that a matrix may have.
-pub const ENTRY_KINDS: usize = 10;
+pub const ENTRY_KINDS: usize = 12;
 
 impl Random {
     /// A value from -1 to 1.
@@ -66,8 +66,15 @@ impl Random {
         f64::from_bits(self.near((y * y * scale).to_bits()))
     }
 
+    /// A value of either sign whose exponent's field is from low to high.
+    fn within(&mut self, low: u64, high: u64) -> f64 {
+        let field = low + self.word() % (high - low + 1);
+        f64::from_bits((self.word() & SIGN) + field * POWER + self.word() % POWER)
+    }
+
     /// An entry of one of `ENTRY_KINDS` kinds. Three are ordinary; the others are huge, as large as can be, any finite
-    /// pattern, tiny, a few times the smallest, small whole numbers, or zeros with a few of those.
+    /// pattern, tiny, a few times the smallest, small whole numbers, zeros with a few of those, from 2^1022 to the
+    /// largest, or subnormal and on both sides of 2^-1021.
     pub fn entry(&mut self, kind: usize) -> f64 {
         match kind {
             0..=2 => self.unit(),
@@ -77,7 +84,9 @@ impl Random {
             6 => self.unit() * 2f64.powi(-520) * 2f64.powi(-520),
             7 => f64::from_bits(self.below(8) as u64).copysign(self.unit()),
             8 => (self.below(4) as f64).copysign(self.unit()),
-            _ => ((self.below(17) / 16) as f64).copysign(self.unit()),
+            9 => ((self.below(17) / 16) as f64).copysign(self.unit()),
+            10 => self.within(2045, 2046),
+            _ => self.within(0, 3),
         }
     }
 

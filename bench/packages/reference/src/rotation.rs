@@ -1,4 +1,4 @@
-//! The parameters of a pair (document 01, "One rotation").
+//! The parameters of a pair (document 01, "One rotation"; document 02 (v)).
 use crate::numbers::bits;
 
 /// Tangent, cosine and sine of a turn.
@@ -14,7 +14,7 @@ pub fn parameters(a: f64, d: f64, b: f64) -> Option<Turn> {
     if b == 0.0 {
         return None;
     }
-    let xi = (d - a) / (2.0 * b);
+    let xi = (d / 2.0 - a / 2.0) / b;
     let sign = if xi < 0.0 { -1.0 } else { 1.0 };
     of_tangent(sign / (xi.abs() + (1.0 + xi * xi).sqrt()))
 }

@@ -1,0 +1,38 @@
+-- Document 02 (v), each part by the law that proves it. Assumes nothing.
+use Prim.Native.Nat.{_-_}
+use mathlib.Core.Path.{refl, subst}
+use native.Mathlib.Omega.{arith}
+use lib.Ieee.{div, sub, mul, add, neg, ofBits}
+use Rattle.float64.proofs.Bounds.{no-nan}
+use Rattle.rotation.specs.Rotation.{quotient}
+use Rattle.rotation.proofs.HalvedQuotient.{keeps-its-bits}
+use Rattle.rotation.proofs.FiniteParameters.{AllFinite, quotient-number, parameters-finite}
+use Rattle.step_records.proofs.FiniteRecords.{records-finite}
+use Rattle.claims.specs.Quotients.{BitsThatChange, FiniteEntriesTurn, QuotientsAsStated}
+
+change : BitsThatChange
+unfolding div sub mul add neg ofBits
+change =
+    record {
+      infinite-double = (refl, refl);
+      infinite-difference = (refl, refl);
+      subnormal = (refl, refl);
+      just-below = (refl, refl);
+    }
+
+finite-entries : FiniteEntriesTurn
+unfolding quotient
+finite-entries =
+    record {
+      number = λ a d b A D f g h z. no-nan _ (quotient-number a d b A D f g h z);
+      turn = λ a d b A D f g h t c s e. subst AllFinite e (parameters-finite a d b A D f g h);
+    }
+
+pub quotients-as-stated : QuotientsAsStated
+quotients-as-stated =
+    record {
+      keeps-its-bits = keeps-its-bits;
+      bits-that-change = change;
+      finite-entries-turn = finite-entries;
+      records-are-finite = λ n l step ys other b e k low high. records-finite n l step ys other b e (k - 1) (omega arith);
+    }
