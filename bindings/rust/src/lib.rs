@@ -52,7 +52,7 @@ pub fn root(x: f64) -> Result<f64, Refusal> {
     answer(number, Place::default(), root)
 }
 
-/// The parameters of a pair, from a = a_pp, d = a_qq and b = a_pq.
+/// The parameters of a pair, from a = a_pp, d = a_qq and b = a_pq. They are finite where these are.
 pub fn parameters(a: f64, d: f64, b: f64) -> Parameters {
     let (mut turn, mut t, mut c, mut s) = (0, 0.0, 0.0, 0.0);
     calls::parameters(a, d, b, &mut turn, &mut t, &mut c, &mut s);
@@ -76,7 +76,7 @@ pub fn pairs(
 }
 
 /// Writes tangent, cosine and sine of each pair of a step, from 0, into a lent row of three values to a processor.
-/// There are (n + 1) / 2 processors, of which the first is always still where the order is odd.
+/// There are (n + 1) / 2 processors, of which the first is always still where the order is odd. All values are finite.
 pub fn records(n: usize, matrix: &[f64], step: usize, records: &mut [f64]) -> Result<(), Refusal> {
     let mut place = Place::default();
     let number = calls::records(n, matrix, step, records, &mut place);

@@ -2,7 +2,8 @@
 use Prim.Native.Nat.{_-_}
 use mathlib.Core.Path.{refl, subst}
 use native.Mathlib.Omega.{arith}
-use lib.Ieee.{div, sub, mul, add, neg, ofBits}
+use lib.Ieee.{div, sub, mul, add, neg, le, ofBits}
+use Rattle.float64.specs.Values.{finite}
 use Rattle.float64.proofs.Bounds.{no-nan}
 use Rattle.rotation.specs.Rotation.{quotient}
 use Rattle.rotation.proofs.HalvedQuotient.{keeps-its-bits}
@@ -11,13 +12,14 @@ use Rattle.step_records.proofs.FiniteRecords.{records-finite}
 use Rattle.claims.specs.Quotients.{BitsThatChange, FiniteEntriesTurn, QuotientsAsStated}
 
 change : BitsThatChange
-unfolding div sub mul add neg ofBits
+unfolding div sub mul add neg le finite ofBits
 change =
     record {
-      infinite-double = (refl, refl);
-      infinite-difference = (refl, refl);
-      subnormal = (refl, refl);
-      just-below = (refl, refl);
+      infinite-difference = record { conditions = refl; is = refl; was = refl };
+      infinite-double = record { conditions = refl; is = refl; was = refl };
+      subnormal-left = record { conditions = refl; is = refl; was = refl };
+      subnormal-right = record { conditions = refl; is = refl; was = refl };
+      just-below = record { conditions = refl; is = refl; was = refl };
     }
 
 finite-entries : FiniteEntriesTurn

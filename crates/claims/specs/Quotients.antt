@@ -3,9 +3,8 @@
 -- Definitions only.
 use Prim.Native.Nat.{ℕ, _-_, _≤_}
 use mathlib.Core.Path.{_≡_}
-use mathlib.Core.Bool.{true, false}
-use mathlib.Core.List.{List}
-use mathlib.Core.Logic.{_⊎_}
+use mathlib.Core.Bool.{Bool, true, false, _||_}
+use mathlib.Core.List.{List, [], _∷_}
 use lib.Dec.{T}
 use lib.ListN.{getD}
 use lib.Ieee.{Float, binary64, fits, sub, mul, div, le, isNan, ofBits}
@@ -20,8 +19,8 @@ use Rattle.claims.specs.Histories.{Binary64}
 
 -- ---- where ξ keeps its bits
 -- Zero, of either sign, or at least 2 ^ -1021 in magnitude.
-abbrev pub ZeroOrAtLeast : Float → Type 0
-ZeroOrAtLeast x = (isZero x ≡ true) ⊎ (le (ofBits binary64 0x0020_0000_0000_0000) (magnitude x) ≡ true)
+abbrev pub zeroOrAtLeast : Float → Bool
+zeroOrAtLeast x = isZero x || le (ofBits binary64 0x0020_0000_0000_0000) (magnitude x)
 
 -- Wherever d - a and 2 b are finite and each of a and d is zero or at least 2 ^ -1021 in magnitude, the two are one
 -- value. This is for every a, d and b of binary64; where b is zero ξ is not found, and the two agree all the same.
@@ -30,34 +29,44 @@ KeepsItsBits =
     (a d b : Float) → T (fits binary64 a) → T (fits binary64 d) → T (fits binary64 b)
     → finite (sub binary64 d a) ≡ true
     → finite (mul binary64 two b) ≡ true
-    → ZeroOrAtLeast a → ZeroOrAtLeast d
+    → zeroOrAtLeast a ≡ true → zeroOrAtLeast d ≡ true
     → div binary64 (sub binary64 (div binary64 d two) (div binary64 a two)) b
     ≡ div binary64 (sub binary64 d a) (mul binary64 two b)
 
 -- ---- where it does not
--- The new ξ and document 01's, for three patterns.
-abbrev pub Quotients : ℕ → ℕ → ℕ → ℕ → ℕ → Type 0
-Quotients x y z now before =
-    let a = ofBits binary64 x in
-    let d = ofBits binary64 y in
-    let b = ofBits binary64 z in
-    (div binary64 (sub binary64 (div binary64 d two) (div binary64 a two)) b ≡ ofBits binary64 now)
-    × (div binary64 (sub binary64 d a) (mul binary64 two b) ≡ ofBits binary64 before)
+-- The conditions in their order: d - a, 2 b, a and d.
+abbrev pub conditionsOf : Float → Float → Float → List Bool
+conditionsOf a d b =
+    finite (sub binary64 d a) ∷ finite (mul binary64 two b) ∷ zeroOrAtLeast a ∷ zeroOrAtLeast d ∷ []
 
--- Each of the four fails one condition and meets the others.
+-- For three patterns, which conditions they meet, and the patterns of the new ξ and of document 01's.
+pub record Quotients (x y z : ℕ) (met : List Bool) (now before : ℕ) : Type 0 where
+  pub conditions : conditionsOf (ofBits binary64 x) (ofBits binary64 y) (ofBits binary64 z) ≡ met
+  pub is : (let a = ofBits binary64 x in
+      let d = ofBits binary64 y in
+      let b = ofBits binary64 z in
+      div binary64 (sub binary64 (div binary64 d two) (div binary64 a two)) b ≡ ofBits binary64 now)
+  pub was : (let a = ofBits binary64 x in
+      let d = ofBits binary64 y in
+      let b = ofBits binary64 z in
+      div binary64 (sub binary64 d a) (mul binary64 two b) ≡ ofBits binary64 before)
+
+-- No condition can be left out, and 2 ^ -1021 can't be smaller: each of these fails one and meets the others.
 pub record BitsThatChange : Type 0 where
-  -- 2 b is infinite: a is 0, d is 2 ^ 1022 and b is 2 ^ 1023. ξ is 1 / 4; it was 0.
-  pub infinite-double : Quotients 0 0x7fd0_0000_0000_0000 0x7fe0_0000_0000_0000
-      0x3fd0_0000_0000_0000 0
-  -- d - a is infinite: a is -2 ^ 1023, d is 2 ^ 1023 and b is 2 ^ 1022. ξ is 2; it was infinite.
+  -- a is -2 ^ 1023, d is 2 ^ 1023 and b is 2 ^ 1022: ξ is 2, and was infinite.
   pub infinite-difference : Quotients 0xffe0_0000_0000_0000 0x7fe0_0000_0000_0000 0x7fd0_0000_0000_0000
-      0x4000_0000_0000_0000 0x7ff0_0000_0000_0000
-  -- a is subnormal: a and b are 2 ^ -1074 and d is 0. Half of a rounds to 0, and so ξ is 0; it was -1 / 2.
-  pub subnormal : Quotients 1 0 1 0 0xbfe0_0000_0000_0000
-  -- a is the value before 2 ^ -1021, b is 2 ^ -1022 and d is 0. Half of a rounds up, and ξ is -1; it was the value
-  -- after it towards 0.
+      (false ∷ true ∷ true ∷ true ∷ []) 0x4000_0000_0000_0000 0x7ff0_0000_0000_0000
+  -- Document 02's own: a is 0, d is 2 ^ 1022 and b is 2 ^ 1023. ξ is 1 / 4, and was 0.
+  pub infinite-double : Quotients 0 0x7fd0_0000_0000_0000 0x7fe0_0000_0000_0000
+      (true ∷ false ∷ true ∷ true ∷ []) 0x3fd0_0000_0000_0000 0
+  -- a is subnormal, 2 ^ -1074, d is 0 and b is 2 ^ -1074: half of a rounds to 0. ξ is 0, and was -1 / 2.
+  pub subnormal-left : Quotients 1 0 1 (true ∷ true ∷ false ∷ true ∷ []) 0 0xbfe0_0000_0000_0000
+  -- a is 0, and d and b are 2 ^ -1074: ξ is 0, and was 1 / 2.
+  pub subnormal-right : Quotients 0 1 1 (true ∷ true ∷ true ∷ false ∷ []) 0 0x3fe0_0000_0000_0000
+  -- a is the value before 2 ^ -1021, d is 0 and b is 2 ^ -1022: half of a rounds up. ξ is -1, and was the value after
+  -- it towards 0.
   pub just-below : Quotients 0x001f_ffff_ffff_ffff 0 0x0010_0000_0000_0000
-      0xbff0_0000_0000_0000 0xbfef_ffff_ffff_ffff
+      (true ∷ true ∷ false ∷ true ∷ []) 0xbff0_0000_0000_0000 0xbfef_ffff_ffff_ffff
 
 -- ---- finite entries
 -- Where a, d and b are finite and b is not zero, ξ is a number; document 01's was none where both d - a and 2 b were

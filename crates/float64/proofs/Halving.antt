@@ -1,14 +1,14 @@
 -- Values of which one is twice the other: halves, doubles, and the differences and quotients of such. Assumes nothing.
 use mathlib.Core.Path.{_≡_, refl, sym, ap, _∙_, subst}
 use mathlib.Core.Logic.{_⊎_, inl, inr}
-use mathlib.Core.Bool.{Bool, true, false, not, true≢false}
+use mathlib.Core.Bool.{Bool, true, false, not, _||_, true≢false}
 use Prim.Native.Nat.{ℕ, zero, suc, _+_, _-_, _*_, _^_, _≤_, _<_}
 use native.Mathlib.Nat.{le-trans, le-of-eq, le-of-lt, lt-of-lt-of-le, lt-of-le-of-lt, lt-of-not-le, mul-comm, mul-assoc, mul-right-comm, mul-one, one-mul}
 use native.Mathlib.Nat.{mul-pos, zero-lt-suc, mul-div-cancel, mul-le-mul-right, le-of-mul-le-mul-right, pow-suc}
 use native.Mathlib.Decide.{decLe}
 use native.Mathlib.Omega.{arith}
 use borrow.Author.Tests.{eqb-true}
-use lib.Dec.{T, lit<, lit≤, ltb}
+use lib.Dec.{T, lit<, lit≤, ltb, eqb}
 use lib.IntN.{ℤ, pos}
 use lib.Pow.{pow-pos, pow-mono}
 use lib.Ieee.{Float, nan, inf, fin, binary64, unlike, up, down, size, round, sum, sub, mul, div, le, fits, ofBits}
@@ -37,7 +37,7 @@ abbrev least : Float
 least = ofBits binary64 0x0020_0000_0000_0000
 
 abbrev pub Halvable : Float → Type 0
-Halvable x = (isZero x ≡ true) ⊎ (le least (magnitude x) ≡ true)
+Halvable x = (isZero x || le least (magnitude x)) ≡ true
 
 least-magnitude : Magnitude least
 unfolding ofBits finite fits
@@ -54,10 +54,13 @@ unsigned-fits s (suc m) e t = t
 
 halvable-units : (s : Bool) (m : ℕ) (e : ℤ) → T (fits binary64 (fin s m e)) → Halvable (fin s m e)
     → (unitsOf (fin s m e) ≡ 0) ⊎ (2 ^ 53 ≤ unitsOf (fin s m e))
-halvable-units s m e t (inl z) = inl (rw (eqb-true m 0 z) (zero-units s e))
-halvable-units s m e t (inr h) =
-    let x : Magnitude (fin false m e) = record { is-finite = unfold finite in tt; unsigned = refl; is-held = unsigned-fits s m e t } in
-    inr (subst (λ (n : ℕ). n ≤ unitsOf (fin s m e)) least-units (units-of-le least (fin false m e) least-magnitude x (subst T (sym h) tt)))
+halvable-units s m e t h = go (eqb m 0) refl h
+  where
+    go : (z : Bool) → eqb m 0 ≡ z → (z || le least (fin false m e)) ≡ true → (unitsOf (fin s m e) ≡ 0) ⊎ (2 ^ 53 ≤ unitsOf (fin s m e))
+    go true z h = inl (rw (eqb-true m 0 z) (zero-units s e))
+    go false z h =
+        let x : Magnitude (fin false m e) = record { is-finite = unfold finite in tt; unsigned = refl; is-held = unsigned-fits s m e t } in
+        inr (subst (λ (n : ℕ). n ≤ unitsOf (fin s m e)) least-units (units-of-le least (fin false m e) least-magnitude x (subst T (sym h) tt)))
 
 record Even (u : ℕ) : Type 0 where
   half : ℕ
