@@ -50,7 +50,7 @@ fn put_record(fields: Record, at: usize, values: &mut [f64])
     requires { ⌜ at + 3 ≤ length (now values) ⌝ }
     ensures { λ _. ⌜ now (values .exit) ≡ set (set (set (now (values .entry)) at (fields .t)) (at + 1) (fields .c)) (at + 2) (fields .s) ⌝ }
 {
-    values[at] = crate::answers::canonical(fields.t);
-    values[at + 1] = crate::answers::canonical(fields.c);
-    values[at + 2] = crate::answers::canonical(fields.s);
+    values[at] = fields.t;
+    values[at + 1] = fields.c;
+    values[at + 2] = fields.s;
 }

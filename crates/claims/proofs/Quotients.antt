@@ -4,7 +4,7 @@ use mathlib.Core.Path.{refl, subst}
 use native.Mathlib.Omega.{arith}
 use lib.Ieee.{div, sub, mul, add, neg, le, ofBits}
 use Rattle.float64.specs.Values.{finite}
-use Rattle.float64.proofs.Bounds.{no-nan}
+use Rattle.float64.proofs.Bounds.{is-number}
 use Rattle.rotation.specs.Rotation.{quotient}
 use Rattle.rotation.proofs.HalvedQuotient.{keeps-its-bits}
 use Rattle.rotation.proofs.FiniteParameters.{AllFinite, quotient-number, parameters-finite}
@@ -26,7 +26,7 @@ finite-entries : FiniteEntriesTurn
 unfolding quotient
 finite-entries =
     record {
-      number = λ a d b A D f g h z. no-nan _ (quotient-number a d b A D f g h z);
+      number = λ a d b A D f g h z. is-number _ (quotient-number a d b A D f g h z);
       turn = λ a d b A D f g h t c s e. subst AllFinite e (parameters-finite a d b A D f g h);
     }
 

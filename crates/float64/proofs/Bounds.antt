@@ -23,7 +23,7 @@ AtMost P nan = ⊥
 AtMost P (inf s) = ⊥
 AtMost P (fin s m e) = m * up e * 2 ^ 1074 ≤ P * down e
 
--- x has no sign and is of at least P units; +infinity is
+-- the sign of x is +, and it is of at least P units or infinite
 abbrev pub AtLeast : ℕ → Float → Type 0
 AtLeast P nan = ⊥
 AtLeast P (inf s) = s ≡ false
@@ -47,11 +47,11 @@ bounded-number P nan h = absurd h
 bounded-number P (inf s) h = absurd h
 bounded-number P (fin s m e) h = (refl, none _ _)
 
-pub no-nan : (x : Float) → Number x → isNan x ≡ false
+pub is-number : (x : Float) → Number x → isNan x ≡ false
 unfolding isNan
-no-nan nan h = absurd h
-no-nan (inf s) h = refl
-no-nan (fin s m e) h = refl
+is-number nan h = absurd h
+is-number (inf s) h = refl
+is-number (fin s m e) h = refl
 
 -- ---- by a comparison with a value of P units
 at-most : (x y : Float) (P : ℕ) → T (le (magnitude x) y) → HasValue y false P (2 ^ 1074) → AtMost P x

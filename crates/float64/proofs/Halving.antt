@@ -94,13 +94,13 @@ half-of (fin t m e) s v g l h =
     (rounds-to (unlike t false) (m * up e * 1) (2 * down e) v (mul-pos (zero-lt-suc 1) (down-pos e)) g l
     (ap (λ (z : ℕ). z * 2 ^ 1074) (mul-one (m * up e)) ∙ h .1 ∙ mul-assoc v 2 (down e))))
 
-no-nan : ¬ (finite nan ≡ true)
+nan-not-finite : ¬ (finite nan ≡ true)
 unfolding finite
-no-nan e = true≢false (sym e)
+nan-not-finite e = true≢false (sym e)
 
-no-infinity : (s : Bool) → ¬ (finite (inf s) ≡ true)
+infinity-not-finite : (s : Bool) → ¬ (finite (inf s) ≡ true)
 unfolding finite
-no-infinity s e = true≢false (sym e)
+infinity-not-finite s e = true≢false (sym e)
 
 half-below : (n v : ℕ) → n ≡ v * 2 → n < 2 ^ 2098 → v < 2 ^ 2098
 half-below n v e l = lt-of-le-of-lt (more n v e) l
@@ -109,8 +109,8 @@ half-below n v e l = lt-of-le-of-lt (more n v e) l
     more n v e = omega arith
 
 pub halved : (x : Float) → finite x ≡ true → T (fits binary64 x) → Halvable x → Twice x (div binary64 x two)
-halved nan f t h = absurd (no-nan f)
-halved (inf s) f t h = absurd (no-infinity s f)
+halved nan f t h = absurd (nan-not-finite f)
+halved (inf s) f t h = absurd (infinity-not-finite s f)
 halved (fin s m e) f t h =
     let x = fin s m e in
     let p = held x (unfold finite in tt) t in
@@ -137,8 +137,8 @@ unfolding ofBits
 twice-is s m e = mul-is false 1 (pos 1) s m e
 
 pub doubled : (x : Float) → T (fits binary64 x) → finite (mul binary64 two x) ≡ true → Twice (mul binary64 two x) x
-doubled nan t f = absurd (no-nan (product-operands two nan f .1))
-doubled (inf s) t f = absurd (no-infinity s (product-operands two (inf s) f .1))
+doubled nan t f = absurd (nan-not-finite (product-operands two nan f .1))
+doubled (inf s) t f = absurd (infinity-not-finite s (product-operands two (inf s) f .1))
 doubled (fin s m e) t f =
     let x = fin s m e in
     let p = held x (unfold finite in tt) t in

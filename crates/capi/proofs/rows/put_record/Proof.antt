@@ -1,20 +1,15 @@
+use mathlib.Core.Path.{refl}
 use native.Mathlib.Omega.{arith}
 use lib.ListN.{length-set}
 use borrow.Author.Needs.{needs}
 use Rattle.capi.proofs.rows.put_record.Statement.{statement}
 use Rattle.capi.proofs.rows.put_record.Tie as tie
 
-canonical-requires : tie.Need-canonical-requires
-canonical-requires c κs = search needs
-
 mul-values : tie.Need-mul-values
 mul-values c = search needs
 
 slice-write-values : tie.Need-slice-write-values
 slice-write-values c = search needs
-
-canonical-requires-2 : tie.Need-canonical-requires-2
-canonical-requires-2 c κs = search needs
 
 add-values : tie.Need-add-values
 add-values c = search needs
@@ -24,9 +19,6 @@ mul-values-2 c = search needs
 
 slice-write-values-2 : tie.Need-slice-write-values-2
 slice-write-values-2 c = simp length-set (omega arith)
-
-canonical-requires-3 : tie.Need-canonical-requires-3
-canonical-requires-3 c κs = search needs
 
 add-values-2 : tie.Need-add-values-2
 add-values-2 c = search needs
@@ -41,20 +33,17 @@ same-length : tie.Need-same-length
 same-length c = search needs
 
 returns : tie.Need-returns
-returns c = rw (c .before .before .canonical .ensures, c .before .canonical2 .ensures, c .canonical3 .ensures)
+returns c = refl
 
 pub put-record-spec : {M : Type 1} → statement M
 put-record-spec =
     tie.close
     (tie.spec
-    canonical-requires
     mul-values
     slice-write-values
-    canonical-requires-2
     add-values
     mul-values-2
     slice-write-values-2
-    canonical-requires-3
     add-values-2
     mul-values-3
     slice-write-values-3
