@@ -7,7 +7,7 @@ use Rattle.float64.specs.Values.{finite}
 use Rattle.float64.proofs.Bounds.{is-number}
 use Rattle.rotation.specs.Rotation.{quotient}
 use Rattle.rotation.proofs.HalvedQuotient.{keeps-its-bits}
-use Rattle.rotation.proofs.FiniteParameters.{AllFinite, quotient-number, parameters-finite}
+use Rattle.rotation.proofs.TurnBounds.{AllFinite, quotient-number, parameters-finite}
 use Rattle.step_records.proofs.FiniteRecords.{records-finite}
 use Rattle.claims.specs.Quotients.{BitsThatChange, FiniteEntriesTurn, QuotientsAsStated}
 

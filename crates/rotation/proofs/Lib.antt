@@ -2,4 +2,4 @@ pub mod ParameterCases
 pub mod FiniteOperands
 pub mod ReportFormulas
 pub mod HalvedQuotient
-pub mod FiniteParameters
+pub mod TurnBounds

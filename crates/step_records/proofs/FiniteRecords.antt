@@ -14,7 +14,7 @@ use Rattle.ordering.specs.Pairs.{registersAt}
 use Rattle.ordering.proofs.RegisterLines.{pair-real}
 use Rattle.rotation.specs.declared.Parameters.{Parameters}
 use Rattle.rotation.specs.declared.Parameters.the-variants.{Still, Turn}
-use Rattle.rotation.proofs.FiniteParameters.{AllFinite, parameters-finite}
+use Rattle.rotation.proofs.TurnBounds.{AllFinite, parameters-finite}
 use Rattle.matrix.specs.Matrix.{at}
 use Rattle.matrix.proofs.AcceptedEntries.{accepted-finite}
 use Rattle.runs.specs.Blocks.{ruled}
