@@ -44,8 +44,9 @@ static uint64_t bits_of(double x) {
 }
 
 static int run(const double *matrix, double results[2][ENTRIES]) {
-    size_t row, column;
-    return weimrukas_plain_run(N, SWEEPS, matrix, ENTRIES, results[0], ENTRIES, results[1], ENTRIES, &row, &column);
+    size_t sweeps, row, column;
+    return weimrukas_plain_run(N, SWEEPS, matrix, ENTRIES, results[0], ENTRIES, results[1], ENTRIES, &sweeps, &row,
+                               &column);
 }
 
 static struct given give(void) {

@@ -1,6 +1,6 @@
 /*
  * The eigenvalues of four coded lines: by plain sweeps, by the array in one call, and by the array tick by tick. First,
- * what the array's run will take.
+ * the most that the array's run can need.
  */
 #include "weimrukas.h"
 
@@ -10,7 +10,7 @@
 #include <string.h>
 
 /* A sheet of either form fits into SHEET bytes. */
-enum { N = 4, SWEEPS = 8, ENTRIES = N * N, SHEET = WEIMRUKAS_LONG_SHEET_LENGTH(N), TEXT = WEIMRUKAS_TEXT_LENGTH(N) };
+enum { N = 4, SWEEPS = 16, ENTRIES = N * N, SHEET = WEIMRUKAS_LONG_SHEET_LENGTH(N), TEXT = WEIMRUKAS_TEXT_LENGTH(N) };
 
 static const uint16_t codes[N] = {7, 19, 42, 201};
 static double matrix[ENTRIES] = {
@@ -33,17 +33,19 @@ static void accepted(int number) {
 static void forecast(void) {
     size_t ticks = 0, values = 0, parameters = 0;
     accepted(weimrukas_forecast(N, SWEEPS, &ticks, &values, &parameters));
-    printf("forecast: %zu ticks, %zu values set on wires, %zu parameters received\n", ticks, values, parameters);
+    printf("forecast: at most %zu ticks, %zu values set on wires, %zu parameters received\n", ticks, values, parameters);
 }
 
 static void run(void) {
     double array_result[ENTRIES], array_vectors[ENTRIES];
-    size_t ticks = 0;
-    accepted(weimrukas_plain_run(N, SWEEPS, matrix, ENTRIES, result, ENTRIES, vectors, ENTRIES, &row, &column));
-    accepted(weimrukas_array_run(N, SWEEPS, matrix, ENTRIES, array_result, ENTRIES, array_vectors, ENTRIES, &ticks,
-                                 &row, &column));
+    size_t sweeps = 0, ticks = 0;
+    accepted(weimrukas_plain_run(N, SWEEPS, matrix, ENTRIES, result, ENTRIES, vectors, ENTRIES, &sweeps, &row, &column));
+    printf("%zu sweeps made of %d\n", sweeps, SWEEPS);
+    accepted(weimrukas_array_run(N, SWEEPS, matrix, ENTRIES, array_result, ENTRIES, array_vectors, ENTRIES, &sweeps,
+                                 &ticks, &row, &column));
     int same = memcmp(result, array_result, sizeof result) == 0 && memcmp(vectors, array_vectors, sizeof vectors) == 0;
-    printf("%zu ticks of the array: %s by plain sweeps\n", ticks, same ? "the same bits as" : "other bits than");
+    printf("%zu sweeps and %zu ticks of the array: %s by plain sweeps\n", sweeps, ticks,
+           same ? "the same bits as" : "other bits than");
     for (size_t k = 0; k < N; k++) {
         printf("line %d: eigenvalue %.6f, eigenvector", codes[k], result[k * N + k]);
         for (size_t i = 0; i < N; i++) {
@@ -91,7 +93,9 @@ int main(void) {
     run_by_hand();
     use_sheet();
     matrix[1 * N + 2] = NAN;
-    int number = weimrukas_plain_run(N, SWEEPS, matrix, ENTRIES, result, ENTRIES, vectors, ENTRIES, &row, &column);
+    size_t sweeps = 0;
+    int number =
+        weimrukas_plain_run(N, SWEEPS, matrix, ENTRIES, result, ENTRIES, vectors, ENTRIES, &sweeps, &row, &column);
     printf("refused %d at row %zu, column %zu\n", number, row, column);
     return 0;
 }

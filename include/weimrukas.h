@@ -58,7 +58,7 @@ extern "C" {
 #define WEIMRUKAS_RESTRICT restrict
 #endif
 
-#define WEIMRUKAS_VERSION "0.6.0"
+#define WEIMRUKAS_VERSION "0.7.0"
 
 #define WEIMRUKAS_MOST_LINES 32 /* the largest order */
 #define WEIMRUKAS_MOST_SWEEPS 16
@@ -113,24 +113,32 @@ uint8_t weimrukas_records(size_t n, const double *matrix, size_t matrix_length, 
                           size_t *WEIMRUKAS_RESTRICT column);
 
 /*
- * The plain run of a number of sweeps: result becomes the last matrix, vectors the eigenvectors, a column each. 1, 2,
- * 3, 5, 6; 8, which fills both with +0.
+ * The plain run of a number of sweeps: result becomes the matrix after them, vectors the eigenvectors, a column each.
+ * The run ends after the first sweep in which every pair was still, a quiet one; further sweeps would change no bit.
+ * *sweeps_made becomes the number of that sweep, from 1, or sweeps if none is quiet. 1, 2, 3, 5, 6; 8, which fills both
+ * results with +0. A refusal leaves *sweeps_made as it was.
  */
 uint8_t weimrukas_plain_run(size_t n, size_t sweeps, const double *matrix, size_t matrix_length,
                             double *WEIMRUKAS_RESTRICT result, size_t result_length, double *WEIMRUKAS_RESTRICT vectors,
-                            size_t vectors_length, size_t *WEIMRUKAS_RESTRICT row, size_t *WEIMRUKAS_RESTRICT column);
+                            size_t vectors_length, size_t *WEIMRUKAS_RESTRICT sweeps_made,
+                            size_t *WEIMRUKAS_RESTRICT row, size_t *WEIMRUKAS_RESTRICT column);
 
-/* The same by the array; *ticks becomes the number of ticks that it made. It gives the same bits and answers. */
+/*
+ * The same by the array, with the same bits and answers; *ticks becomes the number of ticks that it made, those of
+ * *sweeps_made sweeps. A refusal leaves it as it was.
+ */
 uint8_t weimrukas_array_run(size_t n, size_t sweeps, const double *matrix, size_t matrix_length,
                             double *WEIMRUKAS_RESTRICT result, size_t result_length, double *WEIMRUKAS_RESTRICT vectors,
-                            size_t vectors_length, size_t *WEIMRUKAS_RESTRICT ticks, size_t *WEIMRUKAS_RESTRICT row,
+                            size_t vectors_length, size_t *WEIMRUKAS_RESTRICT sweeps_made,
+                            size_t *WEIMRUKAS_RESTRICT ticks, size_t *WEIMRUKAS_RESTRICT row,
                             size_t *WEIMRUKAS_RESTRICT column);
 
 /*
- * What a run by the array takes, before it is made: *ticks becomes the number of its ticks, *values that of the values
- * of the matrix and the eigenvectors that tiles set on their wires, *parameters that of the parameters, a tangent each,
- * that tiles off the diagonal receive. With K = sweeps times the steps of a sweep they are 3 K + N, 8 N N K and
- * 2 N (N - 1) K, where n is even and where it is odd. A run that will answer 8 takes the same. 1, 2.
+ * The most that a run by the array can need, told before it is made; a run that makes all its sweeps needs just this.
+ * *ticks becomes the number of its ticks, *values that of the values of the matrix and the eigenvectors that tiles set
+ * on their wires, *parameters that of the parameters, a tangent each, that tiles off the diagonal receive. With
+ * K = sweeps times the steps of a sweep they are 3 K + N, 8 N N K and 2 N (N - 1) K, where n is even and where it is
+ * odd. A run that will answer 8 needs no more either. 1, 2.
  */
 uint8_t weimrukas_forecast(size_t n, size_t sweeps, size_t *WEIMRUKAS_RESTRICT ticks, size_t *WEIMRUKAS_RESTRICT values,
                            size_t *WEIMRUKAS_RESTRICT parameters);
@@ -157,8 +165,9 @@ uint8_t weimrukas_write_sheet(size_t n, size_t sweeps, const uint16_t *codes, si
 
 /*
  * Reads a sheet, runs the array and puts the printed sheet into text, as ASCII without a final zero; *printed becomes
- * the number of its bytes. The rest of text stays. 3 for fewer than 2 bytes, 1, 2, 3, 4, 5, all of the sheet; 7 for a
- * text shorter than WEIMRUKAS_TEXT_LENGTH(n); 8. A refusal changes nothing of text and sets *printed to 0.
+ * the number of its bytes. The sweeps in it are the sheet's own, the ticks those that were made. The rest of text
+ * stays. 3 for fewer than 2 bytes, 1, 2, 3, 4, 5, all of the sheet; 7 for a text shorter than
+ * WEIMRUKAS_TEXT_LENGTH(n); 8. A refusal changes nothing of text and sets *printed to 0.
  */
 uint8_t weimrukas_list(const uint8_t *sheet, size_t sheet_length, uint8_t *WEIMRUKAS_RESTRICT text, size_t text_length,
                        size_t *WEIMRUKAS_RESTRICT printed, size_t *WEIMRUKAS_RESTRICT row,
@@ -169,7 +178,7 @@ uint8_t weimrukas_list(const uint8_t *sheet, size_t sheet_length, uint8_t *WEIMR
  * WEIMRUKAS_MOST_PROCESSORS rows of as many tiles, of which the first N of the first N rows are in use. A tile
  * has WEIMRUKAS_TILE_WORDS: the cells of the matrix (alpha, beta, gamma, delta: row by row) and of the eigenvectors,
  * the wires of the matrix and of the eigenvectors by the same corners, the tangents that it sends along its row and its
- * column, all as bits of doubles, and its mark.
+ * column, all as bits of doubles, its mark, and its count of turns.
  *
  * The mark of a tile in use is 1 if one of its cells was not finite after some tick, and stays so; otherwise it is 0.
  * Where a tile is marked at the end, the whole run by one call answers 8. Otherwise entry (r, c) of the results, both
@@ -178,10 +187,15 @@ uint8_t weimrukas_list(const uint8_t *sheet, size_t sheet_length, uint8_t *WEIMR
  * register i % 2 by rows and processor j / 2, register j % 2 by columns, processors from 0: that of the matrix is the
  * cell words[WEIMRUKAS_TILE(i / 2, j / 2) + 2 * (i % 2) + j % 2], that of the eigenvectors 4 words further.
  *
+ * A tile on the diagonal counts the steps of the current sweep in which its pair turned: the first step of a sweep
+ * begins the count anew, and a count of 65535 stays. Tiles off the diagonal keep theirs, which is 0 at the start. No
+ * tick lowers the record's sweeps, so by hand all of them are made. With L steps in a sweep, sweep m is quiet if right
+ * after the tick with number 3 (m L - 1), the first being 0, the counts of the N tiles in use on the diagonal are 0.
+ *
  * A record that a caller wrote may hold any words: each pattern of no number counts as 7FF8000000000000, each mark but
- * 0 as 1, and a tick that is made writes all words anew in that form.
+ * 0 as 1, each count above 65535 as 65535, and a tick that is made writes all words anew in that form.
  */
-#define WEIMRUKAS_TILE_WORDS 19
+#define WEIMRUKAS_TILE_WORDS 20
 #define WEIMRUKAS_ARRAY_WORDS (3 + WEIMRUKAS_MOST_PROCESSORS * WEIMRUKAS_MOST_PROCESSORS * WEIMRUKAS_TILE_WORDS)
 
 /* Where the tile in row i and column j, both from 0, begins. */

@@ -1,30 +1,32 @@
 #!/usr/bin/env python3
 """Writes crates/test_runs/stdin and crates/test_runs/stdout: whole runs of the array, runs by hand, single
 ticks of wild records and runs by plain sweeps, and what comes of them by document 01, "The array", and document
-02, odd orders.
+02, odd orders and quiet sweeps.
 
 The tiles, the wires and the ticks follow the documents: document 01, "The array"; document 000, the
 connections and Algorithm Interchange; document 003, Program 3. Tiles, rows and columns are counted from 1
 as there. The parameters of a pair, the turn of two values and the matrices are those of plain_vectors.py.
-Before anything is written, runs of the array are held against the plain run of that file. Of each kind of cases but
-the plain runs, which come last, the even orders come first and then the odd ones.
+Before anything is written, runs of the array are held against the plain run of that file: results, sweeps made and
+ticks. Of each kind of cases the even orders come first, then the odd ones, and last those for ends of the range and for
+quiet sweeps.
 
 A case begins with a word for its kind.
 
-0, a whole run: the words of a plain run. The answer begins with the number of ticks, unless it is refused.
+0, a whole run: the words of a plain run. The answer is the plain run's, with the number of ticks after that of the
+   sweeps, unless it is refused.
 1, a run by hand: n, the sweeps, the length of the matrix, the matrix and a number of ticks. The answer is
    the refusal of the start, if it is refused, then what the last tick answered (0 made, 1 stopped,
    2 refused, 3 there was none), and of the last record n, the sweeps, the tick and the N by N tiles, row by
    row.
-2, a tick of a wild record: n, the sweeps, the tick, and the word that every cell and wire of all tiles
-   holds. The answer is that of the tick, followed by its number if it is refused, and of the record given
-   back n, the sweeps, the tick and the tiles P_11, P_12, P_21 and P_16,16.
+2, a tick of a wild record: n, the sweeps, the tick, the word that every cell and wire of all tiles holds, and the
+   turns that each tile has counted, up to 65,535. The answer is that of the tick, followed by its number if it is
+   refused, and of the record given back n, the sweeps, the tick and the tiles P_11, P_12, P_21 and P_16,16.
 3, a run by plain sweeps: n, the sweeps, the lengths of the matrix and of both results, the word that these are
-   filled with, and the matrix. The answer is the refusal, if it is refused, and both results.
+   filled with, and the matrix. The answer is the refusal, or the number of the sweeps made, and both results.
 
 Of a tile these are printed: the cells α β γ δ of the matrix and of the vectors, the wires that leave by
 α β γ δ with values of the matrix and of the vectors, the parameter wires along the row and along the
-column, and the mark.
+column, the mark, and the count of turns in the current sweep.
 """
 import argparse
 import functools
@@ -39,6 +41,7 @@ import plain_vectors as plain
 from plain_vectors import INFINITY, LARGEST, LAST, NAN, ONE, SIGN, STILL
 
 MOST = 16  # tiles in a row of the record
+MOST_COUNTED = 65535
 CORNERS = "αβγδ"
 OFFSETS = {"α": (0, 0), "β": (0, 1), "γ": (1, 0), "δ": (1, 1)}  # row and column in a 2 by 2 part
 MADE, STOPPED, REFUSED, NONE = range(4)
@@ -50,21 +53,22 @@ WHOLE, BY_HAND, WILD, PLAIN = range(4)
 
 
 class Tile:
-    def __init__(self, value):
+    def __init__(self, value, turns):
         self.cells = [dict.fromkeys(CORNERS, value) for _ in range(2)]
         self.lines = [dict.fromkeys(CORNERS, value) for _ in range(2)]
         self.row = self.column = value
         self.mark = False
+        self.turns = turns
 
 
 class Array:
-    """A record with one value in every cell and line. Tiles beyond row and column N are not in use. Beside the record
-    it counts what its ticks do: the values set on matrix and vector lines, and the parameters received off the
-    diagonal."""
+    """A record with one value in every cell and line and one count of turns in every tile. Tiles beyond row and column N
+    are not in use. Beside the record it counts what its ticks do: the values set on matrix and vector lines, and the
+    parameters received off the diagonal."""
 
-    def __init__(self, n, sweeps, tick, value):
+    def __init__(self, n, sweeps, tick, value, turns=0):
         self.n, self.sweeps, self.tick = n, sweeps, tick
-        self.tiles = {(i, j): Tile(value) for i in range(1, MOST + 1) for j in range(1, MOST + 1)}
+        self.tiles = {(i, j): Tile(value, turns) for i in range(1, MOST + 1) for j in range(1, MOST + 1)}
         self.values_set = self.received = 0
 
     @property
@@ -196,14 +200,18 @@ def column_turn(angle, x):
     return {"α": alpha, "β": beta, "γ": gamma, "δ": delta}
 
 
-def rotate_diagonal(tile, is_still):
+def rotate_diagonal(tile, is_still, is_first):
+    """Document 02 (vi): the first rotation of a sweep begins the count of turns anew."""
     matrix, vectors = tile.cells
     a, b, d = matrix["α"], matrix["β"], matrix["δ"]
     found = STILL if is_still else plain.parameters(a, d, b)
     t = 0.0
+    if is_first:
+        tile.turns = 0
     if found is not STILL:
         t = found[0]
         a, d = a - t * b, d + t * b
+        tile.turns = min(tile.turns + 1, MOST_COUNTED)
     tile.cells = [{"α": a, "β": 0.0, "γ": 0.0, "δ": d}, column_turn(angle_of(t), vectors)]
     tile.row = tile.column = t
 
@@ -251,7 +259,7 @@ def work(array, i, j, brought):
     if since == last:
         return
     if brought and i == j:
-        rotate_diagonal(tile, plain.always_still(array.n, i))
+        rotate_diagonal(tile, plain.always_still(array.n, i), since // 3 % plain.steps_of(array.n, 1) == 0)
     elif brought:
         rotate_off_diagonal(tile, i < j, *brought[1])
         array.received += len(brought[1])
@@ -289,6 +297,18 @@ def tick(array):
 # Whole runs.
 
 
+def advance(array):
+    """Document 02 (vi): makes a tick, and lowers the sweeps if the tick had the last rotations on the diagonal in a quiet
+    sweep."""
+    step, phase = divmod(array.tick, 3)
+    told, _ = tick(array)
+    sweep, rest = divmod(step + 1, plain.steps_of(array.n, 1))
+    is_last = phase == 0 and rest == 0 and sweep <= array.sweeps
+    if told == MADE and is_last and all(array.tiles[i, i].turns == 0 for i in range(1, array.N + 1)):
+        array.sweeps = sweep
+    return told
+
+
 def refusal_of(case):
     """The outcome of a case that is refused before a run."""
     unswept = case if case.sweeps > 16 else case._replace(sweeps=0)
@@ -309,12 +329,12 @@ def whole(array, part):
 def ran(case):
     """The outcome of a run that is not refused before it, and the ticks made."""
     array, ticks = start(case.n, case.sweeps, case.matrix), 0
-    while tick(array)[0] == MADE:
+    while advance(array) == MADE:
         ticks += 1
     if any(tile.mark for tile in array.tiles.values()):
         nothing = [plain.ZERO] * case.n**2
-        return plain.Outcome(number=8, result=nothing, vectors=nothing), ticks
-    return plain.Outcome(result=whole(array, 0), vectors=whole(array, 1)), ticks
+        return plain.Outcome(number=8, result=nothing, vectors=nothing, sweeps=array.sweeps), ticks
+    return plain.Outcome(result=whole(array, 0), vectors=whole(array, 1), sweeps=array.sweeps), ticks
 
 
 def run(case):
@@ -349,7 +369,7 @@ def agreed(case):
     outcome, ticks = run(case)
     assert outcome == expected._replace(spoiled=None), case
     is_run = outcome.number in (None, 8)
-    assert ticks == (ticks_of(case.n, case.sweeps) if is_run else 0)
+    assert ticks == (ticks_of(case.n, outcome.sweeps) if is_run else 0)
     return outcome, ticks
 
 
@@ -450,18 +470,19 @@ def odd_whole_runs(rng):
     yield from [case for _, case in plain.odd_refusals(rng)][::4]
 
 
-# Orders, sweeps and ticks by document 01, "The printed sheet" and "Entries to try", and of orders 3, 7 and 31 as 3 S n
+# Orders, sweeps made and ticks by document 01, "The printed sheet" and "Entries to try", and of orders 3 and 7 as 3 S n
 # and the processors.
 TICKS = {(2, 1, 4), (2, 0, 1), (8, 1, 25)}
-ODD_TICKS = {(3, 0, 2), (3, 1, 11), (3, 16, 146), (7, 1, 25), (31, 16, 1504)}
+ODD_TICKS = {(3, 0, 2), (3, 1, 11), (7, 1, 25)}
 
 
 def check_variety(made, orders, known_ticks, known_numbers):
-    """Whole runs of every order and number of sweeps, known ticks, spoiled runs, every refusal."""
-    sizes = {(case.n, case.sweeps, ticks) for case, _, ticks in made if ticks > 0}
+    """Whole runs of every order and number of sweeps, known ticks, spoiled runs, every refusal, and runs that end early."""
+    sizes = {(case.n, outcome.sweeps, ticks) for case, outcome, ticks in made if ticks > 0}
     assert {n for n, _, _ in sizes} == set(orders)
-    assert {sweeps for _, sweeps, _ in sizes} == set(range(17))
+    assert {case.sweeps for case, _, ticks in made if ticks > 0} == set(range(17))
     assert sizes >= known_ticks
+    print(f"{sum(ticks > 0 and outcome.sweeps < case.sweeps for case, outcome, ticks in made)} whole runs end early")
     numbers = [outcome.number or "none" for _, outcome, _ in made]
     assert set(numbers) == {"none", *known_numbers}
     print("whole runs by the number of the refusal: " + plain.summary(numbers))
@@ -515,6 +536,26 @@ ODD_HAND_RUNS = [
 ]
 
 
+# With counts of turns, and quiet sweeps, after which the ticks go on.
+QUIET_HAND_RUNS = [
+    (2, 3, plain.diagonal, [1, 4, 10, 11]),
+    (2, 3, plain.ordinary, [1, 3, 4, 10]),
+    (4, 2, plain.far_lines, [1, 7, 8, 9, 20, 21]),
+    (4, 3, plain.whole_numbers, [1, 4, 7, 10, 13, 29]),
+    (6, 2, plain.two_groups, [13, 16, 28, 33]),
+    (8, 3, plain.zeros_beside, [19, 22, 67, 68]),
+    (8, 2, plain.ordinary, [1, 4, 19, 22, 43, 46]),
+    (8, 16, plain.covariances, [340, 341]),
+    (3, 2, plain.far_lines, [1, 7, 8, 20, 21]),
+    (3, 3, plain.spoiled_by_sum, [1, 4, 10, 29]),
+    (5, 2, plain.ordinary, [1, 4, 13, 16, 33]),
+    (5, 16, plain.spoiled_late, [50, 243]),
+    (9, 1, plain.ordinary, [25, 32]),
+    (31, 1, plain.ordinary, [91]),
+    (32, 1, plain.ordinary, [91]),
+]
+
+
 def given_hand_runs(rng, given):
     """The cases of the starts and the numbers of ticks that are given."""
     for n, sweeps, kind, numbers in given:
@@ -545,8 +586,9 @@ def odd_hand_runs(rng):
     yield plain.unequal(rng, 3, [(3, 2, 0)]), 5
 
 
-# The wild records: an order, sweeps and a tick, each with a word from WILD_WORDS. Those of odd orders that come last
-# have every word.
+# The wild records: an order, sweeps and a tick, each with a word from WILD_WORDS and a count. Those of odd orders that
+# come last have every word. In those of COUNTING_SIZES a tile rotates, on the diagonal or beside it, at a sweep's first
+# step or at another, or none does.
 
 WILD_SIZES = [
     (0, 0, 0),
@@ -620,6 +662,35 @@ ODD_WILD_ENDS = [
     (31, 16, 1504),
     (31, 16, LAST),
 ]
+COUNTING_SIZES = [
+    (2, 2, 0),
+    (2, 2, 3),
+    (3, 2, 0),
+    (3, 2, 3),
+    (3, 2, 9),
+    (3, 2, 10),
+    (4, 2, 0),
+    (4, 2, 1),
+    (4, 2, 3),
+    (4, 2, 4),
+    (4, 2, 5),
+    (4, 2, 6),
+    (4, 2, 9),
+    (4, 2, 10),
+    (4, 2, 18),
+    (8, 1, 18),
+    (31, 2, 0),
+    (31, 2, 90),
+    (31, 2, 93),
+    (32, 16, 0),
+    (32, 16, 90),
+    (32, 16, 93),
+    (32, 16, 96),
+    (32, 16, 1485),
+]
+# The pair of P_11 turns with the first word and is still with the second, and again.
+COUNTING_WORDS = [ONE, plain.ZERO, NAN, SIGN]
+COUNTS = [0, 1, MOST_COUNTED - 1, MOST_COUNTED]
 WILD_WORDS = [
     ONE,
     NAN,
@@ -644,7 +715,7 @@ def bits(value):
 
 def words_of(tile):
     parts = [bits(part[corner]) for part in tile.cells + tile.lines for corner in CORNERS]
-    return [*parts, bits(tile.row), bits(tile.column), int(tile.mark)]
+    return [*parts, bits(tile.row), bits(tile.column), int(tile.mark), tile.turns]
 
 
 def record_of(array, shown):
@@ -653,12 +724,8 @@ def record_of(array, shown):
 
 
 def whole_run_lines(case, outcome, ticks, fill):
-    """The lines of a whole run and of its answer, which is the plain run's with the ticks before the results
-    of a run that is not refused."""
-    answer = plain.answer_of(case, fill, outcome)
-    if outcome.number is None:
-        answer = plain.lines_of([ticks]) + answer
-    return plain.lines_of([WHOLE, *plain.head(case, fill), *case.matrix]), answer
+    """The lines of a whole run and of its answer."""
+    return plain.lines_of([WHOLE, *plain.head(case, fill), *case.matrix]), plain.answer_of(case, fill, outcome, ticks)
 
 
 def hand_run_lines(case, ticks):
@@ -675,12 +742,12 @@ def hand_run_lines(case, ticks):
     return plain.lines_of(words), answer + plain.lines_of([told, *record_of(array, array.places())])
 
 
-def wild_lines(n, sweeps, now, word):
-    array = Array(n, sweeps, now, plain.value_of(word))
+def wild_lines(n, sweeps, now, word, turns):
+    array = Array(n, sweeps, now, plain.value_of(word), turns)
     told, refusal = tick(array)
     answer = [told] if refusal is None else [told, refusal]
     record = record_of(array, [(1, 1), (1, 2), (2, 1), (MOST, MOST)])
-    return plain.lines_of([WILD, n, sweeps, now, word]), plain.lines_of(answer + record)
+    return plain.lines_of([WILD, n, sweeps, now, word, turns]), plain.lines_of(answer + record)
 
 
 def lines_of_wholes(cases, rng, *known):
@@ -690,14 +757,26 @@ def lines_of_wholes(cases, rng, *known):
     return [whole_run_lines(*drawn, fill) for drawn, fill in zip(made, plain.finite_patterns(rng))]
 
 
-def lines_of_wilds():
+def some_counts(rng):
+    """Those of COUNTS by turns, and random ones."""
+    while True:
+        yield from [*COUNTS, rng.randint(0, MOST_COUNTED)]
+
+
+def lines_of_wilds(rng):
     """The lines of wild records and of their answers."""
-    words = itertools.cycle(WILD_WORDS)
+    words, counts = itertools.cycle(WILD_WORDS), some_counts(rng)
     for sizes in WILD_SIZES + ODD_WILD_ENDS:
-        yield wild_lines(*sizes, next(words))
+        yield wild_lines(*sizes, next(words), next(counts))
     for sizes in ODD_WILD_SIZES:
         for word in WILD_WORDS:
-            yield wild_lines(*sizes, word)
+            yield wild_lines(*sizes, word, next(counts))
+    for sizes in COUNTING_SIZES:
+        for word in COUNTING_WORDS[:2]:
+            for turns in COUNTS[2:]:
+                yield wild_lines(*sizes, word, turns)
+        for word in COUNTING_WORDS[2:]:
+            yield wild_lines(*sizes, word, next(counts))
 
 
 def all_lines(rng, odd_rng):
@@ -707,8 +786,12 @@ def all_lines(rng, odd_rng):
     end_rng = random.Random(1074)
     ends = [(case, *agreed(case)) for case in plain.ends_of_range(end_rng)]
     wholes += [whole_run_lines(*drawn, fill) for drawn, fill in zip(ends, plain.finite_patterns(end_rng))]
+    quiet_rng = random.Random(9)
+    quiet = [(case, *agreed(case)) for case in plain.quiet_runs(quiet_rng)]
+    wholes += [whole_run_lines(*drawn, fill) for drawn, fill in zip(quiet, plain.finite_patterns(quiet_rng))]
     hands = [hand_run_lines(*drawn) for drawn in [*hand_runs(rng), *odd_hand_runs(odd_rng)]]
-    wilds = list(lines_of_wilds())
+    hands += [hand_run_lines(*drawn) for drawn in given_hand_runs(quiet_rng, QUIET_HAND_RUNS)]
+    wilds = list(lines_of_wilds(random.Random(MOST_COUNTED)))
     print(f"{len(wholes)} whole runs, {len(hands)} runs by hand, {len(wilds)} wild records")
     plains = [(plain.lines_of([PLAIN]) + lines, answer) for lines, answer in plain.all_lines()]
     return wholes + hands + wilds + plains

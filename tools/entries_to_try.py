@@ -40,9 +40,10 @@ LISTS = [
 ]
 NO_ORDERS = [0, 1, 33, 34]
 
-# An order, sweeps and a matrix, with the refusal's number or the ticks that the documents name.
+# An order, sweeps and a matrix, with the refusal's number or the ticks that the documents name. With 16 sweeps order 2
+# turns in the first and is quiet in the second.
 RUNS = [
-    (2, 1, [plain.ONE, plain.ZERO, plain.ZERO, plain.THREE], None, None),
+    (2, 1, [plain.ONE, plain.ZERO, plain.ZERO, plain.THREE], None, 4),
     (2, 1, [plain.LARGEST] * 4, 8, None),
     (2, 0, [plain.ONE] * 4, None, 1),
     (8, 1, [plain.ONE] * 64, None, 25),
@@ -50,7 +51,7 @@ RUNS = [
 ]
 RUNS_BY_SIZE = [
     *((n, 1, [plain.ONE] * 4, 1, None) for n in NO_ORDERS),
-    (2, 16, [plain.ONE] * 4, None, None),
+    (2, 16, [plain.ONE] * 4, None, 7),
     (2, 17, [plain.ONE] * 4, 2, None),
 ]
 
@@ -90,11 +91,11 @@ def run_lines(n, sweeps, matrix, number, ticks):
     case = plain.Case(n, sweeps, matrix, len(matrix), len(matrix))
     outcome = plain.outcome_of(case)
     assert outcome.number == number
-    yield from [] if number is None else refused(number)
+    yield from [f"sweeps {outcome.sweeps}"] if number is None else refused(number)
     yield from result_lines(outcome, len(matrix))
     outcome, made = array.run(case)
     assert outcome.number == number and ticks in (None, made)
-    yield from [f"ticks {made}"] if number is None else refused(number)
+    yield from [f"sweeps {outcome.sweeps}", f"ticks {made}"] if number is None else refused(number)
     yield from result_lines(outcome, len(matrix))
 
 

@@ -5,8 +5,8 @@ writes them to files; run alone, this file only makes and checks them, and print
 
 No formula is used: the figures are counted, tick by tick and tile by tile, until every tile has stopped. When a tile
 rotates and stops is document 01's, "The array", and which wires it sets in which phase is document 003's, Program 3.
-The array of array_vectors.py counts what it does in its ticks, and the figures are held to runs of it, of every order,
-whole and spoiled.
+The array of array_vectors.py counts what it does in its ticks, and the figures are held to runs of it by hand, of every
+order, whole and spoiled. They are the most that a run can need: one that ends early needs those of the sweeps it makes.
 """
 import argparse
 import collections
@@ -105,9 +105,26 @@ def check_runs(rng):
     print(f"{len(spoiled)} runs of the array counted, {sum(spoiled)} of them spoiled")
 
 
+# Orders, sweeps and ticks, as 3 S n and the processors.
+BOOKED = {(3, 16, 146), (31, 16, 1504)}
+
+
 def check_ticks():
-    for n, sweeps, ticks in array.TICKS | array.ODD_TICKS:
+    for n, sweeps, ticks in array.TICKS | array.ODD_TICKS | BOOKED:
         assert walked(n, sweeps).ticks == ticks
+
+
+def check_early_ends(rng):
+    """Holds whole runs with quiet sweeps against the walk of the sweeps made, and that against the walk of all."""
+    cases = [case for case in plain.quiet_runs(rng) if case.n <= 9]
+    for case in cases:
+        run = array.start(case.n, case.sweeps, case.matrix)
+        while array.advance(run) == array.MADE:
+            pass
+        figures = Figures(run.tick, run.values_set, run.received)
+        assert figures == walked(case.n, run.sweeps)
+        assert all(least <= most for least, most in zip(figures, walked(case.n, case.sweeps)))
+    print(f"{len(cases)} whole runs with quiet sweeps counted")
 
 
 # The cases.
@@ -131,6 +148,7 @@ def all_lines():
     """The lines of each case and of its answer."""
     check_ticks()
     check_runs(random.Random(83))
+    check_early_ends(random.Random(84))
     found = cases()
     accepted = sum(array.refused_by(*case) is None for case in found)
     print(f"{len(found)} forecasts, {accepted} of them accepted")

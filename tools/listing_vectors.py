@@ -1,6 +1,6 @@
 #!/usr/bin/env python3
-"""The listing program of document 01, "The printed sheet", with the line codes and the odd orders of document 02, and
-samples of what it prints. Run it as
+"""The listing program of document 01, "The printed sheet", with the line codes, the odd orders and the quiet sweeps of
+document 02, and samples of what it prints. Run it as
 
     python3 tools/listing_vectors.py < SHEET
     python3 tools/listing_vectors.py --samples FOLDER [--seed NUMBER]
@@ -10,8 +10,9 @@ and what is printed of each beside it, as NAME.print. Names begin with a number,
 are made. Those in samples/ have the seed that is taken where none is given.
 
 The sheet is all of standard input. It is read by sheet_vectors.py, and the run is the plain run of
-plain_vectors.py, which the array's run agrees with in every bit. The ticks are 3 K + N. Before samples are
-written, those of small orders are held against the array of array_vectors.py.
+plain_vectors.py, which the array's run agrees with in every bit. The ticks are 3 K + N for the sweeps made, beside the
+sheet's own number of sweeps. Before samples are written, those of small orders are held against the array of
+array_vectors.py.
 """
 import argparse
 import pathlib
@@ -79,7 +80,7 @@ def listing(sheet):
     if outcome.number is not None:
         return fields("refused", outcome.number)
     n, sweeps = run.n, run.sweeps
-    ticks = array.ticks_of(n, sweeps)
+    ticks = array.ticks_of(n, outcome.sweeps)
     lines = [line_of(n, code, k, outcome) for k, code in enumerate(sheets.codes_of(sheet))]
     return fields(n, sweeps, ticks) + "".join(lines)
 
@@ -293,6 +294,26 @@ def end_sheets(rng):
         yield None, kind.__name__, sheet_of(rng, n, 3, kind)
 
 
+# The samples with quiet sweeps.
+
+
+def quiet_sheets(rng):
+    """Sheets whose runs end early, of both forms, with one sweep less and with just as many; and spoiled ones."""
+    yield None, "quiet_example", bytes([2, 16]) + sheets.EXAMPLE[2:]
+    yield None, "quiet_odd_example", bytes([3, 16]) + ODD_EXAMPLE[2:]
+    for n, sweeps, kind in [(2, 2, plain.zero), (3, 16, plain.zero), (8, 16, plain.zeros_beside), (9, 2, plain.diagonal)]:
+        yield None, f"quiet_{kind.__name__}", sheet_of(rng, n, sweeps, kind)
+    for n, form in [(4, sheets.SHORT), (7, sheets.LONG), (31, sheets.SHORT), (32, sheets.LONG)]:
+        yield None, "quiet_far_lines", sheet_of(rng, n, plain.MOST_SWEEPS, plain.far_lines, form)
+    for n, kind in [(4, plain.ordinary), (5, plain.two_groups), (8, plain.covariances)]:
+        matrix, codes = kind(rng, n, 0), sheets.SHORT.codes(rng, n)
+        quiet = plain.first_quiet(n, matrix)
+        for word, sweeps in [("before_quiet", quiet - 1), ("at_quiet", quiet), ("after_quiet", quiet + 1)]:
+            yield None, word, sheets.write(sheets.whole_writing(n, sweeps, codes, matrix)).sheet
+    for n, kind in [(2, plain.spoiled_by_sum), (3, plain.spoiled_by_sum), (4, plain.spoiled_by_spread)]:
+        yield 8, "quiet_when_spoiled", sheet_of(rng, n, plain.MOST_SWEEPS, kind)
+
+
 def samples(rng):
     """The samples: a name, the sheet, and what is printed of it."""
     made = [(None, "example", sheets.EXAMPLE)]
@@ -300,7 +321,7 @@ def samples(rng):
         made += group(rng)
     for group in (whole_long_sheets, wrong_long_lengths, wrong_long_sizes, wrong_long_codes):
         made += group(rng)
-    for group in (whole_odd_sheets, spoiled_odd_sheets, wrong_odd_sheets, end_sheets):
+    for group in (whole_odd_sheets, spoiled_odd_sheets, wrong_odd_sheets, end_sheets, quiet_sheets):
         made += group(rng)
     found = []
     for k, (number, word, sheet) in enumerate(made):

@@ -1,6 +1,9 @@
 """Orders, sweeps and matrices, and what the plain run makes of them by document 01, "One rotation",
-"Pairs and their movement" and "Refused, by place", and document 02, odd orders. array_vectors.py writes them to files;
-run alone, this file only makes and checks them, and prints how many there are.
+"Pairs and their movement" and "Refused, by place", and document 02, odd orders and quiet sweeps. array_vectors.py writes
+them to files; run alone, this file only makes and checks them, and prints how many there are.
+
+The model makes all the sweeps that are asked for, whatever they do. A sweep is quiet if every pair in it was still, and
+what it leaves is held to what the last sweep leaves.
 
 The arithmetic is that of Python's float, which is binary64 rounded to nearest. No operation here is
 fused with another, and none divides by zero.
@@ -22,6 +25,7 @@ THREE = 0x4008 << 48
 HALF_ROOT = 0x3FE6A09E667F3BCC  # as document 01 prints it
 LARGEST = INFINITY - 1
 TOP = 2046  # the exponent field of the largest values
+MOST_SWEEPS = 16
 LAST = (1 << 64) - 1  # of a usize
 STILL = None
 
@@ -29,8 +33,9 @@ STILL = None
 Case = collections.namedtuple("Case", "n sweeps matrix result_size vectors_size")
 
 # What a run answers: the number of its refusal, and its row and column, if it has them; the patterns of
-# the two results, or None where they keep what they hold; and the step that spoils it, from 0.
-Outcome = collections.namedtuple("Outcome", "number place result vectors spoiled", defaults=[None] * 5)
+# the two results, or None where they keep what they hold; the step that spoils it, from 0; and the sweeps made, up to
+# the first quiet one, also of a spoiled run, whose answer does not tell them.
+Outcome = collections.namedtuple("Outcome", "number place result vectors spoiled sweeps", defaults=[None] * 6)
 
 
 def value_of(pattern):
@@ -53,19 +58,20 @@ EXAMPLES = [
         Outcome(
             result=[ZERO, ZERO, ZERO, TWO],
             vectors=[HALF_ROOT, HALF_ROOT, SIGN + HALF_ROOT, HALF_ROOT],
+            sweeps=1,
         ),
     ),
     (
         case_of(2, 1, [ONE, ZERO, ZERO, THREE]),
-        Outcome(result=[ONE, ZERO, ZERO, THREE], vectors=[ONE, ZERO, ZERO, ONE]),
+        Outcome(result=[ONE, ZERO, ZERO, THREE], vectors=[ONE, ZERO, ZERO, ONE], sweeps=1),
     ),
     (
         case_of(2, 1, [ONE, SIGN, SIGN, THREE]),
-        Outcome(result=[ONE, ZERO, ZERO, THREE], vectors=[ONE, ZERO, ZERO, ONE]),
+        Outcome(result=[ONE, ZERO, ZERO, THREE], vectors=[ONE, ZERO, ZERO, ONE], sweeps=1),
     ),
     (
         case_of(2, 1, [LARGEST] * 4),
-        Outcome(number=8, result=[ZERO] * 4, vectors=[ZERO] * 4, spoiled=0),
+        Outcome(number=8, result=[ZERO] * 4, vectors=[ZERO] * 4, spoiled=0, sweeps=1),
     ),
 ]
 
@@ -77,6 +83,7 @@ ODD_EXAMPLES = [
         Outcome(
             result=[THREE, ZERO, ZERO, ZERO, ZERO, ZERO, ZERO, ZERO, TWO],
             vectors=[ONE, ZERO, ZERO, ZERO, HALF_ROOT, HALF_ROOT, ZERO, SIGN + HALF_ROOT, HALF_ROOT],
+            sweeps=1,
         ),
     ),
     (
@@ -84,6 +91,7 @@ ODD_EXAMPLES = [
         Outcome(
             result=[ZERO, ZERO, ZERO, ZERO, TWO, ZERO, ZERO, ZERO, THREE],
             vectors=[HALF_ROOT, HALF_ROOT, ZERO, SIGN + HALF_ROOT, HALF_ROOT, ZERO, ZERO, ZERO, ONE],
+            sweeps=1,
         ),
     ),
     (
@@ -91,6 +99,7 @@ ODD_EXAMPLES = [
         Outcome(
             result=[TWO, ZERO, ZERO, ZERO, THREE, ZERO, ZERO, ZERO, ZERO],
             vectors=[HALF_ROOT, ZERO, SIGN + HALF_ROOT, ZERO, ONE, ZERO, HALF_ROOT, ZERO, HALF_ROOT],
+            sweeps=1,
         ),
     ),
     (
@@ -98,11 +107,12 @@ ODD_EXAMPLES = [
         Outcome(
             result=[ONE, ZERO, ZERO, ZERO, THREE, ZERO, ZERO, ZERO, TWO],
             vectors=[ONE, ZERO, ZERO, ZERO, ONE, ZERO, ZERO, ZERO, ONE],
+            sweeps=1,
         ),
     ),
     (
         case_of(3, 1, [LARGEST] * 9),
-        Outcome(number=8, result=[ZERO] * 9, vectors=[ZERO] * 9, spoiled=0),
+        Outcome(number=8, result=[ZERO] * 9, vectors=[ZERO] * 9, spoiled=0, sweeps=1),
     ),
 ]
 
@@ -164,7 +174,7 @@ def turn(c, s, x, y):
 
 
 def turn_pair(a, vectors, p, q, is_still, xi_of=quotient):
-    """Gives the pair of the lines p and q its parameters, its row turn and its column turn."""
+    """Gives the pair of the lines p and q its parameters, its row turn and its column turn, and tells whether it turned."""
     pp, qq, pq = a[p][p], a[q][q], a[p][q]
     found = STILL if is_still else parameters(pp, qq, pq, xi_of)
     if found is not STILL:
@@ -178,6 +188,7 @@ def turn_pair(a, vectors, p, q, is_still, xi_of=quotient):
         for row in vectors:
             row[p], row[q] = turn(c, s, row[p], row[q])
     a[p][q] = a[q][p] = 0.0
+    return found is not STILL
 
 
 def moved(left, right):
@@ -193,12 +204,13 @@ def first_registers(n):
 
 
 def make_steps(n, sweeps, a, vectors, xi_of=quotient):
-    """Makes the steps of a run, and stops after each."""
+    """Makes the steps of a run, and stops after each with the number of the pairs that turned in it."""
     first, (left, right) = first_line(n), first_registers(n)
     for _ in range(steps_of(n, sweeps)):
+        turns = 0
         for k, (p, q) in enumerate(zip(left, right), 1):
-            turn_pair(a, vectors, p - first, q - first, always_still(n, k), xi_of)
-        yield
+            turns += turn_pair(a, vectors, p - first, q - first, always_still(n, k), xi_of)
+        yield turns
         left, right = moved(left, right)
 
 
@@ -239,12 +251,26 @@ def all_finite(a):
 def ran(n, sweeps, matrix, xi_of=quotient):
     """The outcome of a run that is not refused before it. A real line is not finite wherever line 0 is not."""
     a, vectors = first_rows(n, matrix)
-    for step, _ in enumerate(make_steps(n, sweeps, a, vectors, xi_of)):
+    spoiled, turns, quiet = None, 0, None
+    for step, turned in enumerate(make_steps(n, sweeps, a, vectors, xi_of)):
         is_finite = all_finite(a) and all_finite(vectors)
         assert is_finite == (all_finite(real_lines(n, a)) and all_finite(real_lines(n, vectors)))
-        if not is_finite:
-            return Outcome(number=8, result=[ZERO] * n * n, vectors=[ZERO] * n * n, spoiled=step)
-    return Outcome(result=patterns_of(real_lines(n, a)), vectors=patterns_of(real_lines(n, vectors)))
+        assert spoiled is None or not is_finite
+        if not is_finite and spoiled is None:
+            spoiled = step
+        turns += turned
+        sweep, rest = divmod(step + 1, steps_of(n, 1))
+        if rest == 0:
+            if turns == 0 and quiet is None:
+                quiet = sweep, patterns_of(a + vectors)
+            turns = 0
+    made = sweeps
+    if quiet:
+        made, left = quiet
+        assert patterns_of(a + vectors) == left
+    if spoiled is not None:
+        return Outcome(number=8, result=[ZERO] * n * n, vectors=[ZERO] * n * n, spoiled=spoiled, sweeps=made)
+    return Outcome(result=patterns_of(real_lines(n, a)), vectors=patterns_of(real_lines(n, vectors)), sweeps=made)
 
 
 def first_place(n, is_bad):
@@ -261,7 +287,7 @@ def outcome_of(case):
     n, sweeps, matrix = case.n, case.sweeps, case.matrix
     if n < 2 or n > 32:
         return Outcome(number=1)
-    if sweeps > 16:
+    if sweeps > MOST_SWEEPS:
         return Outcome(number=2)
     if any(size != n * n for size in (len(matrix), case.result_size, case.vectors_size)):
         return Outcome(number=3)
@@ -720,11 +746,13 @@ def lines_of(words):
     return [f"{word:016X}\n" for word in words]
 
 
-def answer_of(case, fill, outcome):
-    """The lines of an answer: the refusal, if it is refused, and what both results hold."""
-    lines = []
-    if outcome.number is not None:
-        lines.append(f"refused {outcome.number}\n")
+def answer_of(case, fill, outcome, *ticks):
+    """The lines of an answer: the refusal, or the sweeps made, and the ticks if there are any, and what both results
+    hold."""
+    if outcome.number is None:
+        lines = lines_of([outcome.sweeps, *ticks])
+    else:
+        lines = [f"refused {outcome.number}\n"]
     if outcome.place is not None:
         lines += ["row %d\n" % outcome.place[0], "column %d\n" % outcome.place[1]]
     result, vectors = outcome.result, outcome.vectors
@@ -796,6 +824,83 @@ def checked_ends(rng):
     return made
 
 
+# The runs with quiet sweeps, for document 02 (vi).
+
+
+def zeros_beside(rng, n, _):
+    """A diagonal, and zeros of either sign beside it."""
+    return mirrored(n, lambda i, j: within(rng, 1013, 1033) if i == j else rng.choice((0.0, -0.0)))
+
+
+def far_lines(rng, n, _):
+    """No entry is zero, and lines are so far apart in size that every tangent is."""
+    return mirrored(n, lambda i, j: within(rng, 1623 + 5 * i, 1623 + 5 * i) if i == j else within(rng, 1003, 1043))
+
+
+def two_groups(rng, n, _):
+    """Every other line is like far_lines, so that only the rest turn among themselves."""
+    far = far_lines(rng, n, 0)
+    near = ordinary(rng, n, 0)
+    return [far[k] if k % (n + 1) == 0 and k % n % 2 == 0 else near[k] for k in range(n * n)]
+
+
+def first_quiet(n, matrix):
+    """The first quiet sweep of a run, which comes before the last that there may be."""
+    made = ran(n, MOST_SWEEPS, matrix).sweeps
+    assert made < MOST_SWEEPS
+    return made
+
+
+def quiet_at_once(rng):
+    """Runs whose first sweep is quiet."""
+    for n in (2, 3, 4, 5, 8, 9, 16, 31, 32):
+        for k, kind in enumerate((diagonal, zero, zeros_beside, far_lines) if n <= 16 else (zeros_beside, far_lines)):
+            sweeps = (MOST_SWEEPS, 1, 2, 7)[(n + k) % 4]
+            yield case_of(n, sweeps, kind(rng, n, sweeps))
+
+
+def near_quiet(rng):
+    """Runs of one sweep less than the first quiet one, of just as many, and of more."""
+    kinds = [ordinary, covariances, whole_numbers, sparse, two_groups, least, nearly_diagonal]
+    for k, n in enumerate((2, 3, 4, 4, 5, 6, 7, 8, 9, 13, 16, 24)):
+        matrix = kinds[k % len(kinds)](rng, n, 0)
+        quiet = first_quiet(n, matrix)
+        for sweeps in (quiet - 1, quiet, quiet + 1, MOST_SWEEPS) if n < 16 else (quiet - 1, MOST_SWEEPS):
+            yield case_of(n, sweeps, matrix)
+
+
+def quiet_when_spoiled(rng):
+    """Runs that are spoiled in a sweep and quiet in a later one. An infinite entry on the diagonal leaves pairs still."""
+    for n in (2, 3, 4, 5, 6, 8, 9):
+        for kind in (spoiled_by_sum, spoiled_by_spread, spoiled_late) if n > 2 else (spoiled_by_sum, spoiled_by_spread):
+            outcome = None
+            while outcome is None or outcome.sweeps == MOST_SWEEPS:
+                matrix = kind(rng, n, MOST_SWEEPS)
+                outcome = ran(n, MOST_SWEEPS, matrix)
+            assert outcome.number == 8
+            yield case_of(n, rng.choice((outcome.sweeps, MOST_SWEEPS)), matrix)
+
+
+def quiet_runs(rng):
+    """Runs of all these, and of no sweeps."""
+    yield from quiet_at_once(rng)
+    yield from near_quiet(rng)
+    yield from quiet_when_spoiled(rng)
+    for n, kind in [(2, ordinary), (3, diagonal), (4, zero), (5, ordinary), (8, far_lines)]:
+        yield case_of(n, 0, kind(rng, n, 0))
+
+
+def checked_quiet(rng):
+    """The runs with quiet sweeps with their outcomes."""
+    made = [(case, outcome_of(case)) for case in quiet_runs(rng)]
+    early = [(case, outcome) for case, outcome in made if outcome.sweeps < case.sweeps]
+    spoiled = sum(outcome.number == 8 for _, outcome in early)
+    print(f"{len(made)} runs with quiet sweeps, {len(early)} of them end early, {spoiled} of these spoiled")
+    assert len({outcome.sweeps for _, outcome in early}) >= 6
+    assert spoiled >= 5
+    return made
+
+
 def checked_runs(rng, orders):
     """The runs of these orders with their outcomes."""
     made = list(runs(rng, orders))
@@ -828,6 +933,8 @@ def all_lines():
     filled += zip(odd_cases, finite_patterns(rng))
     rng = random.Random(1022)
     filled += zip(checked_ends(rng), finite_patterns(rng))
+    rng = random.Random(7)
+    filled += zip(checked_quiet(rng), finite_patterns(rng))
     print(f"{len(filled)} plain runs, {len(odd_cases)} of them drawn for odd orders")
     for (case, outcome), fill in filled:
         yield lines_of(head(case, fill) + case.matrix), answer_of(case, fill, outcome)

@@ -15,7 +15,7 @@ CORNERS = (ALPHA, BETA, GAMMA, DELTA)
 # The rules of Toy.antt. A step is counted from 0 and a processor from 1; Toy.antt counts it from 0.
 
 PRIME = 997
-WIRE_START, ROW_START, COLUMN_START = 901, 902, 903
+WIRE_START, ROW_START, COLUMN_START, KEPT_START = 901, 902, 903, 904
 
 
 def mixed(step, processor, b):
@@ -34,6 +34,11 @@ def along_row(step, processor, b):
 
 def along_column(step, processor, b):
     return (4 * b[BETA] + 7 * b[DELTA] + 13 * step + 17 * (processor - 1) + 9) % PRIME
+
+
+def keeping(step, processor, b, old):
+    x, y, z, w = [b[corner] for corner in CORNERS]
+    return (3 * x + 8 * y + 2 * z + 6 * w + 5 * old + 41 * step + 43 * (processor - 1) + 5) % PRIME
 
 
 def row_turned(h, x, y):
@@ -112,13 +117,25 @@ def meeting_step(N, first, p, q):
 
 def plain_run(N, first, steps):
     """The matrix after the steps, as a dictionary on pairs of lines."""
+    return plain_states(N, first, steps)[0]
+
+
+def plain_kept(N, first, steps):
+    """What each processor keeps after the steps."""
+    return plain_states(N, first, steps)[1]
+
+
+def plain_states(N, first, steps):
+    """Both. What a processor keeps comes from the four entries of its pair at its turn."""
     numbers = range(first, first + 2 * N)
     a = {(r, c): entry(r, c) for r in numbers for c in numbers}
+    kept = [KEPT_START] * N
     registers = Registers(N, first)
     for step in range(steps):
         for k, (p, q) in enumerate(registers.pairs(), 1):
             b = {ALPHA: a[p, p], BETA: a[p, q], GAMMA: a[q, p], DELTA: a[q, q]}
             h, v = along_row(step, k, b), along_column(step, k, b)
+            kept[k - 1] = keeping(step, k, b, kept[k - 1])
             others = [r for r in numbers if r not in (p, q)]
             for r in others:
                 a[p, r], a[q, r] = row_turned(h, a[p, r], a[q, r])
@@ -127,7 +144,7 @@ def plain_run(N, first, steps):
             b = mixed(step, k, b)
             a[p, p], a[p, q], a[q, p], a[q, q] = (b[corner] for corner in CORNERS)
         registers.move()
-    return a
+    return a, kept
 
 
 def part(a, registers, i, j):
@@ -235,6 +252,7 @@ class Tile:
         self.row_wire = ROW_START
         self.column_wire = COLUMN_START
         self.mark = False
+        self.kept = KEPT_START
 
 
 class Array:
@@ -295,6 +313,7 @@ class Array:
         if i == j:
             tile.row_wire = along_row(step, i, tile.cells)
             tile.column_wire = along_column(step, i, tile.cells)
+            tile.kept = keeping(step, i, tile.cells, tile.kept)
             tile.cells = mixed(step, i, tile.cells)
             return
         h, v = parameters
@@ -335,6 +354,15 @@ def idealized(N, steps):
     return states
 
 
+def kept_over(N, steps):
+    """What each processor keeps before each step."""
+    kept, states = [KEPT_START] * N, []
+    for step, (blocks, _) in enumerate(idealized(N, steps)):
+        states.append(kept)
+        kept = [keeping(step, i, blocks[i, i], kept[i - 1]) for i in range(1, N + 1)]
+    return states
+
+
 def run_traffic(N, K):
     """How many wires are set and how many parameters received in a run."""
     array, wires_set, received = Array(N, K), 0, 0
@@ -359,10 +387,13 @@ def check_model():
             for _ in range(3 * K + N):
                 array.tick()
             plain, registers = plain_run(N, 1, K), Registers(N).after(K)
+            kept = plain_kept(N, 1, K)
             for i, j in array.places:
+                assert array.tiles[i, j].kept == (kept[i - 1] if i == j else KEPT_START)
                 assert array.tiles[i, j].cells == part(plain, registers, i, j)
                 if K % sweep == 0:
                     assert array.tiles[i, j].cells == part(plain, start, i, j)
+        assert kept_over(N, 2 * sweep) == [plain_kept(N, 1, step) for step in range(2 * sweep)]
         for step, (blocks, _) in enumerate(idealized(N, 2 * sweep)):
             plain, registers = plain_run(N, 1, step), Registers(N).after(step)
             for i, j in blocks:
@@ -487,10 +518,14 @@ def marks(array):
     return numeral("".join(flag(array.tiles[place].mark) for place in array.places))
 
 
+def kept(array):
+    return [numeral(array.tiles[place].kept) for place in array.places]
+
+
 def whole_tiles(array):
     tiles = [array.tiles[place] for place in array.places]
     values = [[*tile.cells.values(), *tile.wires.values(), tile.row_wire, tile.column_wire] for tile in tiles]
-    return [digits(value) + flag(tile.mark) for value, tile in zip(values, tiles)]
+    return [digits(value) + flag(tile.mark) + digits([tile.kept]) for value, tile in zip(values, tiles)]
 
 
 def over_ticks(array, ticks, read):
@@ -509,6 +544,7 @@ def array_theorems(theorems):
         (wires, "its outgoing wires"),
         (parameters, "its parameter wires, along the row and along the column"),
         (marks, "its marks, a digit for each tile"),
+        (kept, "what its tiles keep"),
     ]
     for read, note in subjects:
         name = read.__name__
@@ -518,7 +554,7 @@ def array_theorems(theorems):
             ticks = some or range(3 * K + N + 2)
             argument = "(" + " ∷ ".join([*map(str, some), "[]"]) + ")" if some else f"(upTo {ticks[-1]})"
             theorems.add(f"{name}-{N}-{K}", name + "After", (N - 1, K, argument), over_ticks(Array(N, K), ticks, read))
-    theorems.note("an array that runs no step: of every tile the cells, the wires, the parameter wires and the mark, beside each other")
+    theorems.note("an array that runs no step: of every tile the cells, the wires, the parameter wires, the mark and what is kept, beside each other")
     for N in range(1, 5):
         states = over_ticks(Array(N, 0), range(N + 2), whole_tiles)
         theorems.add(f"tiles-{N}-0", "tilesAfter", (N - 1, 0, f"(upTo {N + 1})"), states)
@@ -555,6 +591,10 @@ def run_theorems(theorems):
             a = plain_run(N, first, step)
             states.append([digits(a[r, c] for c in numbers) for r in numbers])
         theorems.add(f"plain-{N}-{first}", "plainOver", (first, N - 1, PLAIN_STEPS[N]), states)
+    theorems.note("what each processor keeps before the steps of the plain run")
+    for N, first in FROM:
+        states = [digits(plain_kept(N, first, step)) for step in range(KEPT_STEPS[N])]
+        theorems.add(f"plain-kept-{N}-{first}", "plainKeptOver", (first, N - 1, KEPT_STEPS[N]), states)
     theorems.note("whether an entry fails after 0 to 3 steps, a digit each, for N = 1 to 4")
     states = [numeral("".join(flag(any(map(failing, plain_run(N, 1, step).values()))) for step in range(4))) for N in range(1, 5)]
     theorems.add("fails", "failsOver", (4,), states)
@@ -571,6 +611,9 @@ def run_theorems(theorems):
             sent = [(along_row(step, i, blocks[i, i]), along_column(step, i, blocks[i, i])) for i in range(1, N + 1)]
             states.append([digits(pair) for pair in sent])
         theorems.add(f"sent-{N}", "sentOver", (N - 1, 3), states)
+    theorems.note("and what they keep before each step")
+    for N in range(1, 4):
+        theorems.add(f"ideal-kept-{N}", "keptOver", (N - 1, 4), [digits(state) for state in kept_over(N, 4)])
 
 
 # What is computed: N and the first wire; N and K; where not every tick of a run and one beyond are read, those that are; steps by N.
@@ -590,8 +633,13 @@ SOME_TICKS = {
     ("wires", 5, 2): [5],
     ("parameters", 5, 2): [5, 6],
     ("marks", 5, 2): [5],
+    ("kept", 2, 3): [8],
+    ("kept", 3, 2): [3, 4, 11],
+    ("kept", 4, 2): [1, 4, 11],
+    ("kept", 5, 2): [5],
 }
 PLAIN_STEPS = {1: 5, 2: 5, 3: 4, 4: 4}
+KEPT_STEPS = {1: 5, 2: 4, 3: 4, 4: 3}
 BLOCK_STEPS = {1: 3, 2: 3, 3: 2, 4: 2}
 
 

@@ -1,9 +1,9 @@
 //! The eigenvalues of four coded lines: by plain sweeps, by the array in one call, and by the array tick by tick.
-//! First, what the array's run will take. It prints what the example in C prints.
-use weimrukas::{Array, Forecast, Refusal};
+//! First, the most that the array's run can need. It prints what the example in C prints.
+use weimrukas::{Array, Forecast, Made, Refusal};
 
 const N: usize = 4;
-const SWEEPS: usize = 8;
+const SWEEPS: usize = 16;
 const CODES: [u16; N] = [7, 19, 42, 201];
 
 type Matrix = [f64; N * N];
@@ -19,7 +19,8 @@ const MATRIX: Matrix = [
 fn main() -> Result<(), Refusal> {
     forecast()?;
     let (mut result, mut vectors) = ([0.0; N * N], [0.0; N * N]);
-    weimrukas::plain_run(N, SWEEPS, &MATRIX, &mut result, &mut vectors)?;
+    let sweeps = weimrukas::plain_run(N, SWEEPS, &MATRIX, &mut result, &mut vectors)?;
+    println!("{sweeps} sweeps made of {SWEEPS}");
     run(&result, &vectors)?;
     run_by_hand(&result)?;
     use_sheet()?;
@@ -37,21 +38,22 @@ fn forecast() -> Result<(), Refusal> {
         values,
         parameters,
     } = weimrukas::forecast(N, SWEEPS)?;
-    print!("forecast: {ticks} ticks, ");
+    print!("forecast: at most {ticks} ticks, ");
     println!("{values} values set on wires, {parameters} parameters received");
     Ok(())
 }
 
 fn run(plain_result: &Matrix, plain_vectors: &Matrix) -> Result<(), Refusal> {
     let (mut result, mut vectors) = ([0.0; N * N], [0.0; N * N]);
-    let ticks = weimrukas::array_run(N, SWEEPS, &MATRIX, &mut result, &mut vectors)?;
+    let Made { sweeps, ticks } =
+        weimrukas::array_run(N, SWEEPS, &MATRIX, &mut result, &mut vectors)?;
     let differ = |x: &Matrix, y: &Matrix| x.map(f64::to_bits) != y.map(f64::to_bits);
     let bits = if differ(&result, plain_result) || differ(&vectors, plain_vectors) {
         "other bits than"
     } else {
         "the same bits as"
     };
-    println!("{ticks} ticks of the array: {bits} by plain sweeps");
+    println!("{sweeps} sweeps and {ticks} ticks of the array: {bits} by plain sweeps");
     for (k, code) in CODES.iter().enumerate() {
         let column = vectors.iter().skip(k).step_by(N);
         let vector: String = column.map(|x| format!(" {x:.6}")).collect();

@@ -48,6 +48,7 @@ extern "C" {
         result_length: usize,
         vectors: *mut f64,
         vectors_length: usize,
+        sweeps_made: *mut usize,
         row: *mut usize,
         column: *mut usize,
     ) -> u8;
@@ -60,6 +61,7 @@ extern "C" {
         result_length: usize,
         vectors: *mut f64,
         vectors_length: usize,
+        sweeps_made: *mut usize,
         ticks: *mut usize,
         row: *mut usize,
         column: *mut usize,
@@ -166,6 +168,7 @@ pub fn plain_run(
     matrix: &[f64],
     result: &mut [f64],
     vectors: &mut [f64],
+    sweeps_made: &mut usize,
     place: &mut Place,
 ) -> u8 {
     unsafe {
@@ -178,6 +181,7 @@ pub fn plain_run(
             result.len(),
             vectors.as_mut_ptr(),
             vectors.len(),
+            sweeps_made,
             &mut place.row,
             &mut place.column,
         )
@@ -190,6 +194,7 @@ pub fn array_run(
     matrix: &[f64],
     result: &mut [f64],
     vectors: &mut [f64],
+    sweeps_made: &mut usize,
     ticks: &mut usize,
     place: &mut Place,
 ) -> u8 {
@@ -203,6 +208,7 @@ pub fn array_run(
             result.len(),
             vectors.as_mut_ptr(),
             vectors.len(),
+            sweeps_made,
             ticks,
             &mut place.row,
             &mut place.column,

@@ -5,8 +5,9 @@
 //!
 //! ```
 //! let (mut result, mut vectors) = ([0.0; 4], [0.0; 4]);
-//! weimrukas::plain_run(2, 1, &[1.0; 4], &mut result, &mut vectors)?;
+//! let sweeps = weimrukas::plain_run(2, 16, &[1.0; 4], &mut result, &mut vectors)?;
 //! assert_eq!(result, [0.0, 0.0, 0.0, 2.0]);
+//! assert_eq!(sweeps, 2);
 //! # Ok::<(), weimrukas::Refusal>(())
 //! ```
 //!
@@ -35,7 +36,14 @@ pub enum Parameters {
     Turn(f64, f64, f64),
 }
 
-/// What a run by the array takes.
+/// What a run by the array made.
+#[derive(Clone, Copy, Debug, PartialEq, Eq)]
+pub struct Made {
+    pub sweeps: usize,
+    pub ticks: usize,
+}
+
+/// The most that a run by the array can need.
 #[derive(Clone, Copy, Debug, PartialEq, Eq)]
 pub struct Forecast {
     pub ticks: usize,
@@ -83,34 +91,38 @@ pub fn records(n: usize, matrix: &[f64], step: usize, records: &mut [f64]) -> Re
     answer(number, place, ())
 }
 
-/// Runs the sweeps, and leaves the last matrix and the eigenvectors in the two results.
+/// Runs the sweeps, and leaves the last matrix and the eigenvectors in the two results. It ends after the first sweep in
+/// which every pair was still, as further ones would change no bit, and answers the number of the sweeps that it made.
 pub fn plain_run(
     n: usize,
     sweeps: usize,
     matrix: &[f64],
     result: &mut [f64],
     vectors: &mut [f64],
-) -> Result<(), Refusal> {
-    let mut place = Place::default();
-    let number = calls::plain_run(n, sweeps, matrix, result, vectors, &mut place);
-    answer(number, place, ())
+) -> Result<usize, Refusal> {
+    let (mut made, mut place) = (0, Place::default());
+    let number = calls::plain_run(n, sweeps, matrix, result, vectors, &mut made, &mut place);
+    answer(number, place, made)
 }
 
-/// The same by the array. Answers the number of ticks that it made.
+/// The same by the array. Answers the numbers of the sweeps and of the ticks that it made.
 pub fn array_run(
     n: usize,
     sweeps: usize,
     matrix: &[f64],
     result: &mut [f64],
     vectors: &mut [f64],
-) -> Result<usize, Refusal> {
-    let (mut ticks, mut place) = (0, Place::default());
-    let number = calls::array_run(n, sweeps, matrix, result, vectors, &mut ticks, &mut place);
-    answer(number, place, ticks)
+) -> Result<Made, Refusal> {
+    let (mut made, mut ticks, mut place) = (0, 0, Place::default());
+    let number = calls::array_run(
+        n, sweeps, matrix, result, vectors, &mut made, &mut ticks, &mut place,
+    );
+    let sweeps = made;
+    answer(number, place, Made { sweeps, ticks })
 }
 
-/// What a run by the array takes, before it is made: by the order and the sweeps alone, for a run that will be refused
-/// by 8 too.
+/// The most that a run by the array can need, before it is made: by the order and the sweeps alone, for a run that will
+/// be refused by 8 too. It needs this if it makes all the sweeps.
 pub fn forecast(n: usize, sweeps: usize) -> Result<Forecast, Refusal> {
     let (mut ticks, mut values, mut parameters) = (0, 0, 0);
     let number = calls::forecast(n, sweeps, &mut ticks, &mut values, &mut parameters);

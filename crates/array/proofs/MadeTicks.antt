@@ -75,8 +75,8 @@ module _ (x : Array) (r : Ticked) (p : Ticks x r) (h : progressAnswered (r .answ
       ∙ the-tile-of _))
 
 -- ---- the start
--- cells of the matrix and of the identity, in the order of the lines from the first on, all wires at +0, not marked
-abbrev pub begun : ℕ → List Float → ℕ → ℕ → theory.Tile Cell Float Float
+-- cells of the matrix and of the identity, in the order of the lines from the first on, all wires at +0, not marked, no turn counted
+abbrev pub begun : ℕ → List Float → ℕ → ℕ → theory.Tile Cell Float Float ℕ
 begun n l i j =
     record {
       cells = blockAt (inOrder (firstLine n)) (cellOf (startOf n l)) i j;
@@ -84,6 +84,7 @@ begun n l i j =
       rowWire = plusZero;
       columnWire = plusZero;
       mark = false;
+      kept = 0;
     }
 
 module _ (n sweeps : ℕ) (l : List Float) where

@@ -38,7 +38,7 @@ tile-again : (x : Tile) → tileOf (theTile x) ≡ x
 unfolding tileOf partOf theTile blockOf
 tile-again x = refl
 
-pub the-tile-of : (x : theory.Tile Cell Float Float) → theTile (tileOf x) ≡ x
+pub the-tile-of : (x : theory.Tile Cell Float Float ℕ) → theTile (tileOf x) ≡ x
 unfolding theTile tileOf partOf blockOf
 the-tile-of x = refl
 
@@ -107,7 +107,7 @@ at-place l k = let e : k / mostProcessors * mostProcessors + k % mostProcessors 
 
 -- ---- the turning: what each tile is after it
 module _ (s : Setting) (N K t : ℕ) (l : List Tile) where
-  abbrev turnAt : ℕ → ℕ → theory.Tile Cell Float Float
+  abbrev turnAt : ℕ → ℕ → theory.Tile Cell Float Float ℕ
   turnAt i j =
       turnedTile (operations s) (stepAt (distance i j) t) i j (actionAt K (distance i j) t) (theArray l i j) (incoming (N - 1) (theArray l) i j)
       (theArray l i (nearer i j) .rowWire) (theArray l (nearer j i) j .columnWire)
@@ -205,7 +205,8 @@ module _ (s : Setting) (N K t : ℕ) (l : List Tile) where
           → (¬ (k / mostProcessors ≡ k % mostProcessors) → row ≡ angleOf (getD cur (near .row) noTile .«row_wire»))
           → (¬ (k % mostProcessors ≡ k / mostProcessors) → column ≡ angleOf (getD cur (near .column) noTile .«column_wire»))
           → q ≡ readPart near
-          → x ≡ turnedOf (s .order) (actionAt K (distance (k / mostProcessors) (k % mostProcessors)) t) (getD cur k noTile) q (k / mostProcessors)
+          → x ≡ turnedOf (s .order) (stepAt (distance (k / mostProcessors) (k % mostProcessors)) t)
+          (actionAt K (distance (k / mostProcessors) (k % mostProcessors)) t) (getD cur k noTile) q (k / mostProcessors)
           (k % mostProcessors) row column
           → x ≡ turnedAt k
       turned-in {x} {q} {row} {column} e f g z =
@@ -221,7 +222,7 @@ module _ (s : Setting) (N K t : ℕ) (l : List Tile) where
 
 -- ---- the setting of wires: what each tile is after it
 module _ (s : Setting) (N K t : ℕ) (l₁ : List Tile) where
-  abbrev settled : ℕ → Tile → theory.Tile Cell Float Float
+  abbrev settled : ℕ → Tile → theory.Tile Cell Float Float ℕ
   settled k x =
       settledTile (operations s) (N - 1) (k / mostProcessors) (k % mostProcessors)
       (actionAt K (distance (k / mostProcessors) (k % mostProcessors)) t) (theTile x)

@@ -2,6 +2,7 @@
 use Prim.Native.Nat.{ℕ, zero, suc, _+_, _-_, _≤_}
 use mathlib.Core.Path.{_≡_, refl, sym, ap, _∙_}
 use mathlib.Core.List.{List}
+use native.Mathlib.Nat.{zero-add, suc-add}
 use native.Mathlib.Omega.{arith}
 use lib.Ieee.{Float}
 use Rattle.refusal.specs.Answers.{Answered, given, refused, refusedBy}
@@ -34,6 +35,11 @@ pub ticked-order : (k : ℕ) (x : Array) → ticked k x .n ≡ x .n
 unfolding ticked nextArray
 ticked-order zero x = refl
 ticked-order (suc k) x = let y = ticked k x in order-kept (progressOf (y .n) (y .sweeps) (y .tick)) y ∙ ticked-order k x
+
+pub ticked-more : (j k : ℕ) (x : Array) → ticked (j + k) x ≡ ticked j (ticked k x)
+unfolding ticked
+ticked-more zero k x = rw zero-add
+ticked-more (suc j) k x = rw suc-add (ap nextArray (ticked-more j k x))
 
 -- the tiles after k ticks from tick t on
 unfoldable pub tilesFrom : Setting → ℕ → ℕ → ℕ → ℕ → List Tile → List Tile

@@ -30,7 +30,7 @@ unfoldable pub noPart : Part
 noPart = record { matrix = noQuad; vectors = noQuad }
 
 unfoldable pub noTile : Tile
-noTile = record { cells = noPart; wires = noPart; «row_wire» = nan; «column_wire» = nan; mark = false }
+noTile = record { cells = noPart; wires = noPart; «row_wire» = nan; «column_wire» = nan; mark = false; turns = 0 }
 
 -- The tile in row i and column j.
 unfoldable pub tileAt : List Tile → ℕ → ℕ → Tile
@@ -40,11 +40,19 @@ tileAt l i j = getD l (i * mostProcessors + j) noTile
 unfoldable pub partOf : Block Cell → Part
 partOf b = record { matrix = quadOf (blockEntries b); vectors = quadOf (blockVectors b) }
 
-unfoldable pub tileOf : theory.Tile Cell Float Float → Tile
-tileOf x = record { cells = partOf (x .cells); wires = partOf (x .wires); «row_wire» = x .rowWire; «column_wire» = x .columnWire; mark = x .mark }
+unfoldable pub tileOf : theory.Tile Cell Float Float ℕ → Tile
+tileOf x =
+    record {
+      cells = partOf (x .cells);
+      wires = partOf (x .wires);
+      «row_wire» = x .rowWire;
+      «column_wire» = x .columnWire;
+      mark = x .mark;
+      turns = x .kept;
+    }
 
 -- A list of tiles as the theory's array.
-unfoldable pub theArray : List Tile → ℕ → ℕ → theory.Tile Cell Float Float
+unfoldable pub theArray : List Tile → ℕ → ℕ → theory.Tile Cell Float Float ℕ
 theArray l i j = theTile (tileAt l i j)
 
 -- The tiles after tick t of a run of K steps on N by N tiles at the setting s; those that are not in use stay.

@@ -9,7 +9,7 @@ use borrow.Author.Tests.{eqb-true, eqb-false}
 use lib.Dec.{T, eqb}
 use lib.ListN.{length, getD}
 use lib.Ieee.{Float, nan, binary64, fits}
-use Rattle.refusal.specs.Answers.{Answered, given, refused, refusedBy, unlessRefused}
+use Rattle.refusal.specs.Answers.{given, refusedBy}
 use Rattle.refusal.specs.declared.Refusal.the-variants.{Spoiled}
 use Rattle.float64.specs.Values.{plusZero}
 use Rattle.systolic.specs.Slots.{Slot, slot, inOrderAt, inOrder}
@@ -22,20 +22,23 @@ use Rattle.systolic.specs.Arrays.{tick, arrayAfter}
 use Rattle.lists.proofs.Bounded.{any-within}
 use Rattle.systolic.proofs.Neighbourhood.{tick-same}
 use Rattle.systolic.proofs.Starts.{tick-any-start}
-use Rattle.systolic.proofs.Agreement.{agreement}
-use Rattle.sizes.specs.Sizes.{mostSweeps, isOrder, processorsOf, firstLine, linesOf, stepsOf, ticksOf}
+use Rattle.systolic.proofs.Ticks.{kept-turned}
+use Rattle.systolic.proofs.Lines.{inOrder-one}
+use Rattle.systolic.proofs.Agreement.{kept-sequential, agreement}
+use Rattle.sizes.specs.Sizes.{mostSweeps, isOrder, processorsOf, sweepSteps, firstLine, linesOf, stepsOf, ticksOf}
 use Rattle.sizes.proofs.Orders.{order-is, order-half, sweep-is}
 use Rattle.matrix.specs.Matrix.{at, flat}
 use Rattle.matrix.proofs.SameEntries.{Line, flat-same}
-use Rattle.matrix.proofs.AcceptedEntries.{accepted-long}
 use Rattle.runs.specs.State.{State, startOf, zeros}
 use Rattle.plain_run.specs.State.{after, notFinite, spoiled}
-use Rattle.runs.specs.Outcome.{beforeRun, outcome, resultsKept, answering}
-use Rattle.plain_run.specs.Run.{ranOf, runOf}
+use Rattle.runs.specs.Outcome.{outcome, answering}
+use Rattle.plain_run.specs.Run.{ranOf}
 use Rattle.runs.specs.Cells.{Cell, cell as cellWith, cellOf, Setting, setting, rules}
 use Rattle.plain_run.proofs.VanishingLine.{every-line}
+use Rattle.plain_run.specs.Quiet.{turnsFrom}
+use Rattle.plain_run.proofs.KeptTurns.{kept-turns}
 use Rattle.plain_run.proofs.Sequence.{plain-sequential, plain-fails, fails-are}
-use Rattle.runs.proofs.Verdicts.{Begins, begins}
+use Rattle.runs.proofs.Verdicts.{Begins}
 use Rattle.plain_run.proofs.RunStart.{start-finite, start-vanishes}
 use Rattle.tile.specs.declared.Tile.{Tile}
 use Rattle.tile.proofs.IncomingCells.{sideBy, corner-cell}
@@ -47,8 +50,7 @@ use Rattle.array.proofs.TickedTiles.{the-tile-of}
 use Rattle.array.proofs.ArrayEnd.{ended-stays}
 use Rattle.array.proofs.TicksInARow.{tilesFrom, ticked-made}
 use Rattle.array.proofs.MadeTicks.{tile-after, start-tile}
-use Rattle.array_run.specs.Results.{joinedAt, matrixIn, vectorsIn, someMarked, handedOver}
-use Rattle.array_run.specs.Whole.{wholeOf}
+use Rattle.array_run.specs.Results.{Duration, lasting, joinedAt, matrixIn, vectorsIn, someMarked, handedOver}
 
 -- the slot of a line, where f is the first
 abbrev slotOf : ℕ → ℕ → Slot
@@ -91,8 +93,8 @@ module _ (n sweeps : ℕ) (l : List Float) (order : isOrder n ≡ true) (few : s
   abbrev s : Setting
   s = setting n
 
-  abbrev S : Operations Cell Float Float
-  S = operationsOf (rules s) (inOrder (firstLine n)) (cellOf X) (cellWith plusZero plusZero) plusZero plusZero
+  abbrev S : Operations Cell Float Float ℕ
+  S = operationsOf (rules s) (inOrder (firstLine n)) (cellOf X) (cellWith plusZero plusZero) plusZero plusZero 0
 
   -- the tiles after t ticks
   unfoldable pub tilesBy : ℕ → List Tile
@@ -111,11 +113,11 @@ module _ (n sweeps : ℕ) (l : List Float) (order : isOrder n ≡ true) (few : s
   starts-as i j hi hj = start-tile n sweeps l order long i j (within i hi) (within j hj)
 
   -- ---- the ticks
-  from-start : (t : ℕ) (A : ℕ → ℕ → theory.Tile Cell Float Float) (i j : ℕ) → tick (operations s) m K t A i j ≡ tick S m K t A i j
+  from-start : (t : ℕ) (A : ℕ → ℕ → theory.Tile Cell Float Float ℕ) (i j : ℕ) → tick (operations s) m K t A i j ≡ tick S m K t A i j
   unfolding operations
   from-start t A i j =
       tick-any-start (rules s) (inOrder (firstLine n)) (inOrder (firstLine n)) (λ r c. cellWith plusZero plusZero) (cellOf X) (cellWith plusZero plusZero)
-      (cellWith plusZero plusZero) plusZero plusZero plusZero plusZero m K t A i j
+      (cellWith plusZero plusZero) plusZero plusZero plusZero plusZero 0 0 m K t A i j
 
   tiles-are : (t i j : ℕ) → i ≤ m → j ≤ m → theArray (tilesBy t) i j ≡ arrayAfter S m K t i j
   tiles-are zero i j hi hj = starts-as i j hi hj
@@ -166,8 +168,8 @@ module _ (n sweeps : ℕ) (l : List Float) (order : isOrder n ≡ true) (few : s
   cells-are : (u z : Slot) → u .processor ≤ m → z .processor ≤ m
       → pick (λ i j. theArray lastTiles i j .cells) u z ≡ cellOf (after n K X) (inOrder (firstLine n) u) (inOrder (firstLine n) z)
   cells-are u z p q =
-      unfold pick in (ap (λ (x : theory.Tile Cell Float Float). cell (u .side) (z .side) (x .cells)) (last-as (u .processor) (z .processor) p q))
-      ∙ agreement (rules s) (firstLine n) m (cellOf X) (cellWith plusZero plusZero) plusZero plusZero sweeps .cells u z p q
+      unfold pick in (ap (λ (x : theory.Tile Cell Float Float ℕ). cell (u .side) (z .side) (x .cells)) (last-as (u .processor) (z .processor) p q))
+      ∙ agreement (rules s) (firstLine n) m (cellOf X) (cellWith plusZero plusZero) plusZero plusZero 0 sweeps .cells u z p q
       ∙ rw (← whole-sweeps) (ap (λ (f : ℕ → ℕ → Cell). f (inOrder (firstLine n) u) (inOrder (firstLine n) z)) (plain-sequential s order X K))
 
   -- the slot of a real line
@@ -194,7 +196,7 @@ module _ (n sweeps : ℕ) (l : List Float) (order : isOrder n ≡ true) (few : s
   pub last-marked : notFinite n X ≡ false → someMarked N lastTiles ≡ spoiled n K X
   last-marked f =
       unfold someMarked in (marks-same)
-      ∙ agreement (rules s) (firstLine n) m (cellOf X) (cellWith plusZero plusZero) plusZero plusZero sweeps .mark (rw whole (fails-are s order X X ∙ f))
+      ∙ agreement (rules s) (firstLine n) m (cellOf X) (cellWith plusZero plusZero) plusZero plusZero 0 sweeps .mark (rw whole (fails-are s order X X ∙ f))
       ∙ rw (whole, ← whole-sweeps) (plain-fails s order X K)
     where
       whole : 2 * suc m ≡ linesOf n
@@ -202,7 +204,7 @@ module _ (n sweeps : ℕ) (l : List Float) (order : isOrder n ≡ true) (few : s
 
       mark-same : (i j : ℕ) → i < suc m → j < suc m
           → tileAt lastTiles i j .mark ≡ arrayAfter S m (sweeps * (2 * m + 1)) (3 * (sweeps * (2 * m + 1)) + suc m) i j .mark
-      mark-same i j hi hj = unfold theArray theTile in (ap (λ (x : theory.Tile Cell Float Float). x .mark) (last-as i j (omega arith) (omega arith)))
+      mark-same i j hi hj = unfold theArray theTile in (ap (λ (x : theory.Tile Cell Float Float ℕ). x .mark) (last-as i j (omega arith) (omega arith)))
 
       marks-same : any N (λ i. any N (λ j. tileAt lastTiles i j .mark))
           ≡ any (suc m) (λ i. any (suc m) (λ j. arrayAfter S m (sweeps * (2 * m + 1)) (3 * (sweeps * (2 * m + 1)) + suc m) i j .mark))
@@ -211,8 +213,23 @@ module _ (n sweeps : ℕ) (l : List Float) (order : isOrder n ≡ true) (few : s
           any-within N (suc m) _ _ (omega arith) (λ i hi. any-within N (suc m) _ _ (omega arith) (λ j hj. mark-same i j hi hj) (λ j a b. absurd (omega arith)))
           (λ i a b. absurd (omega arith))
 
-  -- ---- the whole run
-  pub handed-is : notFinite n X ≡ false → handedOver (ticked (ticksOf n sweeps) (startArray n sweeps l)) ≡ answering (ticksOf n sweeps) (ranOf n sweeps l)
+  -- ---- what the tiles on the diagonal count: after s + 1 of their rotations in sweep j + 1 and no more, the turns in them
+  pub turns-by : (j k i t : ℕ) → i < N → k < sweepSteps n → let z = suc (j * sweepSteps n + k) in z ≤ K → 3 * z < t + 3 → (z < K → t ≤ 3 * z)
+      → tileAt (tilesBy t) i i .turns ≡ turnsFrom n (j * sweepSteps n) (suc k) i X
+  turns-by j k i t hi hk within made no-more =
+      let z = suc (j * sweepSteps n + k) in
+      unfold theArray theTile in (ap (λ (x : theory.Tile Cell Float Float ℕ). x .kept) (tiles-are t i i (omega arith) (omega arith)))
+      ∙ kept-turned S m K t z i (omega arith) within made no-more
+      ∙ kept-sequential (rules s) (inOrder (firstLine n)) m (inOrder-one (firstLine n) m) (cellOf X) (cellWith plusZero plusZero) plusZero plusZero 0 z i
+      (omega arith)
+      ∙ kept-turns s order X j k i hi hk
+
+  -- ---- the record of a run of all its ticks
+  abbrev made : Duration
+  made = lasting sweeps (ticksOf n sweeps)
+
+  pub handed-is : notFinite n X ≡ false
+      → handedOver (ticked (ticksOf n sweeps) (startArray n sweeps l)) ≡ answering made (ranOf n sweeps l)
   handed-is f = ap handedOver (ticked-is (ticksOf n sweeps) (omega arith)) ∙ unfold handedOver recordBy ranOf in
       (rw (last-marked f, matrix-flat, vectors-flat) (go (spoiled n K X)))
     where
@@ -223,9 +240,9 @@ module _ (n sweeps : ℕ) (l : List Float) (order : isOrder n ≡ true) (few : s
       vectors-flat = flat-same n _ _ last-vectors
 
       go : (b : Bool)
-          → cond b (outcome {A = ℕ} (refusedBy Spoiled) (zeros n) (zeros n))
-          (outcome (given (ticksOf n sweeps)) (flat n (after n K X .matrix)) (flat n (after n K X .vectors)))
-          ≡ answering {A = Unit} (ticksOf n sweeps)
+          → cond b (outcome {A = Duration} (refusedBy Spoiled) (zeros n) (zeros n))
+          (outcome (given made) (flat n (after n K X .matrix)) (flat n (after n K X .vectors)))
+          ≡ answering {A = Unit} made
           (cond b (outcome (refusedBy Spoiled) (zeros n) (zeros n)) (outcome (given tt) (flat n (after n K X .matrix)) (flat n (after n K X .vectors))))
       go true = refl
       go false = refl
@@ -234,19 +251,3 @@ module _ (n sweeps : ℕ) (l : List Float) (order : isOrder n ≡ true) (few : s
 pub start-clean : (n sweeps : ℕ) (l : List Float) (lr lv : ℕ) → ((k : ℕ) → T (fits binary64 (getD l k nan))) → Begins n sweeps l lr lv
     → notFinite n (startOf n l) ≡ false
 start-clean n sweeps l lr lv fitting b = every-line n (startOf n l) (start-finite n l fitting (b .entries)) (start-vanishes n l)
-
--- For every input: the whole run answers and leaves what the plain run does, and where it is not refused it has made 3 K + N ticks.
-pub whole-agrees : (n sweeps : ℕ) (l r v : List Float) → ((k : ℕ) → T (fits binary64 (getD l k nan)))
-    → wholeOf n sweeps l r v ≡ answering (ticksOf n sweeps) (runOf n sweeps l r v)
-unfolding wholeOf runOf
-whole-agrees n sweeps l r v fitting = go (beforeRun n sweeps l (length r) (length v)) refl
-  where
-    accepted : Begins n sweeps l (length r) (length v)
-        → handedOver (ticked (ticksOf n sweeps) (startArray n sweeps l)) ≡ answering (ticksOf n sweeps) (ranOf n sweeps l)
-    accepted b = handed-is n sweeps l (b .order) (b .few) (accepted-long n l fitting (b .entries)) (start-clean n sweeps l _ _ fitting b)
-
-    go : (a : Answered Unit) → beforeRun n sweeps l (length r) (length v) ≡ a
-        → unlessRefused a (handedOver (ticked (ticksOf n sweeps) (startArray n sweeps l))) (resultsKept r v)
-        ≡ answering (ticksOf n sweeps) (unlessRefused a (ranOf n sweeps l) (resultsKept r v))
-    go (given x) e = accepted (begins n sweeps l _ _ e)
-    go (refused k values) e = refl

@@ -1,4 +1,5 @@
 pub mod Neighbours
 pub mod Agreement
+pub mod QuietRuns
 pub mod Hand
 pub mod HandCounts

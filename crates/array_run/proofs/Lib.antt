@@ -1,2 +1,4 @@
 pub mod Results
+pub mod Advances
+pub mod DiagonalCounts
 pub mod WholeRuns

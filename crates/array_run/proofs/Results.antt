@@ -1,12 +1,13 @@
 -- The end of a whole run: marks, and cells written to their rows and columns. Assumes nothing.
 use Prim.Native.Nat.{ℕ, _+_, _-_, _*_, _/_, _%_, _<_}
-use mathlib.Core.Path.{_≡_, sym}
-use mathlib.Core.Bool.{Bool, true, false}
+use mathlib.Core.Path.{_≡_, refl, sym, ap}
+use mathlib.Core.Bool.{Bool, true, false, cond}
 use mathlib.Core.List.{List}
 use native.Mathlib.Omega.{arith}
 use lib.Dec.{eqb}
 use lib.Ieee.{Float, nan}
-use Rattle.refusal.specs.Answers.{given, refusedBy}
+use Rattle.refusal.specs.Answers.{Answered, given, refusedBy, valueOr}
+use Rattle.refusal.proofs.FirstRefusal.{refused-given}
 use Rattle.refusal.specs.declared.Refusal.the-variants.{Spoiled}
 use Rattle.lists.proofs.Filled.{Filled, filled-all}
 use Rattle.lists.specs.Bounded.{any}
@@ -19,7 +20,7 @@ use Rattle.runs.specs.State.{zeros}
 use Rattle.tile.specs.declared.Tile.{Tile}
 use Rattle.array.specs.declared.Array.{Array}
 use Rattle.array.specs.Arrays.{tileAt}
-use Rattle.array_run.specs.Results.{joinedAt, matrixIn, vectorsIn, someMarked, handedOver}
+use Rattle.array_run.specs.Results.{Duration, lasting, joinedAt, matrixIn, vectorsIn, someMarked, handedOver}
 use Rattle.sizes.specs.Sizes.{processorsOf}
 
 -- ---- marks
@@ -51,12 +52,29 @@ flat-filled n k A l h e = filled-all k l h (omega arith)
 
 -- ---- what is handed over
 module _ (x : Array) where
-  pub spoiled-over : someMarked (processorsOf (x .n)) (x .tiles) ≡ true → {o : Outcome ℕ}
+  pub spoiled-over : someMarked (processorsOf (x .n)) (x .tiles) ≡ true → {o : Outcome Duration}
       → o ≡ outcome (refusedBy Spoiled) (zeros (x .n)) (zeros (x .n)) → o ≡ handedOver x
   unfolding handedOver
   spoiled-over e f = rw e f
 
   pub cells-over : {r v : List Float} → someMarked (processorsOf (x .n)) (x .tiles) ≡ false → r ≡ flat (x .n) (matrixIn (x .n) (x .tiles))
-      → v ≡ flat (x .n) (vectorsIn (x .n) (x .tiles)) → outcome (given (x .tick)) r v ≡ handedOver x
+      → v ≡ flat (x .n) (vectorsIn (x .n) (x .tiles)) → outcome (given (lasting (x .sweeps) (x .tick))) r v ≡ handedOver x
   unfolding handedOver
   cells-over e f g = rw (e, f, g)
+
+  -- where nothing is refused
+  pub over-given : (d : Duration) → handedOver x .answer ≡ given d
+      → (d ≡ lasting (x .sweeps) (x .tick)) × (handedOver x .result ≡ flat (x .n) (matrixIn (x .n) (x .tiles)))
+      × (handedOver x .vectors ≡ flat (x .n) (vectorsIn (x .n) (x .tiles)))
+  unfolding handedOver
+  over-given d = go (someMarked (processorsOf (x .n)) (x .tiles))
+    where
+      kept : Outcome Duration
+      kept = outcome (given (lasting (x .sweeps) (x .tick))) (flat (x .n) (matrixIn (x .n) (x .tiles))) (flat (x .n) (vectorsIn (x .n) (x .tiles)))
+
+      go : (b : Bool) → cond b (outcome (refusedBy Spoiled) (zeros (x .n)) (zeros (x .n))) kept .answer ≡ given d
+          → (d ≡ lasting (x .sweeps) (x .tick))
+          × (cond b (outcome (refusedBy Spoiled) (zeros (x .n)) (zeros (x .n))) kept .result ≡ flat (x .n) (matrixIn (x .n) (x .tiles)))
+          × (cond b (outcome (refusedBy Spoiled) (zeros (x .n)) (zeros (x .n))) kept .vectors ≡ flat (x .n) (vectorsIn (x .n) (x .tiles)))
+      go true e = refused-given e
+      go false e = (sym (ap (λ (a : Answered Duration). valueOr a d) e), refl, refl)

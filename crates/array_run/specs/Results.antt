@@ -32,8 +32,16 @@ vectorsIn n l = joinedAt (firstLine n) (λ i j. tileAt l i j .cells .vectors)
 unfoldable pub someMarked : ℕ → List Tile → Bool
 someMarked N l = any N (λ i. any N (λ j. tileAt l i j .mark))
 
--- What a whole run makes of its array at the end: 8 if a tile is marked, otherwise the tick and the cells.
-unfoldable pub handedOver : Array → Outcome ℕ
+-- How long a run was.
+pub record Duration : Type 0 where
+  pub sweeps : ℕ
+  pub ticks : ℕ
+
+abbrev pub lasting : ℕ → ℕ → Duration
+lasting sweeps ticks = record { sweeps = sweeps; ticks = ticks }
+
+-- What a whole run makes of its array at the end: 8 if a tile is marked, otherwise its sweeps and ticks, and the cells.
+unfoldable pub handedOver : Array → Outcome Duration
 handedOver x =
     cond (someMarked (processorsOf (x .n)) (x .tiles)) (outcome (refusedBy Spoiled) (zeros (x .n)) (zeros (x .n)))
-    (outcome (given (x .tick)) (flat (x .n) (matrixIn (x .n) (x .tiles))) (flat (x .n) (vectorsIn (x .n) (x .tiles))))
+    (outcome (given (lasting (x .sweeps) (x .tick))) (flat (x .n) (matrixIn (x .n) (x .tiles))) (flat (x .n) (vectorsIn (x .n) (x .tiles))))

@@ -1,4 +1,4 @@
--- Document 01, "The array": the whole run. Definitions only.
+-- Document 01, "The array", and document 02 (vi): the whole run. Definitions only.
 use Prim.Native.Nat.{ℕ}
 use mathlib.Core.List.{List}
 use lib.ListN.{length}
@@ -6,16 +6,21 @@ use lib.Ieee.{Float}
 use Rattle.refusal.specs.Answers.{Answered, given, refusedBy, unlessRefused}
 use Rattle.runs.specs.Outcome.{beforeRun, Outcome, resultsKept}
 use Rattle.sizes.specs.Sizes.{ticksOf}
-use Rattle.array.specs.Runs.{startArray, ticked}
+use Rattle.array.specs.declared.Array.{Array}
+use Rattle.array.specs.Runs.{startArray}
 use Rattle.array_run.specs.declared.Completion.{Completion}
 use Rattle.array_run.specs.declared.Completion.the-variants.{Completed, Refused}
-use Rattle.array_run.specs.Results.{handedOver}
+use Rattle.array_run.specs.Results.{Duration, lasting, handedOver}
+use Rattle.array_run.specs.Advance.{advancedBy}
 
-abbrev pub completionAnswered : Completion → Answered ℕ
-completionAnswered (Completed ticks) = given ticks
+abbrev pub completionAnswered : Completion → Answered Duration
+completionAnswered (Completed sweeps ticks) = given (lasting sweeps ticks)
 completionAnswered (Refused r) = refusedBy r
 
+-- The array at the end: a start, and then ticks until it has stopped, which it has after those of all S sweeps.
+abbrev pub finalArray : ℕ → ℕ → List Float → Array
+finalArray n sweeps l = advancedBy (ticksOf n sweeps) (startArray n sweeps l)
+
 -- l is the matrix, r and v are what the two results hold before.
-unfoldable pub wholeOf : ℕ → ℕ → List Float → List Float → List Float → Outcome ℕ
-wholeOf n sweeps l r v =
-    unlessRefused (beforeRun n sweeps l (length r) (length v)) (handedOver (ticked (ticksOf n sweeps) (startArray n sweeps l))) (resultsKept r v)
+unfoldable pub wholeOf : ℕ → ℕ → List Float → List Float → List Float → Outcome Duration
+wholeOf n sweeps l r v = unlessRefused (beforeRun n sweeps l (length r) (length v)) (handedOver (finalArray n sweeps l)) (resultsKept r v)

@@ -12,7 +12,7 @@ use array::Array;
 use refusal::Refusal;
 use sizes::MOST_PROCESSORS;
 
-// Refusal 8 and +0 everywhere if a tile is marked, otherwise the number of ticks and the cells.
+// Refusal 8 and +0 everywhere if a tile is marked, otherwise the numbers of sweeps and ticks, and the cells.
 pub fn hand_over(array: Array, result: &mut [f64], vectors: &mut [f64]) -> Completion
     requires { ⌜ (array .n ≤ largestOrder) × (length (now result) ≡ array .n * array .n) × (length (now vectors) ≡ array .n * array .n) ⌝ }
     ensures { λ r. ⌜ outcome (completionAnswered r) (now (result .exit)) (now (vectors .exit)) ≡ handedOver array ⌝ }
@@ -23,7 +23,7 @@ pub fn hand_over(array: Array, result: &mut [f64], vectors: &mut [f64]) -> Compl
         return Completion::Refused(Refusal::Spoiled);
     }
     write_cells(array, result, vectors);
-    Completion::Completed(array.tick)
+    Completion::Completed(array.sweeps, array.tick)
 }
 
 // Whether a tile in use is marked.

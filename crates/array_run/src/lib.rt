@@ -1,25 +1,25 @@
-// The whole run on the array (document 01, "The array").
+// The whole run on the array (document 01, "The array", and document 02 (vi)).
 ghost use mathlib.Core.Path.{_≡_};
 ghost use lib.ListN.{length};
 ghost use Rattle.refusal.specs.Answers.{given};
 ghost use Rattle.runs.specs.Outcome.{beforeRun, outcome};
-ghost use Rattle.sizes.specs.Sizes.{ticksOf};
-ghost use Rattle.array.specs.Runs.{startArray, ticked};
 ghost use Rattle.array_run.specs.Results.{handedOver};
-ghost use Rattle.array_run.specs.Whole.{completionAnswered, wholeOf};
+ghost use Rattle.array_run.specs.Whole.{completionAnswered, finalArray, wholeOf};
 use array::Array;
 use refusal::Answer;
 use refusal::Refusal;
 
+mod advance;
 mod ending;
 
-// What a whole run answers: the number of ticks that it made, or a refusal.
+// What a whole run answers: the numbers of sweeps and of ticks that it made, or a refusal.
 pub enum Completion {
-    Completed(usize),
+    Completed(usize, usize),
     Refused(Refusal),
 }
 
-// Runs a number of sweeps on a matrix of order n by the array, and leaves the last matrix and the eigenvectors in the two results.
+// Runs a number of sweeps on a matrix of order n by the array, or fewer where one is quiet, and leaves the last matrix and the eigenvectors in
+// the two results.
 pub fn run(
     n: usize,
     sweeps: usize,
@@ -46,9 +46,9 @@ fn run_accepted(
 ) -> Completion
     requires { ⌜ beforeRun n sweeps (now matrix) (length (now result)) (length (now vectors)) ≡ given tt ⌝ }
     ensures { λ r. ⌜ outcome (completionAnswered r) (now (result .exit)) (now (vectors .exit))
-        ≡ handedOver (ticked (ticksOf n sweeps) (startArray n sweeps (now (matrix .entry)))) ⌝ }
+        ≡ handedOver (finalArray n sweeps (now (matrix .entry))) ⌝ }
 {
     let start = Array::of_matrix(n, sweeps, matrix);
-    let end = start.ticks(sizes::ticks_of(n, sweeps));
+    let end = advance::to_the_end(start);
     ending::hand_over(end, result, vectors)
 }

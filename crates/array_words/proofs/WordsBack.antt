@@ -20,6 +20,7 @@ use Rattle.array.specs.Arrays.{noTile}
 use Rattle.array_words.specs.Words.{tileWords, arrayWords, quadWord, partWord, tileWord, arrayWord, wordsOf, valueAt}
 use Rattle.array_words.specs.Words.{quadIn, partIn, tileIn, arrayIn}
 use Rattle.array_words.specs.Words.{Binary64Quad, Binary64Part, Binary64Tile, Binary64Array}
+use Rattle.array_words.proofs.ArrayRead.{turns-within}
 use Rattle.array_words.proofs.WordsWritten.{matrix-word, vectors-word, cells-word, wires-word, tile-word}
 
 mark-back : (b : Bool) → not (eqb (cond b 1 0) 0) ≡ b
@@ -69,6 +70,7 @@ module _ (l : List ℕ) where
         value-back (k + 17) (x .«column_wire») (d 17 (omega arith)) (h .column-fits),
         d 18 (omega arith),
         mark-back (x .mark),
+        sym (turns-within l (k + 19) (sym (d 19 (omega arith))) (h .turns-fit)),
       )
 
 -- ---- the array

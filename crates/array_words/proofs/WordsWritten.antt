@@ -72,7 +72,7 @@ mark-bit false = refl
 
 pub tile-written : (x : Tile) (at : ℕ) (l : List ℕ) {r s : List ℕ} {a b : ℕ} → r ≡ writtenAt at 8 (partWord (x .cells)) l
     → s ≡ writtenAt (at + 8) 8 (partWord (x .wires)) r → a ≡ toBits binary64 (x .«row_wire») → b ≡ toBits binary64 (x .«column_wire»)
-    → set (set (set s (at + 16) a) (at + 17) b) (at + 18) (boolByte (x .mark)) ≡ writtenAt at tileWords (tileWord x) l
+    → set (set (set (set s (at + 16) a) (at + 17) b) (at + 18) (boolByte (x .mark))) (at + 19) (x .turns) ≡ writtenAt at tileWords (tileWord x) l
 unfolding writtenAt tileWord
 tile-written x at l e f g h = rw (parts-written x at l e f, g, h, mark-bit)
 

@@ -1,6 +1,6 @@
 -- The record of an array as words, for callers that keep it between ticks in a lent buffer: n, S and T, then tile after tile, row by row. A value
 -- is its 64 bits. Definitions only.
-use Prim.Native.Nat.{ℕ, zero, suc, _+_, _-_, _*_, _/_, _%_, _<_}
+use Prim.Native.Nat.{ℕ, zero, suc, _+_, _-_, _*_, _/_, _%_, _<_, _≤_}
 use mathlib.Core.Path.{_≡_}
 use mathlib.Core.Bool.{not, cond}
 use mathlib.Core.List.{List}
@@ -8,7 +8,7 @@ use lib.Dec.{T, eqb, ltb}
 use lib.ListN.{length, getD, set}
 use lib.Ieee.{Float, binary64, fits, toBits, ofBits}
 use Rattle.lists.specs.Tabulate.{tabulate}
-use Rattle.sizes.specs.Sizes.{mostProcessors}
+use Rattle.sizes.specs.Sizes.{mostProcessors, mostCounted}
 use Rattle.tile_wires.specs.declared.Quad.{Quad}
 use Rattle.tile_wires.specs.declared.Part.{Part}
 use Rattle.tile.specs.declared.Tile.{Tile}
@@ -17,7 +17,7 @@ use Rattle.array.specs.Arrays.{noTile}
 
 -- The words of a tile, and of an array: three before the tiles.
 abbrev pub tileWords : ℕ
-tileWords = 19
+tileWords = 20
 
 abbrev pub arrayWords : ℕ
 arrayWords = 3 + mostProcessors * mostProcessors * tileWords
@@ -32,12 +32,13 @@ quadWord q w =
 unfoldable pub partWord : Part → ℕ → ℕ
 partWord p w = cond (ltb w 4) (quadWord (p .matrix) w) (quadWord (p .vectors) (w - 4))
 
--- the cells, the wires, the tangents along the row and along the column, the mark
+-- the cells, the wires, the tangents along the row and along the column, the mark, the turns
 unfoldable pub tileWord : Tile → ℕ → ℕ
 tileWord x w =
     cond (ltb w 8) (partWord (x .cells) w)
     (cond (ltb w 16) (partWord (x .wires) (w - 8))
-    (cond (eqb w 16) (toBits binary64 (x .«row_wire»)) (cond (eqb w 17) (toBits binary64 (x .«column_wire»)) (cond (x .mark) 1 0))))
+    (cond (eqb w 16) (toBits binary64 (x .«row_wire»))
+    (cond (eqb w 17) (toBits binary64 (x .«column_wire»)) (cond (eqb w 18) (cond (x .mark) 1 0) (x .turns)))))
 
 unfoldable pub arrayWord : Array → ℕ → ℕ
 arrayWord x k =
@@ -56,6 +57,10 @@ writtenAt at (suc m) f l = set (writtenAt at m f l) (at + m) (f m)
 unfoldable pub valueAt : List ℕ → ℕ → Float
 valueAt l k = ofBits binary64 (getD l k 0)
 
+-- A word above the most that a tile counts to counts as the most.
+unfoldable pub turnsAt : List ℕ → ℕ → ℕ
+turnsAt l k = cond (ltb mostCounted (getD l k 0)) mostCounted (getD l k 0)
+
 unfoldable pub quadIn : List ℕ → ℕ → Quad
 quadIn l k = record { alpha = valueAt l k; beta = valueAt l (k + 1); gamma = valueAt l (k + 2); delta = valueAt l (k + 3) }
 
@@ -71,6 +76,7 @@ tileIn l k =
       «row_wire» = valueAt l (k + 16);
       «column_wire» = valueAt l (k + 17);
       mark = not (eqb (getD l (k + 18) 0) 0);
+      turns = turnsAt l (k + 19);
     }
 
 unfoldable pub arrayIn : List ℕ → Array
@@ -86,7 +92,7 @@ arrayIn l =
 unfoldable pub storedIn : Array → List ℕ → List ℕ
 storedIn x l = cond (eqb (length l) arrayWords) (wordsOf x) l
 
--- ---- an array as the code has it: a tile for each place, each value one of binary64
+-- ---- an array as the code has it: a tile for each place, each value one of binary64, no count above the most
 pub record Binary64Quad (q : Quad) : Type 0 where
   pub alpha-fits : T (fits binary64 (q .alpha))
   pub beta-fits : T (fits binary64 (q .beta))
@@ -102,6 +108,7 @@ pub record Binary64Tile (x : Tile) : Type 0 where
   pub wires-fit : Binary64Part (x .wires)
   pub row-fits : T (fits binary64 (x .«row_wire»))
   pub column-fits : T (fits binary64 (x .«column_wire»))
+  pub turns-fit : x .turns ≤ mostCounted
 
 pub record Binary64Array (x : Array) : Type 0 where
   pub tiles-many : length (x .tiles) ≡ mostProcessors * mostProcessors

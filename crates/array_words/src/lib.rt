@@ -4,15 +4,16 @@ ghost use Prim.Native.Nat.{_+_, _≤_};
 ghost use lib.Dec.{eqb};
 ghost use lib.ListN.{length, getD};
 ghost use Rattle.array_words.specs.Words.{tileWords, arrayWords, quadWord, partWord, tileWord, writtenAt};
-ghost use Rattle.array_words.specs.Words.{valueAt, quadIn, partIn, tileIn, arrayIn, storedIn};
+ghost use Rattle.array_words.specs.Words.{valueAt, turnsAt, quadIn, partIn, tileIn, arrayIn, storedIn};
 use array::Array;
+use sizes::MOST_COUNTED;
 use sizes::MOST_TILES;
 use tile::Tile;
 use tile_wires::Part;
 use tile_wires::Quad;
 
 // The words of a tile.
-pub const TILE: usize = 19;
+pub const TILE: usize = 20;
 
 // The words of an array: 3, and those of its tiles.
 pub const ARRAY: usize = 3 + MOST_TILES * TILE;
@@ -51,6 +52,7 @@ fn tile_in(words: &[u64], at: usize) -> Tile
         row_wire: value_at(words, at + 16),
         column_wire: value_at(words, at + 17),
         mark: word_at(words, at + 18) != 0,
+        turns: turns_at(words, at + 19),
     }
 }
 
@@ -80,6 +82,17 @@ fn value_at(words: &[u64], k: usize) -> f64
     ensures { λ r. ⌜ r ≡ valueAt (now (words .entry)) k ⌝ }
 {
     float64::from_bits(word_at(words, k))
+}
+
+// The turns in the word at k. A word above the most that a tile counts to counts as the most.
+fn turns_at(words: &[u64], k: usize) -> u16
+    ensures { λ r. ⌜ r ≡ turnsAt (now (words .entry)) k ⌝ }
+{
+    let word = word_at(words, k);
+    if word > MOST_COUNTED as u64 {
+        return MOST_COUNTED;
+    }
+    word as u16
 }
 
 // The word at k, and 0 beyond the end.
@@ -120,6 +133,7 @@ fn store_tile(tile: Tile, at: usize, words: &mut [u64])
     words[at + 16] = float64::to_bits(tile.row_wire);
     words[at + 17] = float64::to_bits(tile.column_wire);
     words[at + 18] = tile.mark as u64;
+    words[at + 19] = tile.turns as u64;
 }
 
 fn store_part(part: Part, at: usize, words: &mut [u64])

@@ -9,6 +9,9 @@ use Rattle.refusal.specs.declared.Refusal.{Refusal}
 use Rattle.runs.specs.Outcome.{Outcome, outcome}
 use Rattle.rotation.specs.declared.Parameters.{Parameters}
 use Rattle.forecast.specs.declared.Figures.{Figures}
+use Rattle.plain_run.specs.declared.Ran.{Ran}
+use Rattle.plain_run.specs.declared.Ran.the-variants as ran
+use Rattle.plain_run.specs.Quiet.{ranAnswered}
 use Rattle.step_records.specs.declared.Record.{Record}
 use Rattle.step_records.specs.Records.{recordOf}
 use Rattle.sheet_reader.specs.declared.Reading.{Reading}
@@ -20,7 +23,8 @@ use Rattle.sheet_writer.specs.Writer.{WriteOutcome, writeOutcome, writingAnswer
 use Rattle.listing_text.specs.Printed.{printing}
 use Rattle.listing.specs.Listing.{ListingOutcome, listed}
 use Rattle.array_run.specs.declared.Completion.{Completion}
-use Rattle.array_run.specs.declared.Completion.the-variants.{Completed, Refused}
+use Rattle.array_run.specs.declared.Completion.the-variants as completion
+use Rattle.array_run.specs.Results.{Duration}
 use Rattle.array_run.specs.Whole.{completionAnswered}
 use Rattle.capi.specs.CAnswers.{CAnswer, cAnswer, placeOr, refusedAs, cAnswerOf, numberAnswered}
 use Rattle.capi.specs.Calls.{numberAndValue, figures, turns, ofParameters, ofRun, ofWhole, ofReading, ofWriting, ofListing}
@@ -43,19 +47,26 @@ module _ (i j : ℕ) where
 
   -- ---- a run
   module _ {l e : List Float} where
-    pub run-said : {s : CAnswer} {a : Answered Unit} (o : Outcome Unit) → outcome a l e ≡ o → s ≡ cAnswerOf a i j → (s, l, e) ≡ ofRun o i j
-    unfolding ofRun
-    run-said o h k = rw k (ap (λ (x : Outcome Unit). ofRun x i j) h)
+    module _ (m : ℕ) (x : Ran) where
+      pub run-made : (made : ℕ) (o : Outcome ℕ) → x ≡ ran.Made made → outcome (ranAnswered x) l e ≡ o → (cAnswer 0 i j, made, l, e) ≡ ofRun o m i j
+      unfolding ofRun cAnswerOf
+      run-made made o z h = ap (λ (y : Outcome ℕ). ofRun y m i j) (rw z at h)
 
-    module _ (t : ℕ) (x : Completion) where
-      pub whole-made : (made : ℕ) (o : Outcome ℕ) → x ≡ Completed made → outcome (completionAnswered x) l e ≡ o → (cAnswer 0 i j, made, l, e) ≡ ofWhole o t i j
-      unfolding ofWhole cAnswerOf
-      whole-made made o z h = ap (λ (y : Outcome ℕ). ofWhole y t i j) (rw z at h)
+      pub run-refused : {s : CAnswer} (r : Refusal) (o : Outcome ℕ) → x ≡ ran.Refused r → outcome (ranAnswered x) l e ≡ o
+          → s ≡ refusedAs (numberOf r) (valuesOf r) i j → (s, m, l, e) ≡ ofRun o m i j
+      unfolding ofRun cAnswerOf
+      run-refused r o z h k = rw k (ap (λ (y : Outcome ℕ). ofRun y m i j) (rw z at h))
 
-      pub whole-refused : {s : CAnswer} (r : Refusal) (o : Outcome ℕ) → x ≡ Refused r → outcome (completionAnswered x) l e ≡ o
-          → s ≡ refusedAs (numberOf r) (valuesOf r) i j → (s, t, l, e) ≡ ofWhole o t i j
+    module _ (m t : ℕ) (x : Completion) where
+      pub whole-made : (made ticks : ℕ) (o : Outcome Duration) → x ≡ completion.Completed made ticks → outcome (completionAnswered x) l e ≡ o
+          → (cAnswer 0 i j, made, ticks, l, e) ≡ ofWhole o m t i j
       unfolding ofWhole cAnswerOf
-      whole-refused r o z h k = rw k (ap (λ (y : Outcome ℕ). ofWhole y t i j) (rw z at h))
+      whole-made made ticks o z h = ap (λ (y : Outcome Duration). ofWhole y m t i j) (rw z at h)
+
+      pub whole-refused : {s : CAnswer} (r : Refusal) (o : Outcome Duration) → x ≡ completion.Refused r → outcome (completionAnswered x) l e ≡ o
+          → s ≡ refusedAs (numberOf r) (valuesOf r) i j → (s, m, t, l, e) ≡ ofWhole o m t i j
+      unfolding ofWhole cAnswerOf
+      whole-refused r o z h k = rw k (ap (λ (y : Outcome Duration). ofWhole y m t i j) (rw z at h))
 
   -- ---- a sheet
   module _ {codes : List ℕ} {l : List Float} (n sweeps : ℕ) (x : Reading) where

@@ -21,6 +21,7 @@ use Rattle.tile_schedule.specs.Answers.{Tick, made, stopped, progressOf}
 use Rattle.array.specs.declared.Array.{Array}
 use Rattle.array.specs.Arrays.{arrayOf}
 use Rattle.array.specs.Runs.{startAnswer, startedOf}
+use Rattle.array_run.specs.Results.{Duration, lasting}
 use Rattle.array_words.specs.Words.{arrayWords, wordsOf, arrayIn}
 use Rattle.sheet_reader.specs.Reader.{ReadOutcome}
 use Rattle.sheet_writer.specs.Writer.{WriteOutcome}
@@ -71,12 +72,13 @@ unfoldable pub ofRecords : ℕ → List Float → ℕ → List Float → ℕ →
 ofRecords n l step row i j =
     let a = beforeRecords n l (length row / 3) in (cAnswerOf a i j, recordsLeft a n l step row)
 
--- ---- a run: two results, and for the array's run the ticks
-unfoldable pub ofRun : Outcome Unit → ℕ → ℕ → CAnswer × List Float × List Float
-ofRun o i j = (cAnswerOf (o .answer) i j, o .result, o .vectors)
+-- ---- a run: the sweeps made, for the array's run the ticks too, and two results
+unfoldable pub ofRun : Outcome ℕ → ℕ → ℕ → ℕ → CAnswer × ℕ × List Float × List Float
+ofRun o sweeps i j = (cAnswerOf (o .answer) i j, valueOr (o .answer) sweeps, o .result, o .vectors)
 
-unfoldable pub ofWhole : Outcome ℕ → ℕ → ℕ → ℕ → CAnswer × ℕ × List Float × List Float
-ofWhole o ticks i j = (cAnswerOf (o .answer) i j, valueOr (o .answer) ticks, o .result, o .vectors)
+unfoldable pub ofWhole : Outcome Duration → ℕ → ℕ → ℕ → ℕ → CAnswer × ℕ × ℕ × List Float × List Float
+ofWhole o sweeps ticks i j =
+    let d = valueOr (o .answer) (lasting sweeps ticks) in (cAnswerOf (o .answer) i j, d .sweeps, d .ticks, o .result, o .vectors)
 
 -- ---- a sheet: the order and the sweeps, the codes and the matrix; how many bytes are written, and the bytes
 unfoldable pub ofReading : ReadOutcome → ℕ → ℕ → ℕ → ℕ → CAnswer × (ℕ × ℕ) × List ℕ × List Float

@@ -1,10 +1,11 @@
 // The plain run and the array's whole run.
 ghost use mathlib.Core.Path.{_≡_};
-ghost use Rattle.plain_run.specs.Run.{runOf};
+ghost use Rattle.plain_run.specs.Quiet.{answeredRunOf};
 ghost use Rattle.array_run.specs.Whole.{wholeOf};
 ghost use Rattle.capi.specs.CAnswers.{cAnswer};
 ghost use Rattle.capi.specs.Calls.{ofRun, ofWhole};
 use array_run::Completion;
+use plain_run::Ran;
 
 #[no_mangle]
 pub extern "C" fn weimrukas_plain_run(
@@ -13,14 +14,21 @@ pub extern "C" fn weimrukas_plain_run(
     matrix: &[f64],
     result: &mut [f64],
     vectors: &mut [f64],
+    sweeps_made: &mut usize,
     row: &mut usize,
     column: &mut usize,
 ) -> u8
-    ensures { λ r. ⌜ (cAnswer r (now (row .exit)) (now (column .exit)), now (result .exit), now (vectors .exit))
-        ≡ ofRun (runOf n sweeps (now (matrix .entry)) (now (result .entry)) (now (vectors .entry))) (now (row .entry)) (now (column .entry)) ⌝ }
+    ensures { λ r. ⌜ (cAnswer r (now (row .exit)) (now (column .exit)), now («sweeps_made» .exit), now (result .exit), now (vectors .exit))
+        ≡ ofRun (answeredRunOf n sweeps (now (matrix .entry)) (now (result .entry)) (now (vectors .entry))) (now («sweeps_made» .entry)) (now (row .entry))
+        (now (column .entry)) ⌝ }
 {
-    let answer = plain_run::run(n, sweeps, matrix, result, vectors);
-    crate::answers::number_of(answer, row, column)
+    match plain_run::run(n, sweeps, matrix, result, vectors) {
+        Ran::Made(made) => {
+            *sweeps_made = made;
+            0
+        }
+        Ran::Refused(refused) => crate::answers::refuse(refused, row, column),
+    }
 }
 
 #[no_mangle]
@@ -30,17 +38,19 @@ pub extern "C" fn weimrukas_array_run(
     matrix: &[f64],
     result: &mut [f64],
     vectors: &mut [f64],
+    sweeps_made: &mut usize,
     ticks: &mut usize,
     row: &mut usize,
     column: &mut usize,
 ) -> u8
-    ensures { λ r. ⌜ (cAnswer r (now (row .exit)) (now (column .exit)), now (ticks .exit), now (result .exit), now (vectors .exit))
-        ≡ ofWhole (wholeOf n sweeps (now (matrix .entry)) (now (result .entry)) (now (vectors .entry))) (now (ticks .entry)) (now (row .entry))
-        (now (column .entry)) ⌝ }
+    ensures { λ r. ⌜ (cAnswer r (now (row .exit)) (now (column .exit)), now («sweeps_made» .exit), now (ticks .exit), now (result .exit), now (vectors .exit))
+        ≡ ofWhole (wholeOf n sweeps (now (matrix .entry)) (now (result .entry)) (now (vectors .entry))) (now («sweeps_made» .entry)) (now (ticks .entry))
+        (now (row .entry)) (now (column .entry)) ⌝ }
 {
     match array_run::run(n, sweeps, matrix, result, vectors) {
-        Completion::Completed(made) => {
-            *ticks = made;
+        Completion::Completed(swept, ticked) => {
+            *sweeps_made = swept;
+            *ticks = ticked;
             0
         }
         Completion::Refused(refused) => crate::answers::refuse(refused, row, column),

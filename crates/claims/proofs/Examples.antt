@@ -21,12 +21,14 @@ use Rattle.runs.specs.State.{identity, bordered, startOf}
 use Rattle.plain_run.specs.State.{pairsRotated, after, notFiniteFrom, notFinite, spoiled}
 use Rattle.runs.specs.Outcome.{beforeRun}
 use Rattle.plain_run.specs.Run.{ranOf, runOf}
+use Rattle.plain_run.specs.Quiet.{parametersAt, turnsIn, quiet, sweepsMade, answeredRunOf}
 use Rattle.claims.specs.Examples.{All, examples}
 
 pub examples-hold : All examples
 unfolding sqrtOf ofBits toBits finite tabulate any slot cameFrom intoLast prior lineAt inOrderAt inOrder column registersOf registersAt isOrder
     at flat first notFiniteAt notMirroredAt finiteRow mirrorRow turnedAt rowTurn columnTurn columnTurnAll ofAngle ofTangent tangentOfPair ofPair
     identity bordered ruled place pairBlock matrixBlock pairTurned pairRotated pairsRotated after notFiniteFrom notFinite spoiled beforeRun startOf ranOf runOf
+    parametersAt turnsIn quiet sweepsMade answeredRunOf
 examples-hold = (
   refl,
   (
@@ -57,7 +59,7 @@ examples-hold = (
                             λ r h. (h .answers, h .lists),
                             (
                               λ r h. (h .answers, h .lists),
-                              (λ r v e f. rw (e, f), tt),
+                              (λ r v e f. rw (e, f), (λ r v e f. rw (e, f), tt)),
                             ),
                           ),
                         ),

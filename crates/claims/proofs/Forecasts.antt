@@ -1,10 +1,12 @@
 -- Document 02 (iii), each part by the law that proves it. Assumes nothing.
-use Prim.Native.Nat.{ℕ, suc, _-_, _*_, _≤_, min}
+use Prim.Native.Nat.{ℕ, suc, _-_, _*_, _≤_, _<_, min}
 use mathlib.Core.Path.{_≡_, refl, sym, ap, fun-ext, _∙_}
-use mathlib.Core.Bool.{true}
+use mathlib.Core.Bool.{Bool, true, false, true≢false}
 use mathlib.Core.List.{List}
+use native.Mathlib.Nat.{mul-le-mul-right}
 use native.Mathlib.Omega.{arith}
-use borrow.Author.Tests.{ne-eqb}
+use borrow.Author.Tests.{ltb-true, ltb-false, ne-eqb}
+use lib.Dec.{ltb}
 use lib.ListN.{length}
 use lib.Ieee.{Float}
 use Rattle.refusal.specs.Answers.{given, answered}
@@ -15,23 +17,27 @@ use Rattle.systolic.specs.Traffic.{setsWire, receives, timesSetByTile, overTile
 use Rattle.systolic.proofs.Clock.{receiving}
 use Rattle.systolic.proofs.TileTicks as ticks
 use Rattle.systolic.proofs.TrafficCounts.{wire-times, receive-times}
-use Rattle.sizes.specs.Sizes.{isOrder, processorsOf, stepsOf, ticksOf, sizesAnswer}
+use Rattle.sizes.specs.Sizes.{isOrder, processorsOf, sweepSteps, stepsOf, ticksOf, sizesAnswer}
 use Rattle.sizes.proofs.Orders.{processors-end}
 use Rattle.forecast.specs.Forecast.{figuresOf, forecastOf}
 use Rattle.forecast.proofs.Answers.{forecast-given}
 use Rattle.forecast.proofs.Counted.{values-counted, parameters-counted}
+use Rattle.runs.specs.State.{State, startOf}
 use Rattle.runs.specs.Cells.{setting}
+use Rattle.plain_run.specs.Quiet.{quiet, sweepsMade}
+use Rattle.plain_run.proofs.SweepsMade.{Ends, with-all, when-quiet, made-ends, made-within}
 use Rattle.tile.specs.Tiles.{operations}
 use Rattle.array.specs.declared.Started.{Started}
 use Rattle.array.specs.declared.Ticked.{Ticked}
 use Rattle.array.proofs.MadeTicks.{made-tile}
+use Rattle.array_run.specs.Results.{Duration}
 use Rattle.array_agreement.specs.Hand.{ByHand, madeWhere}
+use Rattle.array_agreement.proofs.QuietRuns.{whole-given}
 use Rattle.array_agreement.proofs.HandCounts.{made-where, all-made-where}
 use Rattle.array_agreement.proofs.Neighbours as neighbours
 use Rattle.claims.specs.Tiles.{tileIn}
 use Rattle.claims.specs.Forecasts.{FiguresComputed, tickSets, tickReceives, setInRun, TicksCross, FiguresCounted, RunCounted}
 use Rattle.claims.specs.Forecasts.{RunsCounted, TicksOfWholeRun, Forecasted, ForecastsAsStated}
-use Rattle.claims.proofs.Histories.{one-history}
 
 figures-computed : FiguresComputed
 unfolding forecastOf figuresOf sizesAnswer isOrder
@@ -53,9 +59,23 @@ ticks-cross x r p m i j hi hj =
     }
 
 module _ (n sweeps : ℕ) where
+  -- where no sweep before the last is quiet all are made
+  all-made : (X : State) → ((m : ℕ) → 1 ≤ m → m < sweeps → quiet n m X ≡ false) → {made : ℕ} → Ends n sweeps X made → made ≡ sweeps
+  all-made X f (with-all none e) = e
+  all-made X f (when-quiet j h none q e) = e ∙ go (ltb (suc j) sweeps) refl
+    where
+      go : (b : Bool) → ltb (suc j) sweeps ≡ b → suc j ≡ sweeps
+      go true z = absurd (true≢false (sym q ∙ f (suc j) (omega arith) (ltb-true _ _ z)))
+      go false z = let o = ltb-false (suc j) sweeps z in omega (arith, o)
+
   whole-run : TicksOfWholeRun n sweeps (figuresOf n sweeps)
   unfolding figuresOf
-  whole-run = one-history .ticks-reported n sweeps
+  whole-run l r v fit reported e =
+      let X = startOf n l in
+      let made = sweepsMade n sweeps X in
+      let ticks : reported .ticks ≡ ticksOf n made = ap (λ (d : Duration). d .ticks) (whole-given n sweeps l r v fit reported e .1) in
+      let fewer : stepsOf n made ≤ stepsOf n sweeps = mul-le-mul-right (sweepSteps n) (made-within n X sweeps) in
+      (omega (arith, ticks, fewer), λ f. ticks ∙ ap (ticksOf n) (all-made X f (made-ends n X sweeps)))
 
   -- ---- the counts
   module _ (order : isOrder n ≡ true) where

@@ -9,33 +9,45 @@ use lib.ListN.{length, getD}
 use lib.Ieee.{Float, nan}
 use Rattle.refusal.specs.Answers.{Answered, given, refused, answered, giving}
 use Rattle.refusal.proofs.FirstRefusal.{refused-given}
-use Rattle.refusal.proofs.RefusedOutcomes.{giving-given}
 use Rattle.lists.proofs.Bounded.{count-none}
 use Rattle.systolic.proofs.Clock.{receiving}
 use Rattle.ordering.proofs.Meetings as ordering
 use Rattle.sizes.specs.Sizes.{isOrder, ticksOf}
 use Rattle.matrix.proofs.AcceptedEntries.{accepted-long, accepted-if}
 use Rattle.matrix.proofs.SameEntries.{flat-same}
-use Rattle.runs.specs.Outcome.{Outcome}
+use Rattle.runs.specs.State.{startOf}
+use Rattle.runs.specs.Outcome.{Outcome, outcome}
 use Rattle.runs.proofs.Verdicts.{Begins, begun}
 use Rattle.plain_run.specs.Run.{runOf}
+use Rattle.plain_run.specs.Quiet.{sweepsMade, answeredRunOf}
+use Rattle.plain_run.proofs.SweepsMade.{answered-given}
 use Rattle.plain_run.proofs.RunResults.{last-matrices, accepted-run, run-accepted}
 use Rattle.array.specs.declared.Started.{Started}
 use Rattle.array.specs.declared.Ticked.{Ticked}
 use Rattle.array.specs.Runs.{startAnswer}
+use Rattle.array_run.specs.Results.{Duration, lasting}
 use Rattle.array_agreement.specs.Hand.{ClaimedByHand, AcceptedByHand, firstMade}
-use Rattle.array_agreement.proofs.Agreement as agreement
+use Rattle.array_agreement.proofs.QuietRuns as quiet-runs
 use Rattle.array_agreement.proofs.Hand as hand
 use Rattle.array_agreement.proofs.Neighbours as neighbours
-use Rattle.claims.specs.Histories.{bitOf, differing, differingIn, CovarianceMatrix, NoBitDiffers, NoBitDiffersByHand}
+use Rattle.claims.specs.Histories.{answerTimed, bitOf, differing, differingIn, CovarianceMatrix, NoBitDiffers, NoBitDiffersByHand}
 use Rattle.claims.specs.Histories.{WholeRunIsThePlainRun, TicksReported, AcceptedStart, RefusedStart, EveryRunByHand, OneHistory}
 
 whole-run : WholeRunIsThePlainRun
-whole-run = agreement.whole-agrees
+unfolding answeredRunOf
+whole-run n sweeps l r v fit =
+    let made = sweepsMade n sweeps (startOf n l) in
+    quiet-runs.whole-agrees n sweeps l r v fit
+    ∙ ap (λ (a : Answered Duration). outcome a (runOf n sweeps l r v .result) (runOf n sweeps l r v .vectors)) (go made (runOf n sweeps l r v .answer))
+  where
+    go : (made : ℕ) (a : Answered Unit) → giving (lasting made (ticksOf n made)) a ≡ answerTimed n (giving made a)
+    go made (given x) = refl
+    go made (refused k values) = refl
 
 ticks : TicksReported
-ticks n sweeps l r v fit k e =
-    giving-given (ticksOf n sweeps) k (runOf n sweeps l r v .answer) (sym (ap (λ (o : Outcome ℕ). o .answer) (whole-run n sweeps l r v fit)) ∙ e)
+ticks n sweeps l r v fit reported e =
+    let w = quiet-runs.whole-given n sweeps l r v fit reported e .1 in
+    ap (λ (d : Duration). d .ticks) w ∙ sym (ap (λ (d : Duration). ticksOf n (d .sweeps)) w)
 
 -- ---- equal lists differ in no bit
 itself : (x : Float) → differing x x ≡ 0
@@ -55,16 +67,18 @@ begins n sweeps l lr lv order few matrix hr hv =
     record { order = order; few = few; result-long = hr; vectors-long = hv; entries = accepted-if n l (matrix .long) (matrix .all-finite) (matrix .mirrored) }
 
 no-bit-differs : NoBitDiffers
+unfolding answeredRunOf
 no-bit-differs n sweeps l r v r′ v′ order few matrix hr hv hr′ hv′ stays =
     let plain = run-accepted n sweeps l r v (begins n sweeps l _ _ order few matrix hr hv) stays in
     let again = run-accepted n sweeps l r′ v′ (begins n sweeps l _ _ order few matrix hr′ hv′) stays in
-    let whole = whole-run n sweeps l r′ v′ (matrix .of-binary64) in
+    let whole = quiet-runs.whole-agrees n sweeps l r′ v′ (matrix .of-binary64) in
+    let made = sweepsMade n sweeps (startOf n l) in
     let a = last-matrices n sweeps l r v plain in
     let b = last-matrices n sweeps l r′ v′ again in (
-      same-bits (n * n) (ap (λ (o : Outcome ℕ). o .result) whole ∙ b .0 ∙ sym (a .0)),
-      same-bits (n * n) (ap (λ (o : Outcome ℕ). o .vectors) whole ∙ b .1 ∙ sym (a .1)),
-      ap (λ (o : Outcome ℕ). o .answer) whole ∙ ap (giving (ticksOf n sweeps)) again,
-      plain,
+      same-bits (n * n) (ap (λ (o : Outcome Duration). o .result) whole ∙ b .0 ∙ sym (a .0)),
+      same-bits (n * n) (ap (λ (o : Outcome Duration). o .vectors) whole ∙ b .1 ∙ sym (a .1)),
+      ap (λ (o : Outcome Duration). o .answer) whole ∙ ap (giving (lasting made (ticksOf n made))) again,
+      ap (giving made) plain,
     )
 
 -- ---- by hand
@@ -94,12 +108,14 @@ by-hand n sweeps l fit s rs h = go (startAnswer n sweeps l) (h .starts .answers)
         (λ z. refused-given (sym e ∙ z), λ k′ values′ z. record { each-refused-by-1 = c .all-refused; zeros-back = c .zeros-back })
 
 -- what a plain run accepts, a start accepts
-starts-run : (n sweeps : ℕ) (l : List Float) (lr lv : ℕ) → Begins n sweeps l lr lv → length l ≡ n * n → startAnswer n sweeps l ≡ given tt
+pub starts-run : (n sweeps : ℕ) (l : List Float) (lr lv : ℕ) → Begins n sweeps l lr lv → length l ≡ n * n → startAnswer n sweeps l ≡ given tt
 starts-run n sweeps l lr lv b long =
     begun n sweeps l _ _ (record { order = b .order; few = b .few; result-long = long; vectors-long = long; entries = b .entries })
 
 no-bit-differs-by-hand : NoBitDiffersByHand
-no-bit-differs-by-hand n sweeps l r v s rs fit h all plain =
+unfolding answeredRunOf
+no-bit-differs-by-hand n sweeps l r v s rs made fit h all answers =
+    let plain = answered-given n sweeps l r v made answers .0 in
     let w = accepted-run n sweeps l r v plain in
     let long = accepted-long n l fit (w .0 .entries) in
     let begun = starts-run n sweeps l _ _ (w .0) long in

@@ -8,6 +8,8 @@ pub mod Report
 pub mod Quotients
 pub mod Sheets
 pub mod Histories
+pub mod QuietSweeps
+pub mod QuietRuns
 pub mod Forecasts
 pub mod Tiles
 pub mod Demands

@@ -12,6 +12,7 @@ use lib.Ieee.Bits.{ofBits-fits}
 use Rattle.refusal.specs.Answers.{Answered, given, refused, giving, valueOr, unlessRefused, row, table}
 use Rattle.refusal.specs.declared.Refusal.the-variants.{TooShort}
 use Rattle.refusal.proofs.FirstRefusal.{refused-given}
+use Rattle.refusal.proofs.RefusedOutcomes.{giving-was}
 use Rattle.sizes.specs.Sizes.{isOrder, ticksOf}
 use Rattle.sizes.proofs.Orders.{order-half, steps-few}
 use Rattle.matrix.specs.Matrix.{at, flat}
@@ -19,8 +20,11 @@ use Rattle.matrix.proofs.Flat.{flat-length, flat-fits}
 use Rattle.runs.specs.State.{zeros}
 use Rattle.runs.specs.Outcome.{Outcome, answering}
 use Rattle.plain_run.specs.Run.{runOf}
+use Rattle.plain_run.specs.Quiet.{sweepsMade}
 use Rattle.plain_run.proofs.RunResults.{last-matrices}
-use Rattle.array_agreement.proofs.Agreement.{whole-agrees}
+use Rattle.plain_run.proofs.SweepsMade.{made-within}
+use Rattle.array_run.specs.Results.{Duration, lasting}
+use Rattle.array_agreement.proofs.QuietRuns.{whole-agrees}
 use Rattle.sheet.specs.Format.{orderIn, sweepsIn, codesIn, patternIn, entryIn}
 use Rattle.sheet_reader.specs.Reader.{sheetAnswer}
 use Rattle.sheet_reader.proofs.SheetContents.{codes-count}
@@ -28,7 +32,6 @@ use Rattle.sheet_reader.proofs.Tables.{lent-right, readable}
 use Rattle.listing_text.specs.Printed.{Printing, printing, printOf, refusalOf, headOf, textLineOf, textLinesOf, printedOf, roomFor}
 use Rattle.listing_text.proofs.PrintedTexts.{all-printed}
 use Rattle.listing.specs.Listing.{listed, listedUnless, listOf}
-use Rattle.refusal.proofs.RefusedOutcomes.{giving-given}
 use Rattle.claims.specs.Examples.{values}
 use Rattle.claims.specs.Listings.{exampleSheet, longSheet}
 use Rattle.float64.specs.Values.{finite}
@@ -77,7 +80,7 @@ unfolding listOf listedUnless
 leaves b t k values e =
     let n = orderIn b in
     left-alone (table (sheetAnswer b ∷ row (ltb (length t) (roomFor n)) TooShort ∷ giving tt (runIn b .answer) ∷ []))
-    (printOf n (sweepsIn b) (valueOr (runIn b .answer) 0) (codesIn b) (runIn b .result) (runIn b .vectors) t) t k values e
+    (printOf n (sweepsIn b) (valueOr (runIn b .answer) (lasting 0 0) .ticks) (codesIn b) (runIn b .result) (runIn b .vectors) t) t k values e
 
 -- ---- what is printed
 codes-same : (n : ℕ) (codes : List ℕ) (A E : ℕ → ℕ → Float) (k : ℕ) → textLinesOf n codes A E k ≡ codesPrinted n codes A E k
@@ -100,28 +103,34 @@ module _ (b : List ℕ) where
   abbrev plain : Outcome Unit
   plain = runOf n (sweepsIn b) (flat n (entryIn b)) (zeros n) (zeros n)
 
+  -- the sweeps that it makes
+  abbrev made : ℕ
+  made = sweepsMade n (sweepsIn b) (startOf n (flat n (entryIn b)))
+
   -- the array's run is the plain run
-  agrees : runIn b ≡ answering (ticksOf n (sweepsIn b)) plain
+  agrees : runIn b ≡ answering (lasting made (ticksOf n made)) plain
   agrees = whole-agrees n (sweepsIn b) (flat n (entryIn b)) (zeros n) (zeros n) (flat-fits n (entryIn b) (entry-fits b))
 
-  module _ (t : List ℕ) (ticks : ℕ) (accepted : sheetAnswer b ≡ given tt) (ran : runIn b .answer ≡ given ticks) (room : roomFor n ≤ length t) where
-    plain-ran : plain .answer ≡ given tt
-    plain-ran = go (plain .answer) (sym (ap (λ (o : Outcome ℕ). o .answer) agrees) ∙ ran)
-      where
-        go : (a : Answered Unit) → giving (ticksOf n (sweepsIn b)) a ≡ given ticks → a ≡ given tt
-        go (given tt) e = refl
-        go (refused k values) e = refused-given e
+  module _ (t : List ℕ) (d : Duration) (accepted : sheetAnswer b ≡ given tt) (ran : runIn b .answer ≡ given d) (room : roomFor n ≤ length t) where
+    abbrev ticks : ℕ
+    ticks = d .ticks
 
-    ticks-are : ticks ≡ ticksOf n (sweepsIn b)
-    ticks-are = giving-given _ _ (plain .answer) (sym (ap (λ (o : Outcome ℕ). o .answer) agrees) ∙ ran)
+    ran-so : (plain .answer ≡ given tt) × (d ≡ lasting made (ticksOf n made))
+    ran-so = giving-was (lasting made (ticksOf n made)) d (plain .answer) (sym (ap (λ (o : Outcome Duration). o .answer) agrees) ∙ ran)
+
+    plain-ran : plain .answer ≡ given tt
+    plain-ran = ran-so .0
+
+    ticks-are : ticks ≡ ticksOf n made
+    ticks-are = ap (λ (d : Duration). d .ticks) (ran-so .1)
 
     result-long : length (runIn b .result) ≡ n * n
     result-long =
-        ap (λ (o : Outcome ℕ). length (o .result)) agrees ∙ ap length (last-matrices n (sweepsIn b) _ _ _ plain-ran .0) ∙ flat-length n _
+        ap (λ (o : Outcome Duration). length (o .result)) agrees ∙ ap length (last-matrices n (sweepsIn b) _ _ _ plain-ran .0) ∙ flat-length n _
 
     vectors-long : length (runIn b .vectors) ≡ n * n
     vectors-long =
-        ap (λ (o : Outcome ℕ). length (o .vectors)) agrees ∙ ap length (last-matrices n (sweepsIn b) _ _ _ plain-ran .1) ∙ flat-length n _
+        ap (λ (o : Outcome Duration). length (o .vectors)) agrees ∙ ap length (last-matrices n (sweepsIn b) _ _ _ plain-ran .1) ∙ flat-length n _
 
     -- the printer is lent what it asks for
     printer : printOf n (sweepsIn b) ticks (codesIn b) (runIn b .result) (runIn b .vectors) t
@@ -130,7 +139,8 @@ module _ (b : List ℕ) where
     printer =
         let w = readable b n (n * n) (lent-right b ∙ accepted) in
         let h = order-half n (w .order) in
-        let k = steps-few n (sweepsIn b) (w .order) (w .few) in
+        let within = made-within n (startOf n (flat n (entryIn b))) (sweepsIn b) in
+        let k = steps-few n made (w .order) (omega (arith, within, w .few)) in
         let few : sweepsIn b < 10000 = omega (arith, w .few) in
         let fewer : ticks < 10000 = omega (arith, ticks-are) in
         rw (← (codes-same n (codesIn b) (at n (runIn b .result)) (at n (runIn b .vectors)) n))
@@ -142,16 +152,16 @@ module _ (b : List ℕ) where
     printed = rw (accepted, le-ltb (length t) (roomFor n) room, ran) (ap (listed (given tt)) printer)
 
 -- ---- document 01's example, and the same with long codes
-abbrev exampleOutcome : Outcome ℕ
+abbrev exampleOutcome : Outcome Duration
 exampleOutcome =
-    outcome (given 4) (values (0 ∷ 0 ∷ 0 ∷ 0x4000_0000_0000_0000 ∷ []))
+    outcome (given (lasting 1 4)) (values (0 ∷ 0 ∷ 0 ∷ 0x4000_0000_0000_0000 ∷ []))
     (values (0x3fe6_a09e_667f_3bcc ∷ 0x3fe6_a09e_667f_3bcc ∷ 0xbfe6_a09e_667f_3bcc ∷ 0x3fe6_a09e_667f_3bcc ∷ []))
 
 example-ran : runIn exampleSheet ≡ exampleOutcome
 unfolding sqrtOf ofBits toBits finite tabulate any slot cameFrom intoLast prior lineAt inOrderAt inOrder column registersOf registersAt isOrder at
     flat first notFiniteAt notMirroredAt finiteRow mirrorRow turnedAt rowTurn columnTurn columnTurnAll ofAngle ofTangent tangentOfPair tangentOf
     cosineOf quotient signum rootOf ofPair identity bordered ruled place pairBlock matrixBlock pairTurned pairRotated pairsRotated after notFiniteFrom
-    notFinite spoiled beforeRun startOf ranOf runOf zeros patternIn entryIn widthIn orderIn wordFrom entryNumber entriesTo add sub mul div lt neg
+    notFinite spoiled beforeRun startOf ranOf runOf sweepsMade zeros patternIn entryIn widthIn orderIn wordFrom entryNumber entriesTo add sub mul div lt neg
 example-ran = agrees exampleSheet ∙ refl
 
 -- the same matrix
@@ -163,12 +173,12 @@ module _ (t : List ℕ) (room : roomFor 2 ≤ length t) where
   short-printed : listOf exampleSheet t ≡ listedAs (examplePrint (0x37 ∷ []) (0x39 ∷ [])) t
   unfolding ofBits toBits finite tabulate any isOrder at flat first zeros patternIn entryIn widthIn orderIn codeIn codesIn wordFrom entryNumber
       entriesTo sheetAnswer badCodes badCode longCodes longInVain storedRow notFiniteIn codesPrinted valueField columnOf decimalOf shownFrom hexOf
-  short-printed = printed exampleSheet t 4 refl (ap (λ (o : Outcome ℕ). o .answer) example-ran) room ∙ rw example-ran
+  short-printed = printed exampleSheet t (lasting 1 4) refl (ap (λ (o : Outcome Duration). o .answer) example-ran) room ∙ rw example-ran
 
   long-printed : listOf longSheet t ≡ listedAs (examplePrint (0x33 ∷ 0x30 ∷ 0x30 ∷ []) (0x37 ∷ [])) t
   unfolding ofBits toBits finite tabulate any isOrder at flat first zeros patternIn entryIn widthIn orderIn codeIn codesIn wordFrom entryNumber
       entriesTo sheetAnswer badCodes badCode longCodes longInVain storedRow notFiniteIn codesPrinted valueField columnOf decimalOf shownFrom hexOf
-  long-printed = printed longSheet t 4 refl (ap (λ (o : Outcome ℕ). o .answer) long-ran) room ∙ rw long-ran
+  long-printed = printed longSheet t (lasting 1 4) refl (ap (λ (o : Outcome Duration). o .answer) long-ran) room ∙ rw long-ran
 
   examples : ExamplesPrinted t
   examples = record { short = short-printed; long = long-printed }

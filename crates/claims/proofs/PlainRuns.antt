@@ -23,6 +23,8 @@ use Rattle.runs.specs.State.{State, bordered, startOf, identity}
 use Rattle.runs.specs.Blocks.{ruled}
 use Rattle.runs.proofs.LineZero.{bordered-real, row-0, column-0, always-still, not-still}
 use Rattle.plain_run.specs.State.{pairsRotated, after, spoiled}
+use Rattle.plain_run.specs.Quiet.{answeredRunOf}
+use Rattle.plain_run.proofs.SweepsMade.{answered-given}
 use Rattle.plain_run.proofs.ProcessorPairs.{one-pair-more}
 use Rattle.plain_run.proofs.RunResults.{last-matrices, spoiled-by, BadEntry, bad-entry, bad-real-entry}
 use Rattle.step_records.specs.Records.{recordOf}
@@ -32,7 +34,7 @@ use Rattle.claims.specs.PlainRuns.{recorded, RecordsFound, PlainRunsAsSt
 use Rattle.claims.specs.Histories.{CovarianceMatrix}
 use Rattle.claims.proofs.FirstProcessor.{is-first, not-first}
 
-in-order : (n : ℕ) (list : PairList) (k : ℕ) (X : State)
+pub in-order : (n : ℕ) (list : PairList) (k : ℕ) (X : State)
     → pairsRotated n (list .registers .left) (list .registers .right) k X ≡ processorsTurned n list k X
 unfolding pairsRotated processorsTurned
 in-order n list zero X = refl
@@ -57,8 +59,9 @@ steps n order list lists =
     }
 
 last-step : RunLeavesLastStep
-last-step n sweeps l r v e i j h =
-    let w = last-matrices n sweeps l r v e in
+unfolding answeredRunOf
+last-step n sweeps l r v made e i j h =
+    let w = last-matrices n sweeps l r v (answered-given n sweeps l r v made e .0) in
     (rw (w .0) (read-again n _ i j (h .0, h .1) (h .2, h .3)), rw (w .1) (read-again n _ i j (h .0, h .1) (h .2, h .3)))
 
 -- a test of both, one way and the other

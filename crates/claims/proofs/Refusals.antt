@@ -1,24 +1,29 @@
 -- Demand 1, each part by the law that proves it. Assumes nothing.
 use Prim.Native.Nat.{ℕ}
 use mathlib.Core.Path.{refl, ap, _∙_}
+use mathlib.Core.List.{List}
+use lib.Ieee.{Float}
 use Rattle.refusal.specs.Answers.{giving}
 use Rattle.refusal.proofs.RefusedOutcomes.{giving-refused}
 use Rattle.root.proofs.AnsweredRoots as root
 use Rattle.sizes.specs.Sizes.{ticksOf, sizesAnswer}
-use Rattle.runs.specs.Outcome.{beforeRun, Outcome}
+use Rattle.runs.specs.State.{startOf}
+use Rattle.runs.specs.Outcome.{beforeRun, Outcome, answering}
 use Rattle.plain_run.specs.Run.{runOf}
+use Rattle.plain_run.specs.Quiet.{sweepsMade, answeredRunOf}
 use Rattle.plain_run.proofs.RefusedRuns.{run-answers, run-kept, run-zeroed}
 use Rattle.step_records.specs.Records.{beforeRecords}
 use Rattle.step_records.proofs.LeftRows.{records-answer, row-kept, row-tail}
 use Rattle.tile_schedule.specs.Answers.{progressOf}
 use Rattle.array.proofs.RefusedRecords.{start-none, tick-back}
-use Rattle.array_agreement.proofs.Agreement.{whole-agrees}
+use Rattle.array_run.specs.Results.{Duration, lasting}
+use Rattle.array_agreement.proofs.QuietRuns.{whole-agrees}
 use Rattle.sheet_reader.specs.Reader.{longInVain, sheetAnswer, readAnswer}
 use Rattle.sheet_reader.proofs.SheetContents.{read-answers, lent-kept}
 use Rattle.sheet_reader.proofs.Tables.{lent-right}
 use Rattle.sheet_writer.specs.Writer.{writeAnswer}
 use Rattle.sheet_writer.proofs.SheetBytes.{write-answers, bytes-kept, bytes-tail}
-use Rattle.claims.specs.Refusals.{NumbersAsTabled, WholeRunAnswers, RunsLeave, RefusedAsTabled}
+use Rattle.claims.specs.Refusals.{NumbersAsTabled, PlainRunAnswers, WholeRunAnswers, LeavesResults, RunsLeave, RefusedAsTabled}
 use Rattle.claims.proofs.Places.{entries-tested}
 
 numbers : NumbersAsTabled
@@ -36,19 +41,28 @@ numbers =
     }
 
 -- ---- runs
+plain-run : PlainRunAnswers
+unfolding beforeRun answeredRunOf
+plain-run n sweeps l r v = ap (giving (sweepsMade n sweeps (startOf n l))) (run-answers n sweeps l r v)
+
 whole-run : WholeRunAnswers
 unfolding beforeRun
 whole-run n sweeps l r v fit =
-    ap (λ (o : Outcome ℕ). o .answer) (whole-agrees n sweeps l r v fit) ∙ ap (giving (ticksOf n sweeps)) (run-answers n sweeps l r v)
+    let made = sweepsMade n sweeps (startOf n l) in
+    ap (λ (o : Outcome Duration). o .answer) (whole-agrees n sweeps l r v fit) ∙ ap (giving (lasting made (ticksOf n made))) (run-answers n sweeps l r v)
+
+-- whatever value stands in the answer
+answering-leaves : {B : Type 0} (n sweeps : ℕ) (l r v : List Float) (x : B) → LeavesResults n (answering x (runOf n sweeps l r v)) r v
+answering-leaves n sweeps l r v x =
+    record {
+      kept = λ k values e. run-kept n sweeps l r v k values (giving-refused x (runOf n sweeps l r v .answer) e);
+      zeroed = λ values e. run-zeroed n sweeps l r v values (giving-refused x (runOf n sweeps l r v .answer) e);
+    }
 
 runs-leave : RunsLeave
 runs-leave n sweeps l r v fit = (
-  record { kept = run-kept n sweeps l r v; zeroed = run-zeroed n sweeps l r v },
-  rw (whole-agrees n sweeps l r v fit)
-      (record {
-        kept = λ k values e. run-kept n sweeps l r v k values (giving-refused (ticksOf n sweeps) (runOf n sweeps l r v .answer) e);
-        zeroed = λ values e. run-zeroed n sweeps l r v values (giving-refused (ticksOf n sweeps) (runOf n sweeps l r v .answer) e);
-      }),
+  unfold answeredRunOf in (answering-leaves n sweeps l r v _),
+  rw (whole-agrees n sweeps l r v fit) (answering-leaves n sweeps l r v _),
 )
 
 pub refused-as-tabled : RefusedAsTabled
@@ -59,7 +73,7 @@ refused-as-tabled =
       entries-are-tested = entries-tested;
       root-answers = record { not-a-number = root.root-of-nan; below-zero = root.root-below; others = root.root-other };
       pairs-answer = λ n step r h. (h .answers, λ e. h .lists ∙ rw e);
-      plain-run-answers = run-answers;
+      plain-run-answers = plain-run;
       whole-run-answers = whole-run;
       runs-leave = runs-leave;
       start-answers = λ n sweeps l s h. (h .answers, start-none n sweeps l s h);

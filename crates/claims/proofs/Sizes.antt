@@ -27,6 +27,7 @@ sizes-as-stated =
       order-is = order-is;
       is-order = is-order;
       most-sweeps = refl;
+      most-counted = refl;
       even = λ n order e. let o = order-is n order in sizes-are n (n / 2) (n - 1) 1 (omega arith) (omega arith) (omega arith);
       odd = λ n order e. sizes-are n ((n + 1) / 2) n 0 (omega arith) (omega arith) (omega arith);
     }

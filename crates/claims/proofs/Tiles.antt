@@ -1,32 +1,37 @@
 -- What a start and a tick leave in each tile, each part by the law that proves it. Assumes nothing.
-use Prim.Native.Nat.{ℕ, _+_, _-_, _*_, _≤_, _<_}
-use mathlib.Core.Path.{_≡_, refl, ap, _∙_}
-use mathlib.Core.Bool.{Bool, true, false, cond, _||_}
+use Prim.Native.Nat.{ℕ, _+_, _-_, _*_, _%_, _≤_, _<_}
+use mathlib.Core.Path.{_≡_, refl, sym, ap, _∙_}
+use mathlib.Core.Bool.{Bool, true, false, cond, _||_, true≢false}
 use mathlib.Core.List.{List}
 use native.Mathlib.Omega.{arith}
-use borrow.Author.Tests.{eq-eqb, ne-eqb}
+use borrow.Author.Tests.{eqb-true, eq-eqb, ne-eqb}
 use lib.Dec.{eqb}
 use lib.Ieee.{Float}
 use Rattle.refusal.specs.Answers.{given, answered}
 use Rattle.systolic.specs.Slots.{Side, slot, inOrder, inOrderAt}
 use Rattle.systolic.specs.Blocks.{Block, tab}
 use Rattle.systolic.specs.Sequential.{blockAt}
-use Rattle.systolic.specs.Tiles.{distance, phaseOf, turnTile}
+use Rattle.systolic.specs.Tiles.{distance, phaseOf, actionAt, turnTile}
+use Rattle.systolic.specs.Traffic.{rotates}
 use Rattle.systolic.specs.Arrays.{nearer, incoming, tick}
 use Rattle.systolic.specs.Schedule.{setInPhase0, setInPhase1, setInPhase2}
 use Rattle.systolic.proofs.PrintedTables.{phase-0-printed, phase-1-printed, phase-2-printed}
+use Rattle.systolic.proofs.Clock.{rotates-at, at-rotation}
 use Rattle.systolic.proofs.TileTicks as ticks
 use Rattle.float64.specs.Values.{plusZero}
-use Rattle.sizes.specs.Sizes.{processorsOf, stepsOf}
+use Rattle.sizes.specs.Sizes.{processorsOf, sweepSteps, stepsOf}
+use Rattle.rotation.specs.declared.Parameters.{Parameters}
+use Rattle.rotation.specs.declared.Parameters.the-variants.{Still, Turn}
 use Rattle.rotation.specs.Rotation.{sent}
 use Rattle.matrix.specs.Matrix.{at}
 use Rattle.runs.specs.State.{identity, bordered, startOf}
 use Rattle.runs.specs.Blocks.{blockParameters}
+use Rattle.runs.specs.Counts.{counted, beginsSweep, turnsAfter}
 use Rattle.runs.specs.Cells.{Cell, cell, cellOf, blockEntries, Setting, setting, ruledBlock}
 use Rattle.runs.proofs.BlockTurns.{rows-turned, columns-turned}
 use Rattle.tile_schedule.specs.Answers.{made, progressAnswered}
 use Rattle.tile.specs.Tiles.{operations}
-use Rattle.tile.proofs.TileOperations.{tile-turns, tile-sends, tile-fails}
+use Rattle.tile.proofs.TileOperations.{tile-turns, tile-sends, tile-keeps, tile-fails}
 use Rattle.array.specs.declared.Array.{Array}
 use Rattle.array.specs.declared.Started.{Started}
 use Rattle.array.specs.declared.Ticked.{Ticked}
@@ -34,8 +39,14 @@ use Rattle.array.specs.Arrays.{Ticks}
 use Rattle.array.specs.Runs.{startArray, Starts}
 use Rattle.array.proofs.MadeTicks.{made-array, made-tile, started-array, started-tile, begun}
 use Rattle.claims.specs.Tiles.{OneTile, tileIn, diagonalParameters, cellsRotated, CellsTicked, ParametersTicked, Sets, WiresTicked, TileTicked}
-use Rattle.claims.specs.Tiles.{TickMade, cellAtFirst, TileStarted, StartMade, TilesAsPrinted}
+use Rattle.claims.specs.Tiles.{countedOn, TurnsTicked, TickMade, cellAtFirst, TileStarted, StartMade, TilesAsPrinted}
 use Rattle.claims.proofs.FirstProcessor.{ruled-first}
+
+-- ---- the count, by the page's words
+counted-as : (n k : ℕ) (P : Parameters) (d : ℕ) → turnsAfter n k P d ≡ countedOn P (cond (eqb (k % sweepSteps n) 0) 0 d)
+unfolding turnsAfter counted beginsSweep
+counted-as n k Still d = refl
+counted-as n k (Turn t c s) d = refl
 
 -- ---- one tile in tick T, among tiles A
 module _ (n last K T : ℕ) (A : ℕ → ℕ → OneTile) (i j : ℕ) where
@@ -83,6 +94,27 @@ module _ (n last K T : ℕ) (A : ℕ → ℕ → OneTile) (i j : ℕ) where
         else-keeps = ticks.parameters-kept (operations s) last K T A i j;
       }
 
+  turns-ticked : TurnsTicked n K T i j (A i j) new brought
+  turns-ticked =
+      record {
+        counts = λ k l e d.
+            let b = cond (eqb k 0) (A i j .cells) brought in
+            ticks.kept-rotated (operations s) last K T A i j k l (omega arith)
+            ∙ rw (eq-eqb i j d) (tile-keeps s k i b (A i j .kept))
+            ∙ ap (λ (P : Parameters). turnsAfter n k P (A i j .kept)) (ruled-as b)
+            ∙ counted-as n k (diagonalParameters n i b) (A i j .kept);
+        else-keeps = λ f. still-kept (eqb i j) refl f;
+      }
+    where
+      still-kept : (b : Bool) → eqb i j ≡ b → (i ≡ j → (k : ℕ) → k < K → ¬ (T ≡ 3 * k)) → new .kept ≡ A i j .kept
+      still-kept true e f = ticks.kept-unrotated (operations s) last K T A i j (λ k l z. let d = eqb-true i j e in f d k l (omega arith))
+      still-kept false e f = elsewhere (rotates (actionAt K (distance i j) T)) refl
+        where
+          elsewhere : (b : Bool) → rotates (actionAt K (distance i j) T) ≡ b → new .kept ≡ A i j .kept
+          elsewhere true z = let w = at-rotation K (distance i j) T z in ticks.kept-rotated (operations s) last K T A i j (w .0) (w .1) (w .2) ∙ rw e
+          elsewhere false z =
+              ticks.kept-unrotated (operations s) last K T A i j (λ k l y. true≢false (sym (rotates-at K (distance i j) T k l y) ∙ z))
+
   -- in phase φ
   wires-set : (inPhase : ℕ → Side → Side → ℕ → ℕ → Bool) (φ k : ℕ) → φ < 3 → k < K → T ≡ distance i j + 3 * k + φ
       → ((r s : Side) → eqb φ (phaseOf last r s i j) ≡ inPhase last r s i j) → Sets inPhase last i j (A i j) new
@@ -107,6 +139,7 @@ module _ (n last K T : ℕ) (A : ℕ → ℕ → OneTile) (i j : ℕ) where
         parameters = parameters-ticked;
         wires = wires-ticked p q;
         mark = ticks.mark-set (operations s) last K T A i j ∙ ap (λ (b : Bool). A i j .mark || b) (tile-fails s (new .cells));
+        turns = turns-ticked;
       }
 
 -- ---- the record
@@ -133,7 +166,7 @@ first-cell n l r c = go (eqb r 0 || eqb c 0)
 
 begun-started : (n : ℕ) (l : List Float) (i j : ℕ) → TileStarted n l i j (begun n l i j)
 unfolding blockAt inOrder inOrderAt slot tab cellOf startOf
-begun-started n l i j = record { cells = simp (first-cell n l); wires = refl; parameters = (refl, refl); mark = refl }
+begun-started n l i j = record { cells = simp (first-cell n l); wires = refl; parameters = (refl, refl); mark = refl; turns = refl }
 
 start-made : (n sweeps : ℕ) (l : List Float) (s : Started) → Starts n sweeps l s → answered (s .answer) ≡ given tt → StartMade n sweeps l s
 start-made n sweeps l s p m =

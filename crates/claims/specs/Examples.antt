@@ -13,15 +13,15 @@ use Rattle.ordering.specs.declared.PairList.{PairList}
 use Rattle.ordering.specs.Pairs.{Lists}
 use Rattle.sizes.specs.Sizes.{mostProcessors}
 use Rattle.runs.specs.Outcome.{outcome}
-use Rattle.plain_run.specs.Run.{runOf}
+use Rattle.plain_run.specs.Quiet.{answeredRunOf}
 
 pub data Example : Type 0 where
   -- the value with the first pattern has the root with the second
   root : ℕ → ℕ → Example
   -- the list of pairs of an order and a step
   pairs : ℕ → ℕ → List (ℕ × ℕ) → Example
-  -- the plain run of an order, a number of sweeps and a matrix leaves a matrix and eigenvectors
-  run : ℕ → ℕ → List ℕ → List ℕ → List ℕ → Example
+  -- the plain run of an order, a number of sweeps and a matrix makes some sweeps and leaves a matrix and eigenvectors
+  run : ℕ → ℕ → ℕ → List ℕ → List ℕ → List ℕ → Example
 
 -- The values with the given patterns.
 abbrev pub values : List ℕ → List Float
@@ -41,12 +41,12 @@ Holds (root x r) = sqrtOf (ofBits binary64 x) ≡ given (ofBits binary64 r)
 Holds (pairs n step ps) =
     (r : PairList) → Lists n step r
     → (answered (r .answer) ≡ given tt) × (r .registers ≡ asRegisters ps)
-Holds (run n sweeps a l e) =
+Holds (run n sweeps made a l e) =
     (r v : List Float) → length r ≡ n * n → length v ≡ n * n
-    → runOf n sweeps (values a) r v ≡ outcome (given tt) (values l) (values e)
+    → answeredRunOf n sweeps (values a) r v ≡ outcome (given made) (values l) (values e)
 
 -- Roots: 4 (it is 2), -0 (-0), 2, 2 ^ -1074 (2 ^ -537), 1 - 2 ^ -53 (itself), 1 + 2 ^ -52 (1). The run: diagonal 1 and
--- 3, off-diagonal 0, one sweep: unchanged, identity.
+-- 3, off-diagonal 0, one sweep: unchanged, identity. And the same for 16 sweeps, of which the first is quiet.
 abbrev pub examples : List Example
 examples =
     root 0x4010_0000_0000_0000 0x4000_0000_0000_0000
@@ -64,7 +64,11 @@ examples =
     ∷ pairs 3 2 ((0, 2) ∷ (3, 1) ∷ [])
     ∷ pairs 5 0 ((0, 1) ∷ (2, 3) ∷ (4, 5) ∷ [])
     ∷ pairs 5 1 ((0, 3) ∷ (1, 5) ∷ (2, 4) ∷ [])
-    ∷ run 2 1
+    ∷ run 2 1 1
+    (0x3ff0_0000_0000_0000 ∷ 0 ∷ 0 ∷ 0x4008_0000_0000_0000 ∷ [])
+    (0x3ff0_0000_0000_0000 ∷ 0 ∷ 0 ∷ 0x4008_0000_0000_0000 ∷ [])
+    (0x3ff0_0000_0000_0000 ∷ 0 ∷ 0 ∷ 0x3ff0_0000_0000_0000 ∷ [])
+    ∷ run 2 16 1
     (0x3ff0_0000_0000_0000 ∷ 0 ∷ 0 ∷ 0x4008_0000_0000_0000 ∷ [])
     (0x3ff0_0000_0000_0000 ∷ 0 ∷ 0 ∷ 0x4008_0000_0000_0000 ∷ [])
     (0x3ff0_0000_0000_0000 ∷ 0 ∷ 0 ∷ 0x3ff0_0000_0000_0000 ∷ [])

@@ -1,6 +1,6 @@
--- Document 02 (iii): ticks and line traffic before a run. What document 02 calls a line of the array is a wire here,
--- and tiles are counted from 0. A forecast takes n and S alone, and what crosses the wires in a tick depends on n, S
--- and the tick alone, whatever the tiles hold: each statement is for spoiled runs too. Definitions only.
+-- Document 02 (iii) and (vi): ticks and line traffic before a run. What document 02 calls a line of the array is a wire
+-- here, and tiles are counted from 0. A forecast takes n and S alone, and what crosses the wires in a tick depends on
+-- n, S and the tick alone, whatever the tiles hold: each statement is for spoiled runs too. Definitions only.
 use Prim.Native.Nat.{ℕ, _+_, _-_, _*_, _≤_, _<_, min}
 use mathlib.Core.Path.{_≡_}
 use mathlib.Core.Bool.{Bool, true, false, not}
@@ -16,6 +16,8 @@ use Rattle.systolic.specs.Arrays.{nearer}
 use Rattle.systolic.specs.Schedule.{interchange}
 use Rattle.systolic.specs.Traffic.{setsWire, receives, overTiles, wiresSet, tilesReceive}
 use Rattle.sizes.specs.Sizes.{isOrder, processorsOf, stepsOf}
+use Rattle.runs.specs.State.{startOf}
+use Rattle.plain_run.specs.Quiet.{quiet}
 use Rattle.forecast.specs.declared.Figures.{Figures}
 use Rattle.forecast.specs.Forecast.{figuresOf, forecastOf}
 use Rattle.tile_schedule.specs.Answers.{made, progressAnswered}
@@ -23,6 +25,7 @@ use Rattle.array.specs.declared.Array.{Array}
 use Rattle.array.specs.declared.Started.{Started}
 use Rattle.array.specs.declared.Ticked.{Ticked}
 use Rattle.array.specs.Arrays.{tileAt, Ticks}
+use Rattle.array_run.specs.Results.{Duration}
 use Rattle.array_run.specs.Whole.{wholeOf}
 use Rattle.array_agreement.specs.Hand.{ByHand, madeWhere}
 use Rattle.array_agreement.specs.Neighbours.{AgreeWhere}
@@ -125,10 +128,12 @@ RunsCounted n sweeps f =
     (l : List Float) (s : Started) (rs : List Ticked) → ByHand n sweeps l s rs → answered (s .answer) ≡ given tt
     → CountedByHand n f s rs
 
--- A whole run reports these ticks.
+-- The most that a whole run can need: it reports no more ticks, and these if no sweep before the last is quiet.
 abbrev pub TicksOfWholeRun : ℕ → ℕ → Figures → Type 0
 TicksOfWholeRun n sweeps f =
-    (l r v : List Float) → Binary64 l → (ticks : ℕ) → wholeOf n sweeps l r v .answer ≡ given ticks → ticks ≡ f .ticks
+    (l r v : List Float) → Binary64 l → (reported : Duration) → wholeOf n sweeps l r v .answer ≡ given reported
+    → (reported .ticks ≤ f .ticks)
+    × (((m : ℕ) → 1 ≤ m → m < sweeps → quiet n m (startOf n l) ≡ false) → reported .ticks ≡ f .ticks)
 
 pub record Forecasted (n sweeps : ℕ) (f : Figures) : Type 0 where
   pub figures-are : FiguresAre n sweeps f

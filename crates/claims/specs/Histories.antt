@@ -1,5 +1,5 @@
--- Demand 3 (document 00; document 01, "The array", "Neighbourhood", "Runs by hand"; document 02 (ii)), one statement
--- for each of its parts. Definitions only.
+-- Demand 3 (document 00; document 01, "The array", "Neighbourhood", "Runs by hand"; document 02 (ii) and (vi)), one
+-- statement for each of its parts. Definitions only.
 use Prim.Native.Nat.{ℕ, zero, suc, _+_, _-_, _*_, _/_, _%_, _^_, _≤_, _<_}
 use mathlib.Core.Path.{_≡_}
 use mathlib.Core.Bool.{true, false, not, cond}
@@ -8,23 +8,23 @@ use lib.Dec.{T, eqb, ltb}
 use lib.ListN.{length, getD}
 use lib.Ieee.{Float, nan, binary64, fits, toBits}
 use Rattle.float64.specs.Values.{finite}
-use Rattle.refusal.specs.Answers.{given, refused, answered}
+use Rattle.refusal.specs.Answers.{Answered, given, refused, answered}
 use Rattle.lists.specs.Bounded.{count}
 use Rattle.ordering.specs.declared.PairList.{PairList}
 use Rattle.sizes.specs.Sizes.{isOrder, processorsOf, sweepSteps, stepsOf, ticksOf}
 use Rattle.ordering.specs.Pairs.{Lists, meetInList}
 use Rattle.matrix.specs.Matrix.{at, flat}
 use Rattle.runs.specs.State.{startOf}
-use Rattle.runs.specs.Outcome.{answering}
+use Rattle.runs.specs.Outcome.{Outcome, outcome}
 use Rattle.plain_run.specs.State.{after, spoiled}
-use Rattle.plain_run.specs.Run.{runOf}
+use Rattle.plain_run.specs.Quiet.{sweepsMade, answeredRunOf}
 use Rattle.tile_schedule.specs.Answers.{made, stopped}
 use Rattle.array.specs.declared.Array.{Array}
 use Rattle.array.specs.declared.Started.{Started}
 use Rattle.array.specs.declared.Ticked.{Ticked}
 use Rattle.array.specs.Arrays.{tileAt, Ticks}
 use Rattle.array.specs.Runs.{noArray}
-use Rattle.array_run.specs.Results.{matrixIn, vectorsIn, someMarked}
+use Rattle.array_run.specs.Results.{Duration, lasting, matrixIn, vectorsIn, someMarked}
 use Rattle.array_run.specs.Whole.{wholeOf}
 use Rattle.array_agreement.specs.Hand.{lastArray, ByHand, answersOf, counted}
 use Rattle.array_agreement.specs.Neighbours.{Agree}
@@ -34,20 +34,28 @@ abbrev pub Binary64 : List Float → Type 0
 Binary64 l = (k : ℕ) → T (fits binary64 (getD l k nan))
 
 -- ---- one call makes the run
+-- What the plain run answers and leaves, and beside the sweeps that it made the ticks of so many.
+abbrev pub answerTimed : ℕ → Answered ℕ → Answered Duration
+answerTimed n (given sweeps) = given (lasting sweeps (ticksOf n sweeps))
+answerTimed n (refused k values) = refused k values
+
+abbrev pub timed : ℕ → Outcome ℕ → Outcome Duration
+timed n o = outcome (answerTimed n (o .answer)) (o .result) (o .vectors)
+
 -- Lent alike, the whole run leaves in both results what the plain run leaves, refuses what it refuses by the same
--- number and place, 8 included, and reports 3 K + N ticks where it is not refused. This is for every order, every
--- number of sweeps and every matrix.
+-- number and place, 8 included, and where it is not refused reports the same sweeps, and 3 K + N ticks for them. This
+-- is for every order, every number of sweeps and every matrix.
 abbrev pub WholeRunIsThePlainRun : Type 0
 WholeRunIsThePlainRun =
     (n sweeps : ℕ) (l r v : List Float) → Binary64 l
-    → wholeOf n sweeps l r v ≡ answering (ticksOf n sweeps) (runOf n sweeps l r v)
+    → wholeOf n sweeps l r v ≡ timed n (answeredRunOf n sweeps l r v)
 
--- The ticks reported are 3 K + N.
+-- The ticks reported are 3 K + N of the sweeps reported.
 abbrev pub TicksReported : Type 0
 TicksReported =
     (n sweeps : ℕ) (l r v : List Float) → Binary64 l
-    → (ticks : ℕ) → wholeOf n sweeps l r v .answer ≡ given ticks
-    → ticks ≡ ticksOf n sweeps
+    → (reported : Duration) → wholeOf n sweeps l r v .answer ≡ given reported
+    → reported .ticks ≡ ticksOf n (reported .sweeps)
 
 -- Bit k of a value, from 0, and the number of bits in which two values differ, and the first m values of two lists.
 abbrev pub bitOf : ℕ → Float → ℕ
@@ -78,10 +86,11 @@ NoBitDiffers =
     → CovarianceMatrix n l
     → length r ≡ n * n → length v ≡ n * n → length r′ ≡ n * n → length v′ ≡ n * n
     → spoiled n (stepsOf n sweeps) (startOf n l) ≡ false
-    → (differingIn (n * n) (wholeOf n sweeps l r′ v′ .result) (runOf n sweeps l r v .result) ≡ 0)
-    × (differingIn (n * n) (wholeOf n sweeps l r′ v′ .vectors) (runOf n sweeps l r v .vectors) ≡ 0)
-    × (wholeOf n sweeps l r′ v′ .answer ≡ given (ticksOf n sweeps))
-    × (runOf n sweeps l r v .answer ≡ given tt)
+    → (differingIn (n * n) (wholeOf n sweeps l r′ v′ .result) (answeredRunOf n sweeps l r v .result) ≡ 0)
+    × (differingIn (n * n) (wholeOf n sweeps l r′ v′ .vectors) (answeredRunOf n sweeps l r v .vectors) ≡ 0)
+    × (wholeOf n sweeps l r′ v′ .answer
+    ≡ given (lasting (sweepsMade n sweeps (startOf n l)) (ticksOf n (sweepsMade n sweeps (startOf n l)))))
+    × (answeredRunOf n sweeps l r v .answer ≡ given (sweepsMade n sweeps (startOf n l)))
 
 -- ---- a start and then any list of ticks
 -- The ticks are listed with the last first. `lastArray` is the record that the last call gave, `answersOf` what the
@@ -120,13 +129,13 @@ EveryRunByHand =
 -- The same in bits: the matrices in the cells and the plain run's.
 abbrev pub NoBitDiffersByHand : Type 0
 NoBitDiffersByHand =
-    (n sweeps : ℕ) (l r v : List Float) (s : Started) (rs : List Ticked)
+    (n sweeps : ℕ) (l r v : List Float) (s : Started) (rs : List Ticked) (made : ℕ)
     → Binary64 l
     → ByHand n sweeps l s rs
     → ticksOf n sweeps ≤ length rs
-    → runOf n sweeps l r v .answer ≡ given tt
-    → (differingIn (n * n) (flat n (matrixIn n (lastArray s rs .tiles))) (runOf n sweeps l r v .result) ≡ 0)
-    × (differingIn (n * n) (flat n (vectorsIn n (lastArray s rs .tiles))) (runOf n sweeps l r v .vectors) ≡ 0)
+    → answeredRunOf n sweeps l r v .answer ≡ given made
+    → (differingIn (n * n) (flat n (matrixIn n (lastArray s rs .tiles))) (answeredRunOf n sweeps l r v .result) ≡ 0)
+    × (differingIn (n * n) (flat n (vectorsIn n (lastArray s rs .tiles))) (answeredRunOf n sweeps l r v .vectors) ≡ 0)
 
 -- ---- neighbourhood
 -- Whatever all other tiles hold, two arrays alike in order, sweeps, tick, one tile and the wires that lead to it are

@@ -7,6 +7,7 @@ pub mod Sheets
 pub mod PlainRuns
 pub mod Tiles
 pub mod Histories
+pub mod QuietSweeps
 pub mod Forecasts
 pub mod Listings
 pub mod Examples

@@ -1,5 +1,5 @@
--- Document 01, "The printed sheet", and document 02 (i): what the listing of a sheet answers and leaves in the lent
--- text. Text is a list of ASCII codes. Definitions only.
+-- Document 01, "The printed sheet", and document 02 (i) and (vi): what the listing of a sheet answers and leaves in the
+-- lent text. Text is a list of ASCII codes. Definitions only.
 use Prim.Native.Nat.{ℕ, zero, suc, _+_, _*_, _≤_}
 use mathlib.Core.Path.{_≡_}
 use mathlib.Core.List.{List, [], _∷_, _++_}
@@ -10,6 +10,7 @@ use Rattle.refusal.specs.Answers.{given, refused, giving, table}
 use Rattle.matrix.specs.Matrix.{at, flat}
 use Rattle.runs.specs.State.{zeros}
 use Rattle.runs.specs.Outcome.{Outcome}
+use Rattle.array_run.specs.Results.{Duration}
 use Rattle.array_run.specs.Whole.{wholeOf}
 use Rattle.sheet.specs.Format.{orderIn, sweepsIn, codesIn, entryIn}
 use Rattle.sheet_reader.specs.Reader.{sheetAnswer}
@@ -19,7 +20,7 @@ use Rattle.listing.specs.Listing.{ListingOutcome, listOf}
 use Rattle.claims.specs.Refusals.{when}
 
 -- The array's run on what the sheet b holds; its results hold zeros before it.
-abbrev pub runIn : List ℕ → Outcome ℕ
+abbrev pub runIn : List ℕ → Outcome Duration
 runIn b = wholeOf (orderIn b) (sweepsIn b) (flat (orderIn b) (entryIn b)) (zeros (orderIn b)) (zeros (orderIn b))
 
 -- Refusals of the sheet come first, then 7 for a text that may be too short, then those of the run.
@@ -54,7 +55,8 @@ unfoldable pub codesPrinted : ℕ → List ℕ → (ℕ → ℕ → Float) → (
 codesPrinted n codes A E zero = []
 codesPrinted n codes A E (suc k) = codesPrinted n codes A E k ++ codePrinted n (getD codes k 0) A E (suc k)
 
--- First line: n, S, ticks. Then a line for each code, so for the real lines only.
+-- First line: n, the sheet's own S, and the ticks of the sweeps made. Then a line for each code, so for the real lines
+-- only.
 abbrev pub sheetPrinted : List ℕ → ℕ → List ℕ
 sheetPrinted b ticks =
     let n = orderIn b in
@@ -67,11 +69,11 @@ listedAs s t = record { answer = given tt; count = length s; bytes = s ++ drop (
 -- The print of an accepted sheet whose run is not refused, and after it the rest of the lent text.
 abbrev pub ListingPrints : Type 0
 ListingPrints =
-    (b t : List ℕ) (ticks : ℕ)
+    (b t : List ℕ) (reported : Duration)
     → sheetAnswer b ≡ given tt
-    → runIn b .answer ≡ given ticks
+    → runIn b .answer ≡ given reported
     → roomFor (orderIn b) ≤ length t
-    → listOf b t ≡ listedAs (sheetPrinted b ticks) t
+    → listOf b t ≡ listedAs (sheetPrinted b (reported .ticks)) t
 
 -- ---- document 01's example
 -- Its sheet, 02 01 07 09 and three entries of 1, and its print. And the same with the codes 300 and 7, which is a long

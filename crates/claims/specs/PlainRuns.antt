@@ -1,4 +1,4 @@
--- Document 01, "Plain run" and the call for a whole step, and document 02 (ii). Definitions only.
+-- Document 01, "Plain run" and the call for a whole step, and document 02 (ii) and (vi). Definitions only.
 use Prim.Native.Nat.{ℕ, zero, suc, _-_, _≤_}
 use mathlib.Core.Path.{_≡_}
 use mathlib.Core.Bool.{true, false, cond, _&&_}
@@ -19,7 +19,7 @@ use Rattle.matrix_turns.specs.Turns.{parametersOf}
 use Rattle.runs.specs.State.{State, startOf}
 use Rattle.plain_pair.specs.Pair.{pairRotated}
 use Rattle.plain_run.specs.State.{after, spoiled}
-use Rattle.plain_run.specs.Run.{runOf}
+use Rattle.plain_run.specs.Quiet.{answeredRunOf}
 use Rattle.step_records.specs.declared.Record.{Record}
 use Rattle.step_records.specs.Records.{recordsOf}
 use Rattle.claims.specs.Refusals.{InSquare}
@@ -48,13 +48,14 @@ pub record StepsInOrder (n : ℕ) (list : ℕ → PairList) : Type 0 where
 abbrev pub PlainSteps : Type 0
 PlainSteps = (n : ℕ) → isOrder n ≡ true → (list : ℕ → PairList) → ((k : ℕ) → Lists n k (list k)) → StepsInOrder n list
 
--- A run that is not refused leaves the two matrices after all its K steps, the real lines 1 to n of them.
+-- A run that is not refused leaves the two matrices after the K steps of all S sweeps, however many it makes, the real
+-- lines 1 to n of them.
 abbrev pub RunLeavesLastStep : Type 0
 RunLeavesLastStep =
-    (n sweeps : ℕ) (l r v : List Float) → runOf n sweeps l r v .answer ≡ given tt
+    (n sweeps : ℕ) (l r v : List Float) (made : ℕ) → answeredRunOf n sweeps l r v .answer ≡ given made
     → (i j : ℕ) → InSquare n i j
-    → (at n (runOf n sweeps l r v .result) i j ≡ after n (stepsOf n sweeps) (startOf n l) .matrix i j)
-    × (at n (runOf n sweeps l r v .vectors) i j ≡ after n (stepsOf n sweeps) (startOf n l) .vectors i j)
+    → (at n (answeredRunOf n sweeps l r v .result) i j ≡ after n (stepsOf n sweeps) (startOf n l) .matrix i j)
+    × (at n (answeredRunOf n sweeps l r v .vectors) i j ≡ after n (stepsOf n sweeps) (startOf n l) .vectors i j)
 
 -- An entry of either matrix isn't finite, in the lines from a first to n.
 pub record NotFiniteIn (first n : ℕ) (X : State) : Type 0 where

@@ -22,7 +22,7 @@ use Rattle.matrix.specs.Entries.{finiteRow, mirrorRow}
 use Rattle.runs.specs.State.{startOf, zeros}
 use Rattle.runs.specs.Outcome.{Outcome}
 use Rattle.plain_run.specs.State.{spoiled}
-use Rattle.plain_run.specs.Run.{runOf}
+use Rattle.plain_run.specs.Quiet.{sweepsMade, answeredRunOf}
 use Rattle.step_records.specs.declared.Record.{Record}
 use Rattle.step_records.specs.Records.{recordsOf}
 use Rattle.array.specs.declared.Array.{Array}
@@ -31,6 +31,7 @@ use Rattle.array.specs.declared.Ticked.{Ticked}
 use Rattle.array.specs.Arrays.{Ticks}
 use Rattle.tile_schedule.specs.Answers.{made, stopped, progressAnswered}
 use Rattle.array.specs.Runs.{noArray, Starts}
+use Rattle.array_run.specs.Results.{lasting}
 use Rattle.array_run.specs.Whole.{wholeOf}
 use Rattle.sheet.specs.Format.{sheetLength, widthIn, orderIn, sweepsIn, codesIn, patternIn}
 use Rattle.sheet.specs.Codes.{badCodes, longCodes, widthFor}
@@ -124,13 +125,15 @@ runTable n sweeps l lr lv =
 abbrev pub PlainRunAnswers : Type 0
 PlainRunAnswers =
     (n sweeps : ℕ) (l r v : List Float)
-    → runOf n sweeps l r v .answer ≡ runTable n sweeps l (length r) (length v)
+    → answeredRunOf n sweeps l r v .answer
+    ≡ giving (sweepsMade n sweeps (startOf n l)) (runTable n sweeps l (length r) (length v))
 
--- The array's run is refused as the plain run is, by 8 too.
+-- The array's run is refused as the plain run is, by 8 too. A refusal carries neither sweeps nor ticks.
 abbrev pub WholeRunAnswers : Type 0
 WholeRunAnswers =
     (n sweeps : ℕ) (l r v : List Float) → Binary64 l
-    → wholeOf n sweeps l r v .answer ≡ giving (ticksOf n sweeps) (runTable n sweeps l (length r) (length v))
+    → (let made = sweepsMade n sweeps (startOf n l) in
+    wholeOf n sweeps l r v .answer ≡ giving (lasting made (ticksOf n made)) (runTable n sweeps l (length r) (length v)))
 
 -- A refused run leaves both results as they were, but 8 fills them with +0.
 pub record LeavesResults {A : Type 0} (n : ℕ) (o : Outcome A) (r v : List Float) : Type 0 where
@@ -140,7 +143,7 @@ pub record LeavesResults {A : Type 0} (n : ℕ) (o : Outcome A) (r v : List Floa
 abbrev pub RunsLeave : Type 0
 RunsLeave =
     (n sweeps : ℕ) (l r v : List Float) → Binary64 l
-    → LeavesResults n (runOf n sweeps l r v) r v × LeavesResults n (wholeOf n sweeps l r v) r v
+    → LeavesResults n (answeredRunOf n sweeps l r v) r v × LeavesResults n (wholeOf n sweeps l r v) r v
 
 -- ---- array by hand
 -- A refused start gives zeros.

@@ -2,7 +2,7 @@
 use Prim.Native.Nat.{ℕ, _+_, _-_, _*_, _/_, _%_, _≤_}
 use mathlib.Core.Path.{_≡_}
 use mathlib.Core.Bool.{true}
-use Rattle.sizes.specs.Sizes.{mostSweeps, isOrder, processorsOf, sweepSteps, firstLine, stepsOf, ticksOf}
+use Rattle.sizes.specs.Sizes.{mostSweeps, mostCounted, isOrder, processorsOf, sweepSteps, firstLine, stepsOf, ticksOf}
 
 -- n is 2 to 32, even or odd.
 abbrev pub To32 : ℕ → Type 0
@@ -21,6 +21,7 @@ pub record SizesAsStated : Type 0 where
   pub order-is : (n : ℕ) → isOrder n ≡ true → To32 n
   pub is-order : (n : ℕ) → To32 n → isOrder n ≡ true
   pub most-sweeps : mostSweeps ≡ 16
+  pub most-counted : mostCounted ≡ 65535
   -- Even: N = n/2, a sweep has n - 1 steps, K = S·(n - 1).
   pub even : (n : ℕ) → isOrder n ≡ true → n % 2 ≡ 0 → SizesAre n (n / 2) (n - 1) 1
   -- Odd: N = (n+1)/2, a sweep has n steps, K = S·n, and there is a line 0.

@@ -1,9 +1,9 @@
--- Document 01, "The array", and document 02 (ii): what a start and a tick that is made leave in each tile of the
--- record, whatever it held. Tiles are counted from 0 here, so document 01's P_ij stands in row i - 1 and column j - 1.
--- Definitions only.
+-- Document 01, "The array", and document 02 (ii) and (vi): what a start and a tick that is made leave in each tile of
+-- the record, whatever it held. Tiles are counted from 0 here, so document 01's P_ij stands in row i - 1 and column
+-- j - 1. Definitions only.
 use Prim.Native.Nat.{ℕ, _+_, _-_, _*_, _%_, _≤_, _<_}
 use mathlib.Core.Path.{_≡_}
-use mathlib.Core.Bool.{Bool, false, not, cond, _||_, _&&_}
+use mathlib.Core.Bool.{Bool, true, false, not, cond, _||_, _&&_}
 use mathlib.Core.List.{List}
 use lib.Dec.{eqb, ltb}
 use lib.Ieee.{Float}
@@ -14,9 +14,9 @@ use Rattle.systolic.specs.Blocks.{Block, cell as corner}
 use Rattle.systolic.specs.Tiles.{Tile, distance}
 use Rattle.systolic.specs.Arrays.{nearer, incoming}
 use Rattle.systolic.specs.Schedule.{interchange, leadsTo, setInPhase0, setInPhase1, setInPhase2}
-use Rattle.sizes.specs.Sizes.{processorsOf, firstLine, stepsOf}
+use Rattle.sizes.specs.Sizes.{processorsOf, sweepSteps, firstLine, stepsOf}
 use Rattle.rotation.specs.declared.Parameters.{Parameters}
-use Rattle.rotation.specs.declared.Parameters.the-variants.{Still}
+use Rattle.rotation.specs.declared.Parameters.the-variants.{Still, Turn}
 use Rattle.rotation.specs.Rotation.{ofPair, ofTangent, turnOf, sent}
 use Rattle.matrix.specs.Matrix.{at}
 use Rattle.runs.specs.State.{identity}
@@ -29,9 +29,10 @@ use Rattle.array.specs.Arrays.{theArray, Ticks}
 use Rattle.array.specs.Runs.{Starts}
 
 -- A tile of a record: four cells and four outgoing wires by its corners α β / γ δ, each an entry of the matrix and one
--- of the eigenvectors; the wires along its row and along its column, which carry tangents; and its mark.
+-- of the eigenvectors; the wires along its row and along its column, which carry tangents; its mark; and the count that
+-- it has kept.
 abbrev pub OneTile : Type 0
-OneTile = Tile Cell Float Float
+OneTile = Tile Cell Float Float ℕ
 
 abbrev pub tileIn : Array → ℕ → ℕ → OneTile
 tileIn x = theArray (x .tiles)
@@ -126,12 +127,29 @@ cellNotFinite x = not (finite (x .entry)) || not (finite (x .vector))
 abbrev pub someCellNotFinite : Block Cell → Bool
 someCellNotFinite b = cellNotFinite (b .α) || cellNotFinite (b .β) || cellNotFinite (b .γ) || cellNotFinite (b .δ)
 
+-- A tile on the diagonal counts its turns in the current sweep: the rotation of a sweep's first step sets the count
+-- anew, and at 65,535 it stays. Any other tile keeps its count.
+abbrev pub isTurned : Parameters → Bool
+isTurned Still = false
+isTurned (Turn t c s) = true
+
+abbrev pub countedOn : Parameters → ℕ → ℕ
+countedOn P d = cond (isTurned P && ltb d 65535) (d + 1) d
+
+pub record TurnsTicked (n K T i j : ℕ) (old new : OneTile) (brought : Block Cell) : Type 0 where
+  pub counts : (k : ℕ) → k < K → T ≡ 3 * k → i ≡ j
+      → new .kept
+      ≡ countedOn (diagonalParameters n i (cond (eqb k 0) (old .cells) brought))
+      (cond (eqb (k % sweepSteps n) 0) 0 (old .kept))
+  pub else-keeps : (i ≡ j → (k : ℕ) → k < K → ¬ (T ≡ 3 * k)) → new .kept ≡ old .kept
+
 -- A tile is marked, for good, once one of its cells isn't finite at the end of a tick.
 pub record TileTicked (n last K T i j : ℕ) (old new : OneTile) (brought : Block Cell) (h v : Float) : Type 0 where
   pub cells : CellsTicked n K T i j old new brought h v
   pub parameters : ParametersTicked n K T i j old new brought h v
   pub wires : WiresTicked last K T i j old new
   pub mark : new .mark ≡ (old .mark || someCellNotFinite (new .cells))
+  pub turns : TurnsTicked n K T i j old new brought
 
 -- ---- the record
 -- All tiles read before any writes: what is brought comes from the record before the tick, along a row or column from
@@ -156,7 +174,7 @@ WiresLead = (x : Array) (r s : Side) (i j : ℕ) → i < processorsOf (x .n) →
     corner (to .down) (to .across) (incoming last (tileIn x) (to .row) (to .column)) ≡ corner r s (tileIn x i j .wires))
 
 -- Tile P_ij begins with the part of the matrix at row registers i and column registers j and a like part of the
--- identity, line 0 at +0 throughout both, all wires at +0, not marked. b is the first line.
+-- identity, line 0 at +0 throughout both, all wires at +0, not marked, no turn counted. b is the first line.
 abbrev pub cornersAt : ℕ → (ℕ → ℕ → Cell) → ℕ → ℕ → Block Cell
 cornersAt b f i j =
     record {
@@ -174,6 +192,7 @@ pub record TileStarted (n : ℕ) (l : List Float) (i j : ℕ) (new : OneTile) : 
   pub wires : new .wires ≡ cornersAt (firstLine n) (λ r c. cell plusZero plusZero) i j
   pub parameters : (new .rowWire ≡ plusZero) × (new .columnWire ≡ plusZero)
   pub mark : new .mark ≡ false
+  pub turns : new .kept ≡ 0
 
 pub record StartMade (n sweeps : ℕ) (l : List Float) (s : Started) : Type 0 where
   pub order : s .array .n ≡ n

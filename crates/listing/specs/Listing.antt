@@ -8,6 +8,7 @@ use Rattle.refusal.specs.declared.Refusal.the-variants.{TooShort}
 use Rattle.matrix.specs.Matrix.{flat}
 use Rattle.runs.specs.Outcome.{Outcome}
 use Rattle.runs.specs.State.{zeros}
+use Rattle.array_run.specs.Results.{Duration, lasting}
 use Rattle.array_run.specs.Whole.{wholeOf}
 use Rattle.sheet.specs.Format.{orderIn, sweepsIn, codesIn, entryIn}
 use Rattle.sheet_reader.specs.Reader.{sheetAnswer}
@@ -22,12 +23,13 @@ pub record ListingOutcome : Type 0 where
 abbrev pub listed : Answered Unit → Printing → ListingOutcome
 listed a p = record { answer = a; count = p .count; bytes = p .bytes }
 
--- A sheet whose own refusals answer a, and whose run has the outcome o, printed into the lent bytes t. After those of the sheet come refusal 7 and
--- those of the run. A refusal of any number prints nothing and leaves the bytes.
-unfoldable pub listedUnless : Answered Unit → ℕ → ℕ → List ℕ → Outcome ℕ → List ℕ → ListingOutcome
+-- A sheet whose own refusals answer a, and whose run has the outcome o, printed into the lent bytes t: the sweeps that it asks for, the ticks that
+-- were made. After its refusals come refusal 7 and those of the run. A refusal of any number prints nothing and leaves the bytes.
+unfoldable pub listedUnless : Answered Unit → ℕ → ℕ → List ℕ → Outcome Duration → List ℕ → ListingOutcome
 listedUnless a n sweeps codes o t =
     unlessRefused (table (a ∷ row (ltb (length t) (roomFor n)) TooShort ∷ giving tt (o .answer) ∷ []))
-    (listed (given tt) (printOf n sweeps (valueOr (o .answer) 0) codes (o .result) (o .vectors) t)) (λ (x : Answered Unit). listed x (printing 0 t))
+    (listed (given tt) (printOf n sweeps (valueOr (o .answer) (lasting 0 0) .ticks) codes (o .result) (o .vectors) t))
+    (λ (x : Answered Unit). listed x (printing 0 t))
 
 -- The listing of the sheet b in the lent bytes t. The results of the run hold zeros before it.
 unfoldable pub listOf : List ℕ → List ℕ → ListingOutcome

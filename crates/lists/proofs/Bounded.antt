@@ -1,11 +1,12 @@
 -- Tests over the numbers below a bound. Assumes nothing.
 use Prim.Native.Nat.{ℕ, zero, suc, _+_, _≤_, _<_}
 use mathlib.Core.Path.{_≡_, refl, sym, _∙_, ap}
-use mathlib.Core.Bool.{Bool, true, false, cond, _||_, true≢false}
+use mathlib.Core.Bool.{Bool, true, false, not, cond, _||_, true≢false}
+use native.Mathlib.Nat.{add-comm}
 use native.Mathlib.Numerals.{add-one}
 use native.Mathlib.Omega.{arith}
-use borrow.Author.Tests.{ltb-true, ltb-false}
-use lib.Dec.{ltb}
+use borrow.Author.Tests.{ltb-true, ltb-false, eqb-true, eqb-false, eq-eqb, ne-eqb}
+use lib.Dec.{eqb, ltb}
 use Rattle.lists.specs.Bounded.{count, any}
 
 -- what holds below n, and at n
@@ -76,10 +77,26 @@ any-within a n f g h same above =
     go e i l false z = above i (ltb-false _ _ z) l
 
 -- ---- how many pass
-pub count-ext : (f g : ℕ → Bool) (n : ℕ) → ((i : ℕ) → f i ≡ g i) → count f n ≡ count g n
+pub count-below : (f g : ℕ → Bool) (n : ℕ) → ((i : ℕ) → i < n → f i ≡ g i) → count f n ≡ count g n
 unfolding count
-count-ext f g zero e = refl
-count-ext f g (suc n) e = rw (e n, count-ext f g n e)
+count-below f g zero e = refl
+count-below f g (suc n) e = rw (e n (omega arith), count-below f g n (λ i l. e i (omega arith)))
+
+pub count-ext : (f g : ℕ → Bool) (n : ℕ) → ((i : ℕ) → f i ≡ g i) → count f n ≡ count g n
+count-ext f g n e = count-below f g n (λ i _. e i)
+
+pub count-more : (f : ℕ → Bool) (k : ℕ) {t x : ℕ} → t ≡ count f k → x ≡ cond (f k) 1 0 → t + x ≡ count f (k + 1)
+unfolding count
+count-more f k e g = rw (add-one, e, g) (add-comm (count f k) _)
+
+pub count-most : (f : ℕ → Bool) (n : ℕ) {t : ℕ} → t ≡ count f n → t ≤ n
+unfolding count
+count-most f zero e = omega arith
+count-most f (suc n) {t} e = go (f n) (count-most f n refl) e
+  where
+    go : (b : Bool) → count f n ≤ n → t ≡ cond b 1 0 + count f n → t ≤ suc n
+    go true h z = omega arith
+    go false h z = omega arith
 
 pub count-all : (f : ℕ → Bool) (n : ℕ) → ((t : ℕ) → t < n → f t ≡ true) → count f n ≡ n
 unfolding count
@@ -90,6 +107,21 @@ pub count-none : (f : ℕ → Bool) (n : ℕ) → ((t : ℕ) → t < n → f t �
 unfolding count
 count-none f zero g = refl
 count-none f (suc n) g = let e : count f n ≡ 0 = count-none f n (λ t l. g t (omega arith)) in rw (g n (omega arith), e)
+
+-- none is counted where none passes
+pub sum-none : (a b : ℕ) (x y : Bool) → eqb a 0 ≡ not x → eqb b 0 ≡ not y → eqb (a + b) 0 ≡ not (x || y)
+sum-none a b true y e f = ne-eqb (a + b) 0 (λ z. eqb-false a 0 e (omega arith))
+sum-none a b false true e f = ne-eqb (a + b) 0 (λ z. eqb-false b 0 f (omega arith))
+sum-none a b false false e f = eq-eqb (a + b) 0 (omega (arith, eqb-true a 0 e, eqb-true b 0 f))
+
+pub count-any : (f : ℕ → Bool) (n : ℕ) → eqb (count f n) 0 ≡ not (any n f)
+unfolding count any
+count-any f zero = eq-eqb 0 0 refl
+count-any f (suc n) = rw (add-comm (cond (f n) 1 0) (count f n)) (sum-none (count f n) (cond (f n) 1 0) (any n f) (f n) (count-any f n) (go (f n)))
+  where
+    go : (b : Bool) → eqb (cond b 1 0) 0 ≡ not b
+    go true = ne-eqb 1 0 (λ z. omega arith)
+    go false = eq-eqb 0 0 refl
 
 -- a test that passes at one s < n only is counted once
 pub count-one : (f : ℕ → Bool) (n s : ℕ) → s < n → f s ≡ true → ((t : ℕ) → t < n → f t ≡ true → t ≡ s) → count f n ≡ 1

@@ -1,12 +1,24 @@
 -- Sums over the numbers below a bound. Assumes nothing.
 use Prim.Native.Nat.{ℕ, zero, suc, _+_, _*_, _≤_, _<_}
 use mathlib.Core.Path.{_≡_, refl}
-use mathlib.Core.Bool.{Bool, true, false, cond}
+use mathlib.Core.Bool.{Bool, true, false, not, cond}
 use native.Mathlib.Omega.{arith}
 use native.Mathlib.Nat.{suc-mul}
-use borrow.Author.Tests.{ltb-true, ltb-false, eqb-true, eqb-false, lt-ltb, le-ltb}
+use borrow.Author.Tests.{ltb-true, ltb-false, eqb-true, eqb-false, eq-eqb, lt-ltb, le-ltb}
 use lib.Dec.{ltb, eqb}
-use Rattle.lists.specs.Bounded.{total}
+use Rattle.lists.specs.Bounded.{any, total}
+use Rattle.lists.proofs.Bounded.{sum-none}
+
+pub total-below : (f g : ℕ → ℕ) (n : ℕ) → ((i : ℕ) → i < n → f i ≡ g i) → total n f ≡ total n g
+unfolding total
+total-below f g zero e = refl
+total-below f g (suc n) e = rw (e n (omega arith), total-below f g n (λ i l. e i (omega arith)))
+
+-- a sum of counts is 0 where none passes
+pub total-any : (g : ℕ → ℕ) (h : ℕ → Bool) → ((i : ℕ) → eqb (g i) 0 ≡ not (h i)) → (n : ℕ) → eqb (total n g) 0 ≡ not (any n h)
+unfolding total any
+total-any g h e zero = eq-eqb 0 0 refl
+total-any g h e (suc n) = sum-none (total n g) (g n) (any n h) (h n) (total-any g h e n) (e n)
 
 module _ (f : ℕ → ℕ) (x : ℕ) where
   -- n terms alike

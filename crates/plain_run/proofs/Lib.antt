@@ -1,6 +1,10 @@
 pub mod CopiedLists
 pub mod ProcessorPairs
 pub mod HeldStates
+pub mod StillPairs
+pub mod QuietSweeps
+pub mod SweepsMade
+pub mod CountedTurns
 pub mod StepParameters
 pub mod RunEnd
 pub mod MirrorEntries
@@ -10,5 +14,6 @@ pub mod VanishingLine
 pub mod RunStart
 pub mod Outcomes
 pub mod Sequence
+pub mod KeptTurns
 pub mod RunResults
 pub mod RefusedRuns

@@ -24,13 +24,16 @@ use Rattle.runs.specs.State.{State, identity, startOf}
 use Rattle.plain_pair.specs.Pair.{stateOf, Held}
 use Rattle.plain_pair.proofs.AlikeStates.{held-alike}
 use Rattle.plain_run.specs.State.{after, notFiniteFrom, spoiled}
-use Rattle.runs.specs.Outcome.{beforeRun, Outcome, outcome}
+use Rattle.runs.specs.Outcome.{beforeRun, Outcome, outcome, answering}
 use Rattle.plain_run.specs.Run.{someNotFinite, finishOf, ranOf, runOf}
+use Rattle.plain_run.specs.Quiet.{sweepsMade, answeredRunOf}
 use Rattle.runs.proofs.Verdicts.{Begins}
 use Rattle.plain_run.proofs.HeldStates.{after-alike}
 use Rattle.plain_run.proofs.FiniteLines.{finite-state, state-finite}
 use Rattle.plain_run.proofs.VanishingLine.{spoiled-at-end}
 use Rattle.plain_run.proofs.RunStart.{real-entries, start-vanishes, start-alike, start-finite, start-mirrored}
+use Rattle.plain_run.proofs.SweepsMade.{ran-made}
+use Rattle.plain_run.proofs.CountedTurns.{made-alike}
 
 -- ---- the two lists at the end
 module _ (n : ℕ) where
@@ -78,19 +81,29 @@ module _ (n : ℕ) where
 
 -- ---- the outcome
 module _ (n sweeps : ℕ) (l : List Float) (fitting : (k : ℕ) → T (fits binary64 (getD l k nan))) (lr lv : ℕ) (b : Begins n sweeps l lr lv) where
-  -- a run is the start, the steps, the eigenvectors as columns, and the end
-  pub run-made : {o : Outcome Unit} (l₀ e₀ l₁ e₁ e₂ : List Float) → l₀ ≡ l → e₀ ≡ flat n identity → Held n l₁ e₁ (after n (stepsOf n sweeps) (stateOf n l₀ e₀))
-      → e₂ ≡ transposedIn n e₁ → o ≡ finishOf n l₁ e₂ → o ≡ ranOf n sweeps l
+  -- m sweeps are the start, the steps, the eigenvectors as columns, and the end
+  ran-of : (m : ℕ) (l₀ e₀ l₁ e₁ e₂ : List Float) → l₀ ≡ l → e₀ ≡ flat n identity → Held n l₁ e₁ (after n (stepsOf n m) (stateOf n l₀ e₀))
+      → e₂ ≡ transposedIn n e₁ → finishOf n l₁ e₂ ≡ ranOf n m l
   unfolding finishOf ranOf
-  run-made l₀ e₀ l₁ e₁ e₂ z y h t f =
-      let K = stepsOf n sweeps in
+  ran-of m l₀ e₀ l₁ e₁ e₂ z y h t =
+      let K = stepsOf n m in
       let X = startOf n l in
       let held : Held n l₁ e₁ (after n K X) = held-alike n l₁ e₁ _ _ (rw z at h) (after-alike n (b .order) K _ _ (start-alike n l e₀ y)) in
       let columns : e₂ ≡ flat n (after n K X .vectors) = transposed-again n _ (held .vectors-held) t in
       let s : (someNotFinite l₁ || someNotFinite e₂) ≡ spoiled n K X =
       lists-finite n l₁ e₂ _ (held .matrix-held) columns
       ∙ sym (spoiled-at-end n (b .order) X (start-mirrored n l fitting (b .entries)) (start-vanishes n l) (start-finite n l fitting (b .entries)) K) in
-      rw (← s, ← (held .matrix-held), ← columns) f
+      rw (← s, ← (held .matrix-held), ← columns)
+
+  -- the sweeps made leave what all sweeps leave
+  pub run-made : {o : Outcome ℕ} (made : ℕ) (l₀ e₀ l₁ e₁ e₂ : List Float) → l₀ ≡ l → e₀ ≡ flat n identity
+      → (made ≡ sweepsMade n sweeps (stateOf n l₀ e₀)) × Held n l₁ e₁ (after n (stepsOf n made) (stateOf n l₀ e₀))
+      → e₂ ≡ transposedIn n e₁ → o ≡ answering made (finishOf n l₁ e₂) → o ≡ answering (sweepsMade n sweeps (startOf n l)) (ranOf n sweeps l)
+  run-made made l₀ e₀ l₁ e₁ e₂ z y h t f =
+      let m : made ≡ sweepsMade n sweeps (startOf n l) =
+      h .0 ∙ ap (λ (k : List Float). sweepsMade n sweeps (stateOf n k e₀)) z ∙ made-alike n (b .order) _ _ (start-alike n l e₀ y) sweeps in
+      f ∙ ap (answering made) (ran-of made l₀ e₀ l₁ e₁ e₂ z y (h .1) t ∙ ap (λ (k : ℕ). ranOf n k l) m ∙ sym (ran-made n sweeps l (b .order)))
+      ∙ ap (λ (k : ℕ). answering k (ranOf n sweeps l)) m
 
 -- no sweeps: the matrix as lent, and the identity
 pub no-sweeps : (n : ℕ) (l : List Float) → length l ≡ n * n → ranOf n 0 l ≡ outcome (given tt) l (flat n identity)
@@ -102,10 +115,11 @@ no-sweeps n l long =
 -- ---- a refused run, and one that is not
 module _ (n sweeps : ℕ) (l r v : List Float) where
   pub run-refused : {k : ℕ} {values : List ℕ} → refused k values ≡ beforeRun n sweeps l (length r) (length v)
-      → outcome (refused k values) r v ≡ runOf n sweeps l r v
-  unfolding runOf
+      → outcome (refused k values) r v ≡ answeredRunOf n sweeps l r v
+  unfolding answeredRunOf runOf
   run-refused e = rw (← e)
 
-  pub run-accepted-as : {o : Outcome Unit} → given tt ≡ beforeRun n sweeps l (length r) (length v) → o ≡ ranOf n sweeps l → o ≡ runOf n sweeps l r v
-  unfolding runOf
+  pub run-accepted-as : {o : Outcome ℕ} → given tt ≡ beforeRun n sweeps l (length r) (length v)
+      → o ≡ answering (sweepsMade n sweeps (startOf n l)) (ranOf n sweeps l) → o ≡ answeredRunOf n sweeps l r v
+  unfolding answeredRunOf runOf
   run-accepted-as e f = rw (← e) f

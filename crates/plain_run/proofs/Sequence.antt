@@ -10,7 +10,7 @@ use lib.Ieee.{Float}
 use Rattle.systolic.specs.Slots.{Side, left, right, Slot, slot, lineAt, inOrder}
 use Rattle.lists.specs.Bounded.{any}
 use Rattle.systolic.specs.Blocks.{cell}
-use Rattle.systolic.specs.Sequential.{pairBlock, sequential, failsIn}
+use Rattle.systolic.specs.Sequential.{pairBlock, sequential, blockAtTurn, failsIn}
 use Rattle.systolic.specs.Sequential as theory
 use Rattle.systolic.proofs.Steps.{end, pair-none, pair-row, pair-column, pair-cells}
 use Rattle.matrix_turns.specs.Turns.{parametersOf, columnTurnAll}
@@ -18,12 +18,14 @@ use Rattle.rotation.specs.declared.Parameters.{Parameters}
 use Rattle.rotation.specs.Rotation.{sent, turnOf}
 use Rattle.sizes.specs.Sizes.{isOrder, processorsOf, firstLine, linesOf}
 use Rattle.sizes.proofs.Orders.{order-half}
+use Rattle.ordering.specs.Pairs.{registersAt}
 use Rattle.ordering.proofs.RegisterLines.{left-stands, right-stands, lines-differ}
 use Rattle.runs.specs.State.{State}
 use Rattle.plain_pair.specs.Pair.{pairTurned, pairRotated}
 use Rattle.plain_run.specs.State.{pairsRotated, after, notFiniteFrom, notFinite, spoiled}
+use Rattle.plain_run.specs.Quiet.{parametersAt}
 use Rattle.runs.specs.Blocks.{ruled, matrixBlock, columnsBlock}
-use Rattle.runs.specs.Cells.{cellOf, sideOf, sides, blockTurned, Setting, rules}
+use Rattle.runs.specs.Cells.{Cell, cellOf, sideOf, sides, blockTurned, Setting, ruledBlock, rules}
 use Rattle.runs.proofs.LineZero.{received-ruled}
 use Rattle.plain_pair.proofs.TurnedEntries.{Spot, first, second, neither, spot, all-first, all-second, all-other}
 use Rattle.plain_pair.proofs.TurnedEntries.{at-first-first, at-second-second, at-first-second, at-second-first}
@@ -136,6 +138,18 @@ module _ (S : Setting) (order : isOrder (S .order) ≡ true) (X : State) where
       (ap (theory.pairsStep (rules S) k (lineAt (inOrder (firstLine n)) (processorsOf n - 1) k) (processorsOf n)) (plain-sequential k)
       ∙ pairs-cellwise S k (lineAt (inOrder (firstLine n)) (processorsOf n - 1) k) _ _ (processorsOf n)
       (λ i o. (left-stands n order k i o, right-stands n order k i o, lines-differ n order k i o)) (after n k X))
+
+  -- what a processor turns the block of its pair by
+  pub parameters-are : (k i : ℕ) → i < processorsOf n
+      → ruledBlock S i (blockAtTurn (rules S) (inOrder (firstLine n)) (processorsOf n - 1) (cellOf X) k i) ≡ parametersAt n k i X
+  unfolding blockAtTurn parametersAt
+  parameters-are k i l =
+      let L = lineAt (inOrder (firstLine n)) (processorsOf n - 1) k in
+      ap (λ (M : ℕ → ℕ → Cell). ruledBlock S i (pairBlock (L (slot i left)) (L (slot i right)) M))
+      (ap (theory.pairsStep (rules S) k L i) (plain-sequential k)
+      ∙ pairs-cellwise S k L (registersAt n k .left) (registersAt n k .right) i
+      (λ j o. (left-stands n order k j (omega arith), right-stands n order k j (omega arith), lines-differ n order k j (omega arith))) (after n k X))
+      ∙ rw (← (left-stands n order k i l), ← (right-stands n order k i l)) (unfold pairBlock cellOf in refl)
 
   -- the cells that fail are the entries that are not finite
   pub fails-are : (Y : State) → failsIn (rules S) (firstLine n) (linesOf n) (cellOf Y) ≡ notFinite n Y

@@ -2,13 +2,12 @@
 -- its end. Assumes nothing.
 use Prim.Native.Nat.{ℕ, zero, suc, _+_, _-_, _*_, _≤_}
 use mathlib.Core.Path.{_≡_, refl, sym, ap, _∙_, fun-ext}
-use mathlib.Core.Bool.{Bool, true, false, cond, _&&_}
+use mathlib.Core.Bool.{true, false}
 use mathlib.Core.List.{List}
 use mathlib.Core.Logic.{_≢_}
 use native.Mathlib.Omega.{arith}
-use lib.Dec.{eqb}
 use lib.Ieee.{Float, ofBits}
-use Rattle.float64.specs.Values.{plusZero, finite}
+use Rattle.float64.specs.Values.{finite}
 use Rattle.float64.proofs.Vanishing.{Zero, zero-finite}
 use Rattle.lists.specs.Bounded.{any}
 use Rattle.lists.proofs.Bounded.{same-bool, any-to, any-from}
@@ -24,13 +23,13 @@ use Rattle.matrix_turns.proofs.LinePairs.{are-two, first-line}
 use Rattle.matrix_turns.proofs.StillTurns.{still-all-columns}
 use Rattle.runs.specs.State.{State}
 use Rattle.runs.proofs.LineZero.{always-still}
-use Rattle.plain_pair.specs.Pair.{withEntry, pairTurned, pairRotated}
+use Rattle.plain_pair.specs.Pair.{pairTurned, pairRotated}
 use Rattle.plain_pair.proofs.TurnedEntries.{Spot, first, second, neither, spot, all-first, all-second, all-other}
 use Rattle.plain_pair.proofs.TurnedEntries.{at-first-other, at-second-other, at-other-first, at-other-second, at-others}
-use Rattle.plain_pair.proofs.TurnedStates.{still-turned}
 use Rattle.plain_pair.proofs.RuledPairs.{rotated-by}
 use Rattle.plain_run.specs.State.{ProcessorPair, real-lines, line-0, Paired, pairsRotated, after, notFiniteFrom, notFinite, spoiled}
 use Rattle.plain_run.proofs.ProcessorPairs.{registers-paired}
+use Rattle.plain_run.proofs.StillPairs.{kept-or-zero}
 use Rattle.plain_run.proofs.MirrorEntries.{pairs-mirrored, run-mirrored}
 use Rattle.plain_run.proofs.SpoiledRuns.{FiniteState, pair-persists, step-persists, run-persists}
 use Rattle.plain_run.proofs.FiniteLines.{finite-entries, finite-state, state-finite, real-finite}
@@ -80,11 +79,7 @@ module _ (p q : ℕ) (p0 : 0 ≢ p) (q0 : 0 ≢ q) (pq : p ≢ q) (P : Parameter
 
 -- ---- a still pair only makes zeros
 still-zeros : (p q : ℕ) → p ≢ q → (A : ℕ → ℕ → Float) (r c : ℕ) → Zero (A r c) → Zero (pairTurned Still p q A r c)
-still-zeros p q pq A r c z = become (still-turned 0 p q A pq r c) (unfold withEntry in (either (eqb r q && eqb c p) _ (either (eqb r p && eqb c q) _ z)))
-  where
-    either : (b : Bool) (y : Float) → Zero y → Zero (cond b plusZero y)
-    either true y h = unfold ofBits in refl
-    either false y h = h
+still-zeros p q pq A r c z = kept-or-zero p q pq A (λ x. Zero x) r c (unfold ofBits in refl) z
 
 module _ (n : ℕ) where
   -- ---- a pair that leaves the lines 1 to n finite leaves zeros in line 0

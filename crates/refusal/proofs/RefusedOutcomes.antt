@@ -18,6 +18,10 @@ pub giving-given : {A B : Type 0} (x y : B) (a : Answered A) → giving x a ≡ 
 giving-given x y (given z) e = sym (ap (λ (b : Answered _). valueOr b x) e)
 giving-given x y (refused k values) e = refused-given e
 
+pub giving-was : {B : Type 0} (x y : B) (a : Answered Unit) → giving x a ≡ given y → (a ≡ given tt) × (y ≡ x)
+giving-was x y (given tt) e = (refl, giving-given x y (given tt) e)
+giving-was x y (refused k values) e = refused-given e
+
 pub same-number : {A : Type 0} {i k : ℕ} {ys zs : List ℕ} → _≡_ {A = Answered A} (refused i ys) (refused k zs) → i ≡ k
 same-number e = cc
 

@@ -1,5 +1,5 @@
 -- What a pair of lines does, as rules of the theory: a cell is an entry of the matrix and one of the eigenvectors. The wires along rows and
--- columns carry the tangent. Definitions only.
+-- columns carry the tangent, and a processor counts the turns of its pairs in the current sweep. Definitions only.
 use Prim.Native.Nat.{ℕ}
 use mathlib.Core.Bool.{not, _||_}
 use lib.Ieee.{Float}
@@ -11,6 +11,7 @@ use Rattle.rotation.specs.declared.Parameters.{Parameters}
 use Rattle.rotation.specs.declared.Sides.{Sides}
 use Rattle.rotation.specs.Rotation.{ofTangent, sent, turnOf}
 use Rattle.runs.specs.State.{State}
+use Rattle.runs.specs.Counts.{turnsAfter}
 use Rattle.runs.specs.Blocks.{blockParameters, ruled, matrixBlock, columnsBlock}
 
 pub record Cell : Type 0 where
@@ -56,7 +57,7 @@ setting n = record { order = n }
 abbrev pub ruledBlock : Setting → ℕ → Block Cell → Parameters
 ruledBlock s i b = ruled (s .order) i (blockParameters (blockEntries b))
 
-unfoldable pub rules : Setting → Rules Cell Float Float
+unfoldable pub rules : Setting → Rules Cell Float Float ℕ
 rules s =
     record {
       diagonal = λ k i b. blockTurned (ruledBlock s i b) b;
@@ -65,4 +66,5 @@ rules s =
       rowTurn = λ t s x y. cell (sideOf s (turnOf (ofTangent t) (x .entry) (y .entry))) (sideOf s (sides (x .vector) (y .vector)));
       columnTurn = λ t s x y. cell (sideOf s (turnOf (ofTangent t) (x .entry) (y .entry))) (sideOf s (turnOf (ofTangent t) (x .vector) (y .vector)));
       fails = λ x. not (finite (x .entry)) || not (finite (x .vector));
+      keeps = λ k i b d. turnsAfter (s .order) k (ruledBlock s i b) d;
     }

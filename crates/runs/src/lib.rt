@@ -1,12 +1,14 @@
-// What the plain run and the array's run share: the refusals before a run, the identity, and which processor is always still.
+// What the plain run and the array's run share: the refusals before a run, the identity, which processor is always still, which pair turns.
 ghost use mathlib.Core.Path.{_≡_};
 ghost use Rattle.refusal.specs.Answers.{answered};
 ghost use Rattle.runs.specs.State.{identity};
 ghost use Rattle.runs.specs.Blocks.{ruled};
+ghost use Rattle.runs.specs.Counts.{isTurn, counted, beginsSweep, turnsAfter};
 ghost use Rattle.runs.specs.Outcome.{beforeRun, slicesAnswer};
 use refusal::Answer;
 use refusal::Refusal;
 use rotation::Parameters;
+use sizes::MOST_COUNTED;
 
 // Refusals 1, 2, 3, 5 and 6 of a run whose two results have the lengths first and second.
 pub fn verdict(n: usize, sweeps: usize, matrix: &[f64], first: usize, second: usize) -> Answer
@@ -49,4 +51,48 @@ pub fn ruled(n: usize, i: usize, parameters: Parameters) -> Parameters
         return Parameters::Still;
     }
     parameters
+}
+
+// Whether a pair with these parameters is turned.
+pub fn is_turn(parameters: Parameters) -> bool
+    ensures { λ r. ⌜ r ≡ isTurn parameters ⌝ }
+{
+    match parameters {
+        Parameters::Still => false,
+        Parameters::Turn(_, _, _) => true,
+    }
+}
+
+// The turns of a processor in the current sweep after a step in which its pair has these parameters, with `turns` before it.
+pub fn turns_after(n: usize, step: usize, parameters: Parameters, turns: u16) -> u16
+    ensures { λ r. ⌜ r ≡ turnsAfter n step parameters turns ⌝ }
+{
+    if begins_sweep(n, step) {
+        return counted(parameters, 0);
+    }
+    counted(parameters, turns)
+}
+
+// One more than `turns`, where a pair with these parameters is turned; at most the most.
+fn counted(parameters: Parameters, turns: u16) -> u16
+    ensures { λ r. ⌜ r ≡ counted parameters turns ⌝ }
+{
+    if !is_turn(parameters) {
+        return turns;
+    }
+    if turns < MOST_COUNTED {
+        return turns + 1;
+    }
+    turns
+}
+
+// Whether a step, from 0, is the first of a sweep.
+fn begins_sweep(n: usize, step: usize) -> bool
+    ensures { λ r. ⌜ r ≡ beginsSweep n step ⌝ }
+{
+    let steps = sizes::sweep_steps(n);
+    if steps == 0 {
+        return step == 0;
+    }
+    step % steps == 0
 }

@@ -4,7 +4,7 @@ use mathlib.Core.Path.{_≡_, refl, sym, ap, _∙_}
 use mathlib.Core.Bool.{Bool, true, false, not, _&&_, true≢false}
 use mathlib.Core.List.{[], _∷_}
 use native.Mathlib.Omega.{arith}
-use native.Mathlib.Nat.{mul-le-mul}
+use native.Mathlib.Nat.{suc-mul, mul-le-mul}
 use borrow.Author.Tests.{lt-ltb, le-ltb, ltb-false, leb-true, le-leb, lt-leb}
 use lib.Dec.{ltb, leb}
 use Rattle.refusal.specs.Answers.{Answered, given, refusedBy, orElse, row, table}
@@ -56,6 +56,9 @@ pub few-steps : (n : ℕ) → isOrder n ≡ true → sweepSteps n ≤ largestOrd
 few-steps n e = let o = order-is n e in omega arith
 
 -- the steps of a run are few
+pub steps-next : (n sweeps : ℕ) → stepsOf n (sweeps + 1) ≡ stepsOf n sweeps + sweepSteps n
+steps-next n sweeps = let e : sweeps + 1 ≡ suc sweeps = omega arith in rw e (suc-mul sweeps (sweepSteps n))
+
 pub product-few : (a b : ℕ) → a ≤ mostSweeps → b ≤ largestOrder → a * b ≤ mostSweeps * largestOrder
 product-few a b h k = mul-le-mul h k
 

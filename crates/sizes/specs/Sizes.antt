@@ -1,4 +1,4 @@
--- Document 01, "Sizes", and document 02 (ii): the limits, and what follows from the order n and the sweeps. No other definition names a
+-- Document 01, "Sizes", and document 02 (ii) and (vii): the limits, and what follows from the order n and the sweeps. No other definition names a
 -- limit; the page of claims states the documents' figures. Definitions only.
 use Prim.Native.Nat.{ℕ, _+_, _-_, _*_, _/_, _%_}
 use mathlib.Core.Bool.{Bool, not, _&&_}
@@ -18,6 +18,10 @@ largestOrder = 2 * mostProcessors
 -- The most sweeps.
 abbrev pub mostSweeps : ℕ
 mostSweeps = 16
+
+-- The most that a tile counts to.
+abbrev pub mostCounted : ℕ
+mostCounted = 65535
 
 -- n is an order: from 2 to the largest.
 unfoldable pub isOrder : ℕ → Bool

@@ -16,6 +16,9 @@ pub const LARGEST_ORDER: usize = 2 * MOST_PROCESSORS;
 // The most sweeps.
 pub const MOST_SWEEPS: usize = 16;
 
+// The most that a tile counts to.
+pub const MOST_COUNTED: u16 = 65535;
+
 // The most tiles of an array.
 pub const MOST_TILES: usize = MOST_PROCESSORS * MOST_PROCESSORS;
 

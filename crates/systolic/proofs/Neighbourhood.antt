@@ -24,7 +24,7 @@ off-diagonal a i j p h h′ z f = go (eqb i j) refl
     go false e = f (rw (e, z))
 
 -- A tile reads no parameter but when it receives one.
-module _ {X H W : Type 0} (S : Operations X H W) (k i j : ℕ) (h h′ : H) (v v′ : W) where
+module _ {X H W D : Type 0} (S : Operations X H W D) (k i j : ℕ) (h h′ : H) (v v′ : W) where
   turn-same : (a : Action) → rotates a ≡ true → (receivesIn a i j ≡ true → h ≡ h′) → (receivesIn a i j ≡ true → v ≡ v′) → (b : Block X)
       → turnTile S k i j h v b ≡ turnTile S k i j h′ v′ b
   unfolding turnTile
@@ -50,7 +50,7 @@ parameter-same s i j h h′ o phase1 f b x = refl
 parameter-same s i j h h′ o phase2 f b x = refl
 parameter-same s i j h h′ o final f b x = refl
 
-tile-same : {X H W : Type 0} (S : Operations X H W) (m k i j : ℕ) (a : Action) (o : Tile X H W) (x : Block X) (h h′ : H) (v v′ : W)
+tile-same : {X H W D : Type 0} (S : Operations X H W D) (m k i j : ℕ) (a : Action) (o : Tile X H W D) (x : Block X) (h h′ : H) (v v′ : W)
     → (receivesIn a i j ≡ true → h ≡ h′) → (receivesIn a i j ≡ true → v ≡ v′) → newTile S m k i j a o x h v ≡ newTile S m k i j a o x h′ v′
 unfolding newTile
 tile-same S m k i j a o x h h′ v v′ f g =
@@ -61,14 +61,14 @@ tile-same S m k i j a o x h h′ v v′ f g =
     )
 
 -- Two arrays are alike in one tile and in the wires that lead to it, in the parameter wires where P holds.
-pub record Alike {X H W : Type 0} (P : Type 0) (m : ℕ) (A B : ℕ → ℕ → Tile X H W) (i j : ℕ) : Type 0 where
+pub record Alike {X H W D : Type 0} (P : Type 0) (m : ℕ) (A B : ℕ → ℕ → Tile X H W D) (i j : ℕ) : Type 0 where
   pub tile : A i j ≡ B i j
   pub wires : (h g : Side) → pick (λ i′ j′. A i′ j′ .wires) (joined m h i) (joined m g j) ≡ pick (λ i′ j′. B i′ j′ .wires) (joined m h i) (joined m g j)
   pub row : P → A i (nearer i j) .rowWire ≡ B i (nearer i j) .rowWire
   pub column : P → A (nearer j i) j .columnWire ≡ B (nearer j i) j .columnWire
 
 -- If P holds where the tile receives, they are alike in that tile, and so in its outgoing wires, after the tick.
-pub neighbourhood : {X H W P : Type 0} (S : Operations X H W) (m K t : ℕ) (A B : ℕ → ℕ → Tile X H W) (i j : ℕ) → (receives K t i j ≡ true → P)
+pub neighbourhood : {X H W D P : Type 0} (S : Operations X H W D) (m K t : ℕ) (A B : ℕ → ℕ → Tile X H W D) (i j : ℕ) → (receives K t i j ≡ true → P)
     → Alike P m A B i j → tick S m K t A i j ≡ tick S m K t B i j
 unfolding tick tickTile incoming receives
 neighbourhood S m K t A B i j p e =
@@ -76,13 +76,13 @@ neighbourhood S m K t A B i j p e =
     (tile-same S m (stepAt (distance i j) t) i j _ _ _ _ _ _ _ (λ z. e .row (p z)) (λ z. e .column (p z)))
 
 -- Arrays that are alike in all their tiles stay so.
-pub tick-same : {X H W : Type 0} (S : Operations X H W) (m K t : ℕ) (A B : ℕ → ℕ → Tile X H W)
+pub tick-same : {X H W D : Type 0} (S : Operations X H W D) (m K t : ℕ) (A B : ℕ → ℕ → Tile X H W D)
     → ((i j : ℕ) → i ≤ m → j ≤ m → A i j ≡ B i j) → (i j : ℕ) → i ≤ m → j ≤ m → tick S m K t A i j ≡ tick S m K t B i j
 unfolding pick
 tick-same S m K t A B e i j p q =
     neighbourhood S m K t A B i j (λ e. receiving K t i j e .off-diagonal) (record {
       tile = e i j p q;
-      wires = λ h g. ap (λ (x : Tile _ _ _). cell (joined m h i .side) (joined m g j .side) (x .wires)) (e _ _ (joined-le m h i p) (joined-le m g j q));
-      row = λ n. ap (λ (x : Tile _ _ _). x .rowWire) (e i (nearer i j) p (nearer-ok m i j p q n .0));
-      column = λ n. ap (λ (x : Tile _ _ _). x .columnWire) (e (nearer j i) j (nearer-ok m j i q p (λ w. n (sym w)) .0) q);
+      wires = λ h g. ap (λ (x : Tile _ _ _ _). cell (joined m h i .side) (joined m g j .side) (x .wires)) (e _ _ (joined-le m h i p) (joined-le m g j q));
+      row = λ n. ap (λ (x : Tile _ _ _ _). x .rowWire) (e i (nearer i j) p (nearer-ok m i j p q n .0));
+      column = λ n. ap (λ (x : Tile _ _ _ _). x .columnWire) (e (nearer j i) j (nearer-ok m j i q p (λ w. n (sym w)) .0) q);
     })

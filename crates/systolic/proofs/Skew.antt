@@ -3,13 +3,13 @@ use Prim.Native.Nat.{ℕ, zero, suc, _+_, _*_, _≤_, _<_}
 use mathlib.Core.Path.{_≡_, refl, sym, _∙_, ap}
 use mathlib.Core.Bool.{Bool, true, false, cond}
 use native.Mathlib.Omega.{arith}
-use borrow.Author.Tests.{eqb-true, eqb-false}
-use lib.Dec.{eqb}
+use borrow.Author.Tests.{eqb-true, eqb-false, eq-eqb, ltb-true, ltb-false}
+use lib.Dec.{eqb, ltb}
 use Rattle.systolic.specs.Slots.{Side, slot}
 use Rattle.systolic.specs.Blocks.{Block, cell, pick}
-use Rattle.systolic.specs.Synchronous.{Operations, rotateAll, moveAll, blocksAt, rotatedAt, rowParameter, columnParameter}
+use Rattle.systolic.specs.Synchronous.{Operations, rotateAll, moveAll, blocksAt, rotatedAt, rowParameter, columnParameter, keptAt}
 use Rattle.systolic.specs.Tiles.{distance, Tile, carried, joined, phaseOf, Action, idle, first, rotate, phase1, phase2}
-use Rattle.systolic.specs.Tiles.{final, actionAt, stepAt, turnTile, newCells, newParameter, phaseIn, newWires, newTile, tickTile}
+use Rattle.systolic.specs.Tiles.{final, actionAt, stepAt, turnTile, newCells, newParameter, newKept, phaseIn, newWires, newTile, tickTile}
 use Rattle.systolic.specs.Arrays.{nearer, incoming, tick, arrayAfter}
 use Rattle.systolic.proofs.Cells.{cell-tab, tab-ext}
 use Rattle.systolic.proofs.Clock.{View, waiting, starting, rotating, setting-phase1, setting-phase2}
@@ -19,9 +19,9 @@ use Rattle.systolic.proofs.Wires.{link, joined-le, InTime, in-time, pha
 same : (Q : ℕ → Type 0) (k n : ℕ) → k ≡ n → Q n → Q k
 same Q k n e x = rw e x
 
-module _ {X H W : Type 0} (S : Operations X H W) (m K : ℕ) where
+module _ {X H W D : Type 0} (S : Operations X H W D) (m K : ℕ) where
   -- what is known of the tile (i, j) after t ticks
-  pub record Known (t i j : ℕ) (x : Tile X H W) : Type 0 where
+  pub record Known (t i j : ℕ) (x : Tile X H W D) : Type 0 where
     pub before : t ≤ distance i j → x .cells ≡ S .initial i j
     pub during : (k : ℕ) → k < K → distance i j + 3 * k < t → t ≤ distance i j + 3 * suc k → x .cells ≡ rotatedAt S m k i j
     pub after : distance i j + 3 * K < t → x .cells ≡ blocksAt S m K i j
@@ -29,6 +29,8 @@ module _ {X H W : Type 0} (S : Operations X H W) (m K : ℕ) where
         → t ≤ distance i j + phaseOf m r s i j + 3 * suc k → cell r s (x .wires) ≡ cell (carried i r) (carried j s) (rotatedAt S m k i j)
     pub row : (k : ℕ) → k < K → distance i j + 3 * k < t → t ≤ distance i j + 3 * suc k → x .rowWire ≡ rowParameter S m k i
     pub column : (k : ℕ) → k < K → distance i j + 3 * k < t → t ≤ distance i j + 3 * suc k → x .columnWire ≡ columnParameter S m k j
+    -- on the diagonal, once the tile has made k rotations and no more
+    pub kept : i ≡ j → (k : ℕ) → k ≤ K → 3 * k < t + 3 → (k < K → t ≤ 3 * k) → x .kept ≡ keptAt S m k i
 
   abbrev pub AllKnown : ℕ → Type 0
   AllKnown t = (i j : ℕ) → i ≤ m → j ≤ m → Known t i j (arrayAfter S m K t i j)
@@ -81,7 +83,7 @@ module _ {X H W : Type 0} (S : Operations X H W) (m K : ℕ) where
         all (nearer j i) j (z .0) q .column k l (omega arith) (omega arith)
 
     module _ (i j : ℕ) (pi : i ≤ m) (pj : j ≤ m) where
-      abbrev old : Tile X H W
+      abbrev old : Tile X H W D
       old = arrayAfter S m K t i j
 
       abbrev fresh : Action → Block X
@@ -162,6 +164,40 @@ module _ {X H W : Type 0} (S : Operations X H W) (m K : ℕ) where
       new-parameter f c p held o g h idle (finished w) k l x y = absurd (omega arith)
       new-parameter f c p held o g h idle (stepless w z) k l x y = absurd (omega arith)
 
+      -- ---- what a diagonal tile keeps
+      abbrev keeping : Action → D
+      keeping a = newKept (S .keeps now i) i j a (old .cells) (incoming m (arrayAfter S m K t) i j) (old .kept)
+
+      kept-one : (k : ℕ) (b : Block X) (d : D) → i ≡ j → b ≡ blocksAt S m k i j → d ≡ keptAt S m k i
+          → cond (eqb i j) (S .keeps k i b d) d ≡ keptAt S m (suc k) i
+      unfolding keptAt
+      kept-one k b d o e f = rw (e, f, ← o, eq-eqb i i refl)
+
+      new-kept : (a : Action) → View K (distance i j) t a → i ≡ j → (k : ℕ) → k ≤ K → 3 * k < suc t + 3 → (k < K → suc t ≤ 3 * k) → keeping a ≡ keptAt S m k i
+      unfolding newParameter
+      new-kept idle (waiting w) o k l x y = absurd (omega arith)
+      new-kept first (starting w z) o k l x y =
+          same (λ n. keeping first ≡ keptAt S m n i) k 1 (one-made k l x y)
+          (rw (step-at (distance i j) t 0 (omega arith))
+          (kept-one 0 _ _ o (began z w) (all i j pi pj .kept o 0 (omega arith) (omega arith) (λ _. omega arith))))
+        where
+          one-made : (k : ℕ) → k ≤ K → 3 * k < suc t + 3 → (k < K → suc t ≤ 3 * k) → k ≡ 1
+          one-made zero l x y = absurd (let u = y z in omega arith)
+          one-made (suc k) l x y = omega arith
+      new-kept rotate (rotating n w z) o k l x y =
+          same (λ n. keeping rotate ≡ keptAt S m n i) k (suc (suc n)) (all-made (ltb k K) refl)
+          (rw (step-at (distance i j) t (suc n) w)
+          (kept-one (suc n) _ _ o (reads n i j pi pj (omega arith) w) (all i j pi pj .kept o (suc n) (omega arith) (omega arith) (λ _. omega arith))))
+        where
+          all-made : (b : Bool) → ltb k K ≡ b → k ≡ suc (suc n)
+          all-made true e = let u = y (ltb-true _ _ e) in omega arith
+          all-made false e = let u : K ≤ k = ltb-false _ _ e in omega arith
+      new-kept phase1 (setting-phase1 n w z) o k l x y = all i j pi pj .kept o k l (omega arith) (λ u. let v = y u in omega arith)
+      new-kept phase2 (setting-phase2 n w z) o k l x y = all i j pi pj .kept o k l (omega arith) (λ u. let v = y u in omega arith)
+      new-kept final (finishing n w z) o k l x y = all i j pi pj .kept o k l (omega arith) (λ u. let v = y u in omega arith)
+      new-kept idle (finished w) o k l x y = all i j pi pj .kept o k l (omega arith) (λ u. let v = y u in omega arith)
+      new-kept idle (stepless w z) o k l x y = all i j pi pj .kept o k l (omega arith) (λ u. let v = y u in omega arith)
+
       -- a wire is written anew, or holds what it held
       new-wire : (a : Action) → View K (distance i j) t a → (r s : Side) (k : ℕ) → k < K → distance i j + phaseOf m r s i j + 3 * k < suc t
           → suc t ≤ distance i j + phaseOf m r s i j + 3 * suc k
@@ -193,6 +229,7 @@ module _ {X H W : Type 0} (S : Operations X H W) (m K : ℕ) where
             row = new-parameter (S .sendsRow) i _ _ (λ e. (refl, sym e)) (λ k l. row-in k i j pi pj l) (all i j pi pj .row) (actionAt K (distance i j) t) w;
             column =
                 new-parameter (S .sendsColumn) j _ _ (λ e. (e, refl)) (λ k l. column-in k i j pi pj l) (all i j pi pj .column) (actionAt K (distance i j) t) w;
+            kept = new-kept (actionAt K (distance i j) t) w;
           }
 
   pub all-known : (t : ℕ) → AllKnown t
@@ -205,5 +242,6 @@ module _ {X H W : Type 0} (S : Operations X H W) (m K : ℕ) where
         wire = λ r s k l x y. absurd (omega arith);
         row = λ k l x y. absurd (omega arith);
         column = λ k l x y. absurd (omega arith);
+        kept = λ o k l x y. same (λ n. S .keptStart ≡ keptAt S m n i) k 0 (omega arith) (unfold keptAt in refl);
       }
   all-known (suc t) i j p q = next-known t (all-known t) i j p q

@@ -28,7 +28,7 @@ unfolding side-no
 left≢right e = true≢false (ap side-no e)
 
 -- ---- one pair, entry by entry
-module _ {X H W : Type 0} (R : Rules X H W) (k i p q : ℕ) (ne : ¬ (p ≡ q)) (M : ℕ → ℕ → X) where
+module _ {X H W D : Type 0} (R : Rules X H W D) (k i p q : ℕ) (ne : ¬ (p ≡ q)) (M : ℕ → ℕ → X) where
   qp : eqb q p ≡ false
   qp = ne-eqb q p (λ e. ne (sym e))
 
@@ -57,7 +57,7 @@ module _ {X H W : Type 0} (R : Rules X H W) (k i p q : ℕ) (ne : ¬ (p ≡ q)) 
   pair-cells right right r c y z = rw (y, z, qp, eq-eqb q q refl)
 
 -- ---- one pair, block by block
-module _ {X H W : Type 0} (R : Rules X H W) (k m : ℕ) (L : Slot → ℕ) (one : Distinct m L) where
+module _ {X H W D : Type 0} (R : Rules X H W D) (k m : ℕ) (L : Slot → ℕ) (one : Distinct m L) where
   end-of : (n : ℕ) (s : Side) → L (slot n s) ≡ end s (L (slot n left)) (L (slot n right))
   end-of n left = refl
   end-of n right = refl
@@ -173,11 +173,15 @@ module _ {X H W : Type 0} (R : Rules X H W) (k m : ℕ) (L : Slot → ℕ) (one 
         }
     mid (suc n) o = mid-more n (omega arith) (pairsStep R k L n M) (mid n (omega arith))
 
+    -- the four entries of a pair at its turn are those before the step
+    pub at-turn : (i : ℕ) → i ≤ m → pairBlock (L (slot i left)) (L (slot i right)) (pairsStep R k L i M) ≡ blockAt L M i i
+    at-turn i p = pair-block i (pairsStep R k L i M) ∙ mid i (omega arith) .same i i p p (omega arith) (omega arith)
+
     -- the blocks after all pairs are the rotated blocks
-    pub step-agrees : (l : Slot → ℕ) (M₀ : ℕ → ℕ → X) (x : X) (h₀ : H) (w₀ : W) (i j : ℕ) → i ≤ m → j ≤ m
-        → rotateAll (operationsOf R l M₀ x h₀ w₀) k (blockAt L M) i j ≡ blockAt L (pairsStep R k L (suc m) M) i j
+    pub step-agrees : (l : Slot → ℕ) (M₀ : ℕ → ℕ → X) (x : X) (h₀ : H) (w₀ : W) (d₀ : D) (i j : ℕ) → i ≤ m → j ≤ m
+        → rotateAll (operationsOf R l M₀ x h₀ w₀ d₀) k (blockAt L M) i j ≡ blockAt L (pairsStep R k L (suc m) M) i j
     unfolding rotateAll operationsOf
-    step-agrees l M₀ x h₀ w₀ i j p q = go (eqb i j) (ltb i j) refl refl
+    step-agrees l M₀ x h₀ w₀ d₀ i j p q = go (eqb i j) (ltb i j) refl refl
       where
         z : Mid (suc m) (pairsStep R k L (suc m) M)
         z = mid (suc m) (omega arith)

@@ -2,17 +2,17 @@
 use Prim.Native.Nat.{ℕ, zero, suc, _+_, _-_, _*_, _/_, _≤_, _<_}
 use mathlib.Core.Path.{_≡_, refl, sym, _∙_, ap}
 use mathlib.Core.Logic.{_↔_}
-use mathlib.Core.Bool.{Bool, true, false}
+use mathlib.Core.Bool.{Bool, true, false, cond}
 use native.Mathlib.Omega.{arith}
-use borrow.Author.Tests.{ltb-true, ltb-false}
+use borrow.Author.Tests.{ltb-true, ltb-false, lt-ltb}
 use lib.Dec.{ltb}
-use Rattle.systolic.specs.Synchronous.{Operations, blocksAt, rotatedAt}
-use Rattle.systolic.specs.Tiles.{distance, newTile, tickTile}
+use Rattle.systolic.specs.Synchronous.{Operations, blocksAt, rotatedAt, keptAt}
+use Rattle.systolic.specs.Tiles.{distance, Tile, idle, action, actionAt, newTile, tickTile}
 use Rattle.systolic.specs.Arrays.{tick, arrayAfter}
 use Rattle.lists.proofs.Bounded.{up-to, or-false, false-or}
 use Rattle.systolic.proofs.Skew.{all-known}
 
-module _ {X H W : Type 0} (S : Operations X H W) (m K : ℕ) where
+module _ {X H W D : Type 0} (S : Operations X H W D) (m K : ℕ) where
   -- ---- the cells: the start, those rotated in step k, or the final ones
   pub cells-before : (T i j : ℕ) → i ≤ m → j ≤ m → T < distance i j → arrayAfter S m K (suc T) i j .cells ≡ S .initial i j
   cells-before T i j p q l = all-known S m K (suc T) i j p q .before l
@@ -27,6 +27,10 @@ module _ {X H W : Type 0} (S : Operations X H W) (m K : ℕ) where
   -- after the last tick, 3K + N - 1, with N = m + 1
   pub cells-end : (i j : ℕ) → i ≤ m → j ≤ m → arrayAfter S m K (3 * K + suc m) i j .cells ≡ blocksAt S m K i j
   cells-end i j p q = all-known S m K (3 * K + suc m) i j p q .after (omega arith)
+
+  -- what a diagonal tile keeps once it has made k rotations and no more
+  pub kept-turned : (t k i : ℕ) → i ≤ m → k ≤ K → 3 * k < t + 3 → (k < K → t ≤ 3 * k) → arrayAfter S m K t i i .kept ≡ keptAt S m k i
+  kept-turned t k i p l x y = all-known S m K t i i p p .kept refl k l x y
 
   marks : (t i j : ℕ) → arrayAfter S m K t i j .mark ≡ false → (T : ℕ) → T < t → S .fails (arrayAfter S m K (suc T) i j .cells) ≡ false
   unfolding arrayAfter tick tickTile newTile
@@ -73,3 +77,17 @@ module _ {X H W : Type 0} (S : Operations X H W) (m K : ℕ) where
   pub marks-fine : ((i j : ℕ) → i ≤ m → j ≤ m → arrayAfter S m K (3 * K + suc m) i j .mark ≡ false)
       ↔ ((i j : ℕ) → i ≤ m → j ≤ m → Fine i j)
   marks-fine = (λ f i j p q. unmarked-fine i j p q (f i j p q), λ f i j p q. fine-unmarked i j p q (f i j p q))
+
+-- ---- a run of fewer steps makes the same ticks until its diagonal tiles stop
+same-action : (K L δ t : ℕ) → t < 3 * K → K ≤ L → actionAt K δ t ≡ actionAt L δ t
+unfolding actionAt action
+same-action K L δ t l o = go (ltb t δ)
+  where
+    go : (b : Bool) → cond b idle (action K (t - δ)) ≡ cond b idle (action L (t - δ))
+    go true = refl
+    go false = let a : (t - δ) / 3 < K = omega arith in let b : (t - δ) / 3 < L = omega arith in rw (lt-ltb _ _ a, lt-ltb _ _ b)
+
+pub fewer-steps : {X H W D : Type 0} (S : Operations X H W D) (m K L t : ℕ) → t < 3 * K → K ≤ L → (A : ℕ → ℕ → Tile X H W D) (i j : ℕ)
+    → tick S m K t A i j ≡ tick S m L t A i j
+unfolding tick tickTile
+fewer-steps S m K L t l o A i j = rw (same-action K L (distance i j) t l o)

@@ -1,4 +1,4 @@
--- What a tick leaves in a tile: its cells, its parameter wires, its cell wires and its mark. Assumes nothing.
+-- What a tick leaves in a tile: its cells, its parameter wires, its cell wires, its mark and what it keeps. Assumes nothing.
 use Prim.Native.Nat.{ℕ, _+_, _*_, _≤_, _<_}
 use mathlib.Core.Path.{_≡_, refl, ap, _∙_}
 use mathlib.Core.Bool.{Bool, true, false, cond, _||_}
@@ -19,7 +19,7 @@ use Rattle.systolic.proofs.PrintedTables.{values-printed, joined-twice,
 use Rattle.systolic.proofs.TurnOrder.{tile-kept, parameter-kept}
 
 -- ---- where a wire leads
-pub wire-arrives : {X H W : Type 0} (m : ℕ) (A : ℕ → ℕ → Tile X H W) (r s : Side) (i j : ℕ) → i ≤ m → j ≤ m
+pub wire-arrives : {X H W D : Type 0} (m : ℕ) (A : ℕ → ℕ → Tile X H W D) (r s : Side) (i j : ℕ) → i ≤ m → j ≤ m
     → cell (leadsTo m r s i j .down) (leadsTo m r s i j .across) (incoming m A (leadsTo m r s i j .row) (leadsTo m r s i j .column))
     ≡ cell r s (A i j .wires)
 wire-arrives m A r s i j p q = rw (← (leads-printed m r s i j)) arrives
@@ -29,7 +29,7 @@ wire-arrives m A r s i j p q = rw (← (leads-printed m r s i j)) arrives
         (cell-tab _ (joined m r i .side) (joined m s j .side)) ∙ rw (joined-twice m r i p, joined-twice m s j q) (unfold pick slot in refl)
 
 -- ---- a rotation, the first one where b holds
-cells-by : {X H W : Type 0} (S : Operations X H W) (k i j : ℕ) (old ins : Block X) (h : H) (v : W) (b : Bool)
+cells-by : {X H W D : Type 0} (S : Operations X H W D) (k i j : ℕ) (old ins : Block X) (h : H) (v : W) (b : Bool)
     → newCells S k i j (cond b first rotate) old ins h v ≡ turnTile S k i j h v (cond b old ins)
 unfolding newCells
 cells-by S k i j old ins h v true = refl
@@ -45,7 +45,7 @@ no-phase-3 : (m : ℕ) (r s : Side) (i j : ℕ) → eqb 3 (phaseOf m r s i j) �
 no-phase-3 m r s i j = ne-eqb 3 (phaseOf m r s i j) (λ e. let w : phaseOf m r s i j < 3 = phase-lt m r s i j in omega arith)
 
 -- ---- a tick
-module _ {X H W : Type 0} (S : Operations X H W) (m K t : ℕ) (A : ℕ → ℕ → Tile X H W) (i j : ℕ) where
+module _ {X H W D : Type 0} (S : Operations X H W D) (m K t : ℕ) (A : ℕ → ℕ → Tile X H W D) (i j : ℕ) where
   -- what the tile rotates in step k
   abbrev pub taken : ℕ → Block X
   taken k = cond (eqb k 0) (A i j .cells) (incoming m A i j)
@@ -62,6 +62,11 @@ module _ {X H W : Type 0} (S : Operations X H W) (m K t : ℕ) (A : ℕ → ℕ 
         rw (rotation-at K (distance i j) t k few e, step-at (distance i j) t k e)
         (parameter-by (S .sendsRow k i) i j _ _ _ _ (eqb k 0), parameter-by (S .sendsColumn k i) i j _ _ _ _ (eqb k 0))
 
+    pub kept-rotated : tick S m K t A i j .kept ≡ cond (eqb i j) (S .keeps k i (taken k) (A i j .kept)) (A i j .kept)
+    unfolding tick tickTile newTile
+    kept-rotated =
+        rw (rotation-at K (distance i j) t k few e, step-at (distance i j) t k e) (parameter-by (λ b. S .keeps k i b (A i j .kept)) i j _ _ _ _ (eqb k 0))
+
   pub parameters-received : receives K t i j ≡ true
       → (tick S m K t A i j .rowWire ≡ A i (nearer i j) .rowWire) × (tick S m K t A i j .columnWire ≡ A (nearer j i) j .columnWire)
   parameters-received e =
@@ -76,13 +81,17 @@ module _ {X H W : Type 0} (S : Operations X H W) (m K t : ℕ) (A : ℕ → ℕ 
 
   pub cells-kept : ((k : ℕ) → 0 < K → k ≤ K → ¬ (t ≡ distance i j + 3 * k)) → tick S m K t A i j .cells ≡ A i j .cells
   unfolding tick tickTile newTile
-  cells-kept f = ap (λ (x : Tile X H W). x .cells) (tile-kept S _ i j (A i j) _ _ _ _ (no-change K (distance i j) t f))
+  cells-kept f = ap (λ (x : Tile X H W D). x .cells) (tile-kept S _ i j (A i j) _ _ _ _ (no-change K (distance i j) t f))
 
   pub parameters-kept : ((k : ℕ) → k < K → ¬ (t ≡ distance i j + 3 * k))
       → (tick S m K t A i j .rowWire ≡ A i j .rowWire) × (tick S m K t A i j .columnWire ≡ A i j .columnWire)
   unfolding tick tickTile newTile
   parameters-kept f =
       let e = no-rotation K (distance i j) t f in (parameter-kept _ i j _ _ _ _ _ e, parameter-kept _ i j _ _ _ _ _ e)
+
+  pub kept-unrotated : ((k : ℕ) → k < K → ¬ (t ≡ distance i j + 3 * k)) → tick S m K t A i j .kept ≡ A i j .kept
+  unfolding tick tickTile newTile
+  kept-unrotated f = parameter-kept _ i j _ _ _ _ _ (no-rotation K (distance i j) t f)
 
   -- A wire is set to what Algorithm Interchange says, of the cells after the tick, or keeps its value.
   pub wire-set : (r s : Side)

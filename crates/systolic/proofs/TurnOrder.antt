@@ -13,7 +13,7 @@ use Rattle.systolic.proofs.Clock.{View, waiting, starting, rotating, se
 use Rattle.systolic.proofs.Wires.{nearer-ok}
 
 -- ---- a tile whose cells don't change
-module _ {X H W : Type 0} (S : Operations X H W) (k i j : ℕ) (o : Tile X H W) (ins : Block X) (h : H) (v : W) where
+module _ {X H W D : Type 0} (S : Operations X H W D) (k i j : ℕ) (o : Tile X H W D) (ins : Block X) (h : H) (v : W) where
   pub tile-kept : (a : Action) → changesCells a ≡ false → turnedTile S k i j a o ins h v ≡ o
   unfolding newCells newParameter
   tile-kept idle e = refl

@@ -10,14 +10,15 @@ use Rattle.systolic.specs.Synchronous.{Operations}
 abbrev pub distance : ℕ → ℕ → ℕ
 distance i j = (i - j) + (j - i)
 
--- Four cells; the four outgoing wires α β γ δ, each named after the corner it leaves by; the outgoing parameter wires; the mark. Document 01
--- calls a wire a line in its section on the array; here a line is always a line of the matrix.
-pub record Tile (X H W : Type 0) : Type 0 where
+-- Four cells; the four outgoing wires α β γ δ, each named after the corner it leaves by; the outgoing parameter wires; the mark; and what a tile
+-- on the diagonal keeps for itself. Document 01 calls a wire a line in its section on the array; here a line is always a line of the matrix.
+pub record Tile (X H W D : Type 0) : Type 0 where
   pub cells : Block X
   pub wires : Block X
   pub rowWire : H
   pub columnWire : W
   pub mark : Bool
+  pub kept : D
 
 -- The wiring is a product of one for rows and one for columns.
 -- Which register's cells leave by the side r of processor i: at the first processor those of that side, elsewhere those of the other.
@@ -60,11 +61,11 @@ actionAt K Δ t = cond (ltb t Δ) idle (action K (t - Δ))
 unfoldable pub stepAt : ℕ → ℕ → ℕ
 stepAt Δ t = (t - Δ) / 3
 
-unfoldable pub turnTile : {X H W : Type 0} → Operations X H W → ℕ → ℕ → ℕ → H → W → Block X → Block X
+unfoldable pub turnTile : {X H W D : Type 0} → Operations X H W D → ℕ → ℕ → ℕ → H → W → Block X → Block X
 turnTile S k i j h v b = cond (eqb i j) (S .diagonal k i b) (S .offDiagonal k i j h v b)
 
 -- the cells after the tick, from the cells b, what the cell wires bring in, and what the parameter wires bring in
-unfoldable pub newCells : {X H W : Type 0} → Operations X H W → ℕ → ℕ → ℕ → Action → Block X → Block X → H → W → Block X
+unfoldable pub newCells : {X H W D : Type 0} → Operations X H W D → ℕ → ℕ → ℕ → Action → Block X → Block X → H → W → Block X
 newCells S k i j idle b ins h v = b
 newCells S k i j first b ins h v = turnTile S k i j h v b
 newCells S k i j rotate b ins h v = turnTile S k i j h v ins
@@ -80,6 +81,10 @@ newParameter f i j rotate b ins p old = cond (eqb i j) (f ins) p
 newParameter f i j phase1 b ins p old = old
 newParameter f i j phase2 b ins p old = old
 newParameter f i j final b ins p old = old
+
+-- What a tile keeps for itself: on the diagonal f of the cells that it rotates and of what it kept.
+abbrev pub newKept : {X D : Type 0} → (Block X → D → D) → ℕ → ℕ → Action → Block X → Block X → D → D
+newKept f i j a b ins old = newParameter (λ c. f c old) i j a b ins old old
 
 -- the phase in which the tile is; 3 where it sets no wire
 unfoldable pub phaseIn : Action → ℕ
@@ -99,8 +104,8 @@ unfoldable pub newWires : {X : Type 0} → ℕ → ℕ → ℕ → Action → Bl
 newWires m i j a c old =
     tab (λ r s. cond (setsIn m a r s i j) (cell (carried i r) (carried j s) c) (cell r s old))
 
--- the first part of a tick: the cells and the parameter wires
-abbrev pub turnedTile : {X H W : Type 0} → Operations X H W → ℕ → ℕ → ℕ → Action → Tile X H W → Block X → H → W → Tile X H W
+-- the first part of a tick: the cells, the parameter wires and what is kept
+abbrev pub turnedTile : {X H W D : Type 0} → Operations X H W D → ℕ → ℕ → ℕ → Action → Tile X H W D → Block X → H → W → Tile X H W D
 turnedTile S k i j a old ins h v =
     record {
       cells = newCells S k i j a (old .cells) ins h v;
@@ -108,10 +113,11 @@ turnedTile S k i j a old ins h v =
       rowWire = newParameter (S .sendsRow k i) i j a (old .cells) ins h (old .rowWire);
       columnWire = newParameter (S .sendsColumn k i) i j a (old .cells) ins v (old .columnWire);
       mark = old .mark;
+      kept = newKept (S .keeps k i) i j a (old .cells) ins (old .kept);
     }
 
 -- The second part: the cell wires and the mark. A tile is marked, for good, once its cells are bad at the end of a tick.
-abbrev pub settledTile : {X H W : Type 0} → Operations X H W → ℕ → ℕ → ℕ → Action → Tile X H W → Tile X H W
+abbrev pub settledTile : {X H W D : Type 0} → Operations X H W D → ℕ → ℕ → ℕ → Action → Tile X H W D → Tile X H W D
 settledTile S m i j a x =
     record {
       cells = x .cells;
@@ -119,11 +125,12 @@ settledTile S m i j a x =
       rowWire = x .rowWire;
       columnWire = x .columnWire;
       mark = x .mark || S .fails (x .cells);
+      kept = x .kept;
     }
 
-unfoldable pub newTile : {X H W : Type 0} → Operations X H W → ℕ → ℕ → ℕ → ℕ → Action → Tile X H W → Block X → H → W → Tile X H W
+unfoldable pub newTile : {X H W D : Type 0} → Operations X H W D → ℕ → ℕ → ℕ → ℕ → Action → Tile X H W D → Block X → H → W → Tile X H W D
 newTile S m k i j a old ins h v = settledTile S m i j a (turnedTile S k i j a old ins h v)
 
 -- Tile (i, j) after tick t of an array of m + 1 by m + 1 tiles that runs K steps: a function of the tile and what comes in, and of nothing else.
-unfoldable pub tickTile : {X H W : Type 0} → Operations X H W → ℕ → ℕ → ℕ → ℕ → ℕ → Tile X H W → Block X → H → W → Tile X H W
+unfoldable pub tickTile : {X H W D : Type 0} → Operations X H W D → ℕ → ℕ → ℕ → ℕ → ℕ → Tile X H W D → Block X → H → W → Tile X H W D
 tickTile S m K t i j old ins h v = newTile S m (stepAt (distance i j) t) i j (actionAt K (distance i j) t) old ins h v

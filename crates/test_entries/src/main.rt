@@ -2,6 +2,7 @@
 // tools/entries_to_try.py writes the expected output.
 use array_run::Completion;
 use ordering::Registers;
+use plain_run::Ran;
 use root::Root;
 use sheet_reader::Reading;
 use test_io::refusals;
@@ -140,12 +141,22 @@ fn write_answer(
     if by_array {
         return write_completion(array_run::run(n, sweeps, matrix, result, vectors));
     }
-    refusals::print_answer(plain_run::run(n, sweeps, matrix, result, vectors))
+    write_ran(plain_run::run(n, sweeps, matrix, result, vectors))
+}
+
+fn write_ran(ran: Ran) -> bool {
+    match ran {
+        Ran::Made(sweeps) => test_io::print_number(b"sweeps", sweeps as u64),
+        Ran::Refused(refused) => refusals::print_refusal(refused),
+    }
 }
 
 fn write_completion(completion: Completion) -> bool {
     match completion {
-        Completion::Completed(ticks) => test_io::print_number(b"ticks", ticks as u64),
+        Completion::Completed(sweeps, ticks) => {
+            test_io::print_number(b"sweeps", sweeps as u64)
+                && test_io::print_number(b"ticks", ticks as u64)
+        }
         Completion::Refused(refused) => refusals::print_refusal(refused),
     }
 }

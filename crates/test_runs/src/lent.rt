@@ -1,7 +1,8 @@
 // Runs by plain sweeps and whole runs by the array, lent alike: the head of each, as test_io::runs has it, and the matrix. The answer is the
-// refusal, if it is refused, with its row and column where it has them, or the number of the array's ticks, and in each case the result
-// and the vectors.
+// refusal, if it is refused, with its row and column where it has them, or the number of sweeps made, and then of the array's ticks, and in
+// each case the result and the vectors.
 use array_run::Completion;
+use plain_run::Ran;
 use test_io::refusals;
 use test_io::runs;
 use test_io::runs::Head;
@@ -58,13 +59,23 @@ fn make_run(
     if by_array {
         return print_completion(array_run::run(n, sweeps, matrix, result, vectors));
     }
-    refusals::print_answer(plain_run::run(n, sweeps, matrix, result, vectors))
+    print_ran(plain_run::run(n, sweeps, matrix, result, vectors))
 }
 
-// Writes the number of ticks, or the refusal.
+// Writes the number of sweeps made, or the refusal.
+fn print_ran(ran: Ran) -> bool {
+    match ran {
+        Ran::Made(sweeps) => test_io::print_word(sweeps as u64),
+        Ran::Refused(refused) => refusals::print_refusal(refused),
+    }
+}
+
+// Writes the numbers of sweeps and of ticks made, or the refusal.
 fn print_completion(completion: Completion) -> bool {
     match completion {
-        Completion::Completed(ticks) => test_io::print_word(ticks as u64),
+        Completion::Completed(sweeps, ticks) => {
+            test_io::print_word(sweeps as u64) && test_io::print_word(ticks as u64)
+        }
         Completion::Refused(refused) => refusals::print_refusal(refused),
     }
 }

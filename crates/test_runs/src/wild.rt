@@ -1,7 +1,8 @@
-// Ticks of wild records: the order, the sweeps, the tick, and the word that every cell and line of all tiles
-// holds. The answer is what the tick answered, the number of the refusal if it is refused, and the record.
+// Ticks of wild records: the order, the sweeps, the tick, the word that every cell and line of all tiles holds, and
+// the turns of every tile. The answer is what the tick answered, the number of the refusal if it is refused, and the record.
 use crate::record;
 use array::Array;
+use sizes::MOST_COUNTED;
 use sizes::MOST_TILES;
 use test_io::TextLine;
 use tile::Tile;
@@ -9,6 +10,7 @@ use tile_schedule::Progress;
 use tile_wires::Part;
 use tile_wires::Quad;
 
+// Reads a record and answers its tick. Turns above the most that a tile counts to end the program.
 pub fn answer_tick() -> bool {
     let TextLine::Word(n) = test_io::read_word() else {
         return false;
@@ -22,13 +24,25 @@ pub fn answer_tick() -> bool {
     let TextLine::Word(word) = test_io::read_word() else {
         return false;
     };
+    let TextLine::Word(turns) = test_io::read_word() else {
+        return false;
+    };
+    if turns > MOST_COUNTED as u64 {
+        return false;
+    }
     let value = float64::from_bits(word);
-    let array = filled(n as usize, sweeps as usize, tick as usize, value);
+    let array = filled(
+        n as usize,
+        sweeps as usize,
+        tick as usize,
+        value,
+        turns as u16,
+    );
     answer(array)
 }
 
-// The record with one value in every cell and line, no tile marked.
-fn filled(n: usize, sweeps: usize, tick: usize, value: f64) -> Array {
+// The record with one value in every cell and line and so many turns in every tile, none of them marked.
+fn filled(n: usize, sweeps: usize, tick: usize, value: f64, turns: u16) -> Array {
     let quad = Quad {
         alpha: value,
         beta: value,
@@ -45,6 +59,7 @@ fn filled(n: usize, sweeps: usize, tick: usize, value: f64) -> Array {
         row_wire: value,
         column_wire: value,
         mark: false,
+        turns: turns,
     };
     Array {
         n: n,

@@ -8,13 +8,14 @@ use Rattle.systolic.specs.Slots.{Side, left, right, flip, Slot, slot, moved, in
 use Rattle.systolic.specs.Slots.{meetIn, meetAt}
 use Rattle.lists.specs.Bounded.{count, any, total}
 use Rattle.systolic.specs.Blocks.{Block, cell, tab, pick}
-use Rattle.systolic.specs.Synchronous.{rotateAll, moveAll, blocksAt, rotatedAt, rowParameter, columnParameter}
+use Rattle.systolic.specs.Synchronous.{rotateAll, moveAll, blocksAt, rotatedAt, rowParameter, columnParameter, keptAt}
 use Rattle.systolic.specs.Tiles.{Tile, carried, joined, phaseOf, action, actionAt, stepAt, turnTile}
 use Rattle.systolic.specs.Tiles.{newCells, newParameter, phaseIn, newWires, newTile, tickTile}
 use Rattle.systolic.specs.Arrays.{nearer, incoming, tick, arrayAfter}
 use Rattle.systolic.specs.Schedule.{interchange, Input, leadsTo, setInPhase0, setInPhase1, setInPhase2}
 use Rattle.systolic.specs.Traffic.{setsWire, receives, wiresSet, tilesReceive}
 use Rattle.systolic.specs.Sequential.{turnRows, turnColumns, pairBlock, place, pairStep, pairsStep, sequential, failsIn}
+use Rattle.systolic.specs.Sequential.{blockAtTurn, sequentialKept}
 use Rattle.test_systolic.specs.Toy.{toy, entry, toyArray, stampedArray}
 
 -- ---- lists and digits
@@ -119,7 +120,7 @@ outputs m =
     blockDigits 10 (interchanged i j) ∷ setByTest (setInPhase0 m) i j ∷ setByTest (setInPhase1 m) i j ∷ setByTest (setInPhase2 m) i j ∷ [])
 
 -- ---- the array
-unfoldable pub array : ℕ → ℕ → ℕ → ℕ → ℕ → Tile ℕ ℕ ℕ
+unfoldable pub array : ℕ → ℕ → ℕ → ℕ → ℕ → Tile ℕ ℕ ℕ ℕ
 unfolding toyArray pick flip carried joined phaseOf action actionAt stepAt turnTile newCells newParameter phaseIn newWires newTile
     tickTile nearer incoming tick arrayAfter
 array m K t = arrayAfter toyArray m K t
@@ -141,11 +142,16 @@ unfoldable pub marksAfter : ℕ → ℕ → List ℕ → List ℕ
 unfolding each upTo digits array
 marksAfter m K ts = each ts (λ t. digits 10 (suc m * suc m) (λ k. digit (array m K t (k / suc m) (k % suc m) .mark)))
 
--- all of a tile: cells, wires, parameter wires and mark beside each other
-unfoldable pub tileDigits : Tile ℕ ℕ ℕ → ℕ
+unfoldable pub keptAfter : ℕ → ℕ → List ℕ → List (List ℕ)
+unfolding each upTo square array
+keptAfter m K ts = each ts (λ t. square (suc m) (λ i j. array m K t i j .kept))
+
+-- all of a tile: cells, wires, parameter wires, mark and what is kept beside each other
+unfoldable pub tileDigits : Tile ℕ ℕ ℕ ℕ → ℕ
 unfolding blockDigits
 tileDigits x =
-    (((blockDigits 1000 (x .cells) * 1_000_000_000_000 + blockDigits 1000 (x .wires)) * 1000 + x .rowWire) * 1000 + x .columnWire) * 10 + digit (x .mark)
+    let wires = (blockDigits 1000 (x .cells) * 1_000_000_000_000 + blockDigits 1000 (x .wires)) * 1000 + x .rowWire in
+    ((wires * 1000 + x .columnWire) * 10 + digit (x .mark)) * 1000 + x .kept
 
 unfoldable pub tilesAfter : ℕ → ℕ → List ℕ → List (List ℕ)
 unfolding each upTo square tileDigits array
@@ -198,6 +204,12 @@ unfoldable pub plainOver : ℕ → ℕ → ℕ → List (List ℕ)
 unfolding listFrom digits plain
 plainOver b m n = listFrom 0 n (λ k. listFrom b (2 * m + 2) (λ r. digits 1000 (2 * m + 2) (λ c. plain b m k r (b + c))))
 
+-- what each processor keeps before each step
+unfoldable pub plainKeptOver : ℕ → ℕ → ℕ → List ℕ
+unfolding listFrom digits toy entry lineAt inOrder slot prior cameFrom intoLast turnRows turnColumns pairBlock place pairStep pairsStep sequential
+    blockAtTurn sequentialKept
+plainKeptOver b m n = listFrom 0 n (λ k. digits 1000 (suc m) (sequentialKept toy (inOrder b) m entry 904 k))
+
 -- for N = 1 to n, whether an entry fails after 0 to 3 steps, a digit each
 unfoldable pub failsOver : ℕ → List ℕ
 unfolding listFrom digits failsIn any plain
@@ -219,3 +231,8 @@ unfoldable pub sentOver : ℕ → ℕ → List (List ℕ)
 unfolding listFrom before rowParameter columnParameter
 sentOver m n =
     listFrom 0 n (λ k. listFrom 0 (suc m) (λ i. rowParameter toyArray m k i * 1000 + columnParameter toyArray m k i))
+
+-- and what each processor keeps
+unfoldable pub keptOver : ℕ → ℕ → List ℕ
+unfolding listFrom digits toyArray before keptAt
+keptOver m n = listFrom 0 n (λ k. digits 1000 (suc m) (keptAt toyArray m k))

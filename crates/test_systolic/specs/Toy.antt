@@ -25,6 +25,10 @@ alongRow k i b = (2 * (b .α) + 3 * (b .γ) + 5 * k + 7 * i + 1) % 997
 unfoldable pub alongColumn : ℕ → ℕ → Block ℕ → ℕ
 alongColumn k i b = (4 * (b .β) + 7 * (b .δ) + 13 * k + 17 * i + 9) % 997
 
+-- what it keeps for itself, from its block and what it kept
+unfoldable pub keeping : ℕ → ℕ → Block ℕ → ℕ → ℕ
+keeping k i b d = (3 * (b .α) + 8 * (b .β) + 2 * (b .γ) + 6 * (b .δ) + 5 * d + 41 * k + 43 * i + 5) % 997
+
 -- the new value at the left or the right line from the two old ones
 unfoldable pub rowTurned : ℕ → Side → ℕ → ℕ → ℕ
 rowTurned h left x y = ((h + x) * (y + 3)) % 997
@@ -37,8 +41,8 @@ columnTurned v right x y = ((v + y) * (5 * x + 11)) % 997
 unfoldable pub failing : ℕ → Bool
 failing x = eqb (x % 19) 18
 
-unfoldable pub toy : Rules ℕ ℕ ℕ
-unfolding mixed alongRow alongColumn rowTurned columnTurned failing
+unfoldable pub toy : Rules ℕ ℕ ℕ ℕ
+unfolding mixed alongRow alongColumn rowTurned columnTurned failing keeping
 toy =
     record {
       diagonal = mixed;
@@ -47,16 +51,17 @@ toy =
       rowTurn = rowTurned;
       columnTurn = columnTurned;
       fails = failing;
+      keeps = keeping;
     }
 
 -- the entry at the lines r and c
 unfoldable pub entry : ℕ → ℕ → ℕ
 entry r c = (100 + 37 * r + 101 * c + 17 * r * c + 5 * r * r) % 997
 
--- The array's start: lines from 1 in order; the wires start at 901, 902 and 903.
-unfoldable pub toyArray : Operations ℕ ℕ ℕ
+-- The array's start: lines from 1 in order; the wires start at 901, 902 and 903, and 904 is kept.
+unfoldable pub toyArray : Operations ℕ ℕ ℕ ℕ
 unfolding operationsOf toy inOrder entry slot cell tab blockAt turnBlockRows turnBlockColumns anyFails
-toyArray = operationsOf toy (inOrder 1) entry 901 902 903
+toyArray = operationsOf toy (inOrder 1) entry 901 902 903 904
 
 -- The rules do not show an off-diagonal processor's step, row and column, so here is an array in which they tell.
 unfoldable pub stamp : ℕ → ℕ → ℕ → ℕ → ℕ → Block ℕ → Block ℕ
@@ -68,7 +73,7 @@ stamp k i j h v b =
       δ = (3 * v + (b .γ) + 400 * k + 13 * i + 6 * j) % 997;
     }
 
-unfoldable pub stampedArray : Operations ℕ ℕ ℕ
+unfoldable pub stampedArray : Operations ℕ ℕ ℕ ℕ
 unfolding toyArray stamp
 stampedArray =
     record {
@@ -81,4 +86,6 @@ stampedArray =
       sendsColumn = alongColumn;
       offDiagonal = stamp;
       fails = anyFails toy;
+      keptStart = 904;
+      keeps = keeping;
     }

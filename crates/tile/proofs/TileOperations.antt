@@ -9,6 +9,7 @@ use Rattle.systolic.specs.Blocks.{Block}
 use Rattle.systolic.specs.Sequential.{turnBlockRows, turnBlockColumns, anyFails, operationsOf}
 use Rattle.systolic.specs.Tiles.{turnTile}
 use Rattle.rotation.specs.Rotation.{sent}
+use Rattle.runs.specs.Counts.{turnsAfter}
 use Rattle.runs.specs.Cells.{Cell, blockTurned, Setting, ruledBlock, rules}
 use Rattle.tile.specs.Tiles.{operations}
 
@@ -22,6 +23,10 @@ module _ (s : Setting) (k i : ℕ) (b : Block Cell) where
   pub tile-sends : (operations s .sendsRow k i b ≡ sent (ruledBlock s i b)) × (operations s .sendsColumn k i b ≡ sent (ruledBlock s i b))
   unfolding operations operationsOf rules
   tile-sends = (refl, refl)
+
+  pub tile-keeps : (d : ℕ) → operations s .keeps k i b d ≡ turnsAfter (s .order) k (ruledBlock s i b) d
+  unfolding operations operationsOf rules
+  tile-keeps d = refl
 
 abbrev cellFails : Cell → Bool
 cellFails x = not (finite (x .entry)) || not (finite (x .vector))

@@ -2,27 +2,29 @@
 use Prim.Native.Nat.{ℕ}
 use mathlib.Core.Path.{_≡_, refl, ap}
 use mathlib.Core.Bool.{Bool, true, false, not, cond, _||_}
-use borrow.Author.Tests.{eqb-false}
+use native.Mathlib.Omega.{arith}
+use borrow.Author.Tests.{eqb-false, eq-eqb}
 use lib.Dec.{eqb, ltb}
 use lib.Ieee.{Float}
 use Rattle.float64.specs.Values.{finite}
 use Rattle.systolic.specs.Blocks.{cell, tab}
 use Rattle.systolic.specs.Sequential.{turnBlockRows, turnBlockColumns, anyFails, operationsOf}
-use Rattle.systolic.specs.Tiles.{Action, idle, first, rotate, phase1, phase2, final, turnTile, newCells, newParameter}
+use Rattle.systolic.specs.Tiles.{Action, idle, first, rotate, phase1, phase2, final, distance, stepAt, turnTile, newCells, newParameter, newKept}
 use Rattle.tile_wires.specs.declared.Part.{Part}
 use Rattle.rotation.specs.declared.Angle.{Angle}
 use Rattle.rotation.specs.Rotation.{angleOf, ofTangent}
 use Rattle.runs.specs.Blocks.{matrixBlock, columnsBlock}
 use Rattle.runs.specs.Cells.{Setting, blockTurned, rules}
+use Rattle.tile.specs.declared.Tile.{Tile}
 use Rattle.tile.specs.declared.cells.Work.{Work}
 use Rattle.tile.specs.Tiles.{blockOf, operations}
-use Rattle.tile.specs.Turned.{rowsTurned, columnsTurned, bothTurned, offDiagonalOf, onDiagonalOf, rotatedOf, takenOf, workedOf}
+use Rattle.tile.specs.Turned.{rowsTurned, columnsTurned, bothTurned, offDiagonalOf, onDiagonalOf, rotatedOf, takenOf, workedOf, workBefore}
 use Rattle.tile.specs.Turned.{quadNotFinite, partNotFinite}
 
 module _ (s : Setting) (k i j : ℕ) where
-  on-diagonal : (p : Part) → blockOf (onDiagonalOf (s .order) i p .cells) ≡ operations s .diagonal k i (blockOf p)
+  on-diagonal : (w : Work) → blockOf (onDiagonalOf (s .order) k i w .cells) ≡ operations s .diagonal k i (blockOf (w .cells))
   unfolding blockOf onDiagonalOf columnsTurned matrixBlock columnsBlock operations operationsOf rules blockTurned
-  on-diagonal p = refl
+  on-diagonal w = refl
 
   off-diagonal : (h v : Float) (p : Part) → blockOf (offDiagonalOf p (ltb i j) (angleOf h) (angleOf v)) ≡ operations s .offDiagonal k i j h v (blockOf p)
   unfolding operations operationsOf
@@ -35,71 +37,96 @@ module _ (s : Setting) (k i j : ℕ) where
 
   -- a tile off the diagonal receives the angles of the tangents h and v
   module _ (h v : Float) (row column : Angle) (e : ¬ (i ≡ j) → row ≡ angleOf h) (f : ¬ (i ≡ j) → column ≡ angleOf v) where
-    abbrev passedOn : Part → Work
-    passedOn p = record { cells = offDiagonalOf p (ltb i j) row column; row = row .tangent; column = column .tangent }
+    abbrev passedOn : Work → Work
+    passedOn w = record { cells = offDiagonalOf (w .cells) (ltb i j) row column; row = row .tangent; column = column .tangent; turns = w .turns }
 
-    rotated-cells : (p : Part) → blockOf (rotatedOf (s .order) p i j row column .cells) ≡ turnTile (operations s) k i j h v (blockOf p)
+    rotated-cells : (w : Work) → blockOf (rotatedOf (s .order) k w i j row column .cells) ≡ turnTile (operations s) k i j h v (blockOf (w .cells))
     unfolding rotatedOf turnTile
-    rotated-cells p = go (eqb i j) refl
+    rotated-cells w = go (eqb i j) refl
       where
         go : (b : Bool) → eqb i j ≡ b
-            → blockOf (cond b (onDiagonalOf (s .order) i p) (passedOn p) .cells)
-            ≡ cond b (operations s .diagonal k i (blockOf p)) (operations s .offDiagonal k i j h v (blockOf p))
-        go true z = on-diagonal p
-        go false z = let n = eqb-false _ _ z in rw (e n, f n) (off-diagonal h v p)
+            → blockOf (cond b (onDiagonalOf (s .order) k i w) (passedOn w) .cells)
+            ≡ cond b (operations s .diagonal k i (blockOf (w .cells))) (operations s .offDiagonal k i j h v (blockOf (w .cells)))
+        go true z = on-diagonal w
+        go false z = let n = eqb-false _ _ z in rw (e n, f n) (off-diagonal h v (w .cells))
 
-    rotated-row : (p : Part) → rotatedOf (s .order) p i j row column .row ≡ cond (eqb i j) (operations s .sendsRow k i (blockOf p)) h
+    rotated-row : (w : Work) → rotatedOf (s .order) k w i j row column .row ≡ cond (eqb i j) (operations s .sendsRow k i (blockOf (w .cells))) h
     unfolding rotatedOf
-    rotated-row p = go (eqb i j) refl
+    rotated-row w = go (eqb i j) refl
       where
         go : (b : Bool) → eqb i j ≡ b
-            → cond b (onDiagonalOf (s .order) i p) (passedOn p) .row
-            ≡ cond b (operations s .sendsRow k i (blockOf p)) h
+            → cond b (onDiagonalOf (s .order) k i w) (passedOn w) .row
+            ≡ cond b (operations s .sendsRow k i (blockOf (w .cells))) h
         go true z = unfold onDiagonalOf operations operationsOf rules blockOf in refl
         go false z = ap (λ (x : Angle). x .tangent) (e (eqb-false _ _ z))
 
-    rotated-column : (p : Part) → rotatedOf (s .order) p i j row column .column ≡ cond (eqb i j) (operations s .sendsColumn k i (blockOf p)) v
+    rotated-column : (w : Work) → rotatedOf (s .order) k w i j row column .column ≡ cond (eqb i j) (operations s .sendsColumn k i (blockOf (w .cells))) v
     unfolding rotatedOf
-    rotated-column p = go (eqb i j) refl
+    rotated-column w = go (eqb i j) refl
       where
         go : (b : Bool) → eqb i j ≡ b
-            → cond b (onDiagonalOf (s .order) i p) (passedOn p) .column
-            ≡ cond b (operations s .sendsColumn k i (blockOf p)) v
+            → cond b (onDiagonalOf (s .order) k i w) (passedOn w) .column
+            ≡ cond b (operations s .sendsColumn k i (blockOf (w .cells))) v
         go true z = unfold onDiagonalOf operations operationsOf rules blockOf in refl
         go false z = ap (λ (x : Angle). x .tangent) (f (eqb-false _ _ z))
 
-    module _ (p q : Part) (r c : Float) where
-      pub worked-cells : (a : Action)
-          → blockOf (workedOf (s .order) a (takenOf a p q) i j row column r c .cells) ≡ newCells (operations s) k i j a (blockOf p) (blockOf q) h v
+    rotated-turns : (w : Work) → rotatedOf (s .order) k w i j row column .turns
+        ≡ cond (eqb i j) (operations s .keeps k i (blockOf (w .cells)) (w .turns)) (w .turns)
+    unfolding rotatedOf
+    rotated-turns w = go (eqb i j)
+      where
+        go : (b : Bool) → cond b (onDiagonalOf (s .order) k i w) (passedOn w) .turns
+            ≡ cond b (operations s .keeps k i (blockOf (w .cells)) (w .turns)) (w .turns)
+        go true = unfold onDiagonalOf operations operationsOf rules blockOf in refl
+        go false = refl
+
+    module _ (x : Tile) (q : Part) where
+      abbrev workOf : Action → Work
+      workOf a = workedOf (s .order) k a (workBefore x (takenOf a (x .cells) q)) i j row column
+
+      pub worked-cells : (a : Action) → blockOf (workOf a .cells) ≡ newCells (operations s) k i j a (blockOf (x .cells)) (blockOf q) h v
       unfolding newCells
       worked-cells idle = refl
-      worked-cells first = rotated-cells p
-      worked-cells rotate = rotated-cells q
+      worked-cells first = rotated-cells (workBefore x (x .cells))
+      worked-cells rotate = rotated-cells (workBefore x q)
       worked-cells phase1 = refl
       worked-cells phase2 = refl
       worked-cells final = refl
 
       pub worked-row : (a : Action)
-          → workedOf (s .order) a (takenOf a p q) i j row column r c .row
-          ≡ newParameter (operations s .sendsRow k i) i j a (blockOf p) (blockOf q) h r
+          → workOf a .row ≡ newParameter (operations s .sendsRow k i) i j a (blockOf (x .cells)) (blockOf q) h (x .«row_wire»)
       unfolding newParameter
       worked-row idle = refl
-      worked-row first = rotated-row p
-      worked-row rotate = rotated-row q
+      worked-row first = rotated-row (workBefore x (x .cells))
+      worked-row rotate = rotated-row (workBefore x q)
       worked-row phase1 = refl
       worked-row phase2 = refl
       worked-row final = refl
 
       pub worked-column : (a : Action)
-          → workedOf (s .order) a (takenOf a p q) i j row column r c .column
-          ≡ newParameter (operations s .sendsColumn k i) i j a (blockOf p) (blockOf q) v c
+          → workOf a .column ≡ newParameter (operations s .sendsColumn k i) i j a (blockOf (x .cells)) (blockOf q) v (x .«column_wire»)
       unfolding newParameter
       worked-column idle = refl
-      worked-column first = rotated-column p
-      worked-column rotate = rotated-column q
+      worked-column first = rotated-column (workBefore x (x .cells))
+      worked-column rotate = rotated-column (workBefore x q)
       worked-column phase1 = refl
       worked-column phase2 = refl
       worked-column final = refl
+
+      pub worked-turns : (a : Action) → workOf a .turns ≡ newKept (operations s .keeps k i) i j a (blockOf (x .cells)) (blockOf q) (x .turns)
+      unfolding newParameter
+      worked-turns idle = refl
+      worked-turns first = rotated-turns (workBefore x (x .cells))
+      worked-turns rotate = rotated-turns (workBefore x q)
+      worked-turns phase1 = refl
+      worked-turns phase2 = refl
+      worked-turns final = refl
+
+-- ---- a tile on the diagonal, by the step that it is in
+pub rotated-on : (n t : ℕ) (w : Work) (i j : ℕ) (row column : Angle) {x : Work} {k : ℕ} → i ≡ j → k ≡ stepAt 0 t → x ≡ onDiagonalOf n k i w
+    → x ≡ rotatedOf n (stepAt (distance i j) t) w i j row column
+unfolding rotatedOf
+rotated-on n t w i j row column e h f = let z : distance i j ≡ 0 = omega arith in rw (eq-eqb i j e, z, ← h) f
 
 -- ---- the mark
 fails-eight : (a b c d e f g h : Bool) → ((a || (b || (c || d))) || (e || (f || (g || h)))) ≡ ((((a || e) || (b || f)) || (c || g)) || (d || h))

@@ -24,12 +24,20 @@ quadOf b = record { alpha = b .α; beta = b .β; gamma = b .γ; delta = b .δ }
 unfoldable pub blockOf : Part → Block Cell
 blockOf p = cellsOf (quadBlock (p .matrix)) (quadBlock (p .vectors))
 
-unfoldable pub theTile : Tile → theory.Tile Cell Float Float
-theTile x = record { cells = blockOf (x .cells); wires = blockOf (x .wires); rowWire = x .«row_wire»; columnWire = x .«column_wire»; mark = x .mark }
+unfoldable pub theTile : Tile → theory.Tile Cell Float Float ℕ
+theTile x =
+    record {
+      cells = blockOf (x .cells);
+      wires = blockOf (x .wires);
+      rowWire = x .«row_wire»;
+      columnWire = x .«column_wire»;
+      mark = x .mark;
+      kept = x .turns;
+    }
 
 -- What the tiles do, by the rules of any run. A tick does not look at the start.
-unfoldable pub operations : Setting → Operations Cell Float Float
-operations s = operationsOf (rules s) (inOrder (firstLine (s .order))) (λ r c. cell plusZero plusZero) (cell plusZero plusZero) plusZero plusZero
+unfoldable pub operations : Setting → Operations Cell Float Float ℕ
+operations s = operationsOf (rules s) (inOrder (firstLine (s .order))) (λ r c. cell plusZero plusZero) (cell plusZero plusZero) plusZero plusZero 0
 
 -- What the wires bring to tile (i, j), where a, b, c and d are the wires of the tiles that its corners are joined with.
 unfoldable pub broughtTo : ℕ → ℕ → ℕ → Block Cell → Block Cell → Block Cell → Block Cell → Block Cell

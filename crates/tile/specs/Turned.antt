@@ -2,7 +2,6 @@
 use Prim.Native.Nat.{ℕ}
 use mathlib.Core.Bool.{Bool, not, cond, _||_}
 use lib.Dec.{eqb, ltb}
-use lib.Ieee.{Float}
 use Rattle.float64.specs.Values.{finite}
 use Rattle.systolic.specs.Tiles.{Action}
 use Rattle.systolic.specs.Traffic.{rotates, readsCells}
@@ -12,6 +11,7 @@ use Rattle.rotation.specs.declared.Angle.{Angle}
 use Rattle.rotation.specs.declared.Parameters.{Parameters}
 use Rattle.rotation.specs.Rotation.{ofAngle, sent, turnOf}
 use Rattle.runs.specs.Blocks.{blockParameters, ruled, matrixBlock, columnsBlock}
+use Rattle.runs.specs.Counts.{turnsAfter}
 use Rattle.tile.specs.declared.Tile.{Tile}
 use Rattle.tile.specs.declared.cells.Work.{Work}
 use Rattle.tile.specs.Tiles.{quadBlock, quadOf}
@@ -39,8 +39,10 @@ offDiagonalOf p above row column =
 abbrev pub quadParameters : ℕ → ℕ → Quad → Parameters
 quadParameters n i q = ruled n i (blockParameters (quadBlock q))
 
-unfoldable pub onDiagonalOf : ℕ → ℕ → Part → Work
-onDiagonalOf n i p =
+-- The work of the tile of processor i in step k; w before it.
+unfoldable pub onDiagonalOf : ℕ → ℕ → ℕ → Work → Work
+onDiagonalOf n k i w =
+    let p = w .cells in
     record {
       cells = record {
         matrix = quadOf (matrixBlock (quadParameters n i (p .matrix)) (quadBlock (p .matrix)));
@@ -48,25 +50,32 @@ onDiagonalOf n i p =
       };
       row = sent (quadParameters n i (p .matrix));
       column = sent (quadParameters n i (p .matrix));
+      turns = turnsAfter n k (quadParameters n i (p .matrix)) (w .turns);
     }
 
-unfoldable pub rotatedOf : ℕ → Part → ℕ → ℕ → Angle → Angle → Work
-rotatedOf n p i j row column =
-    cond (eqb i j) (onDiagonalOf n i p) (record { cells = offDiagonalOf p (ltb i j) row column; row = row .tangent; column = column .tangent })
+unfoldable pub rotatedOf : ℕ → ℕ → Work → ℕ → ℕ → Angle → Angle → Work
+rotatedOf n k w i j row column =
+    cond (eqb i j) (onDiagonalOf n k i w)
+    (record { cells = offDiagonalOf (w .cells) (ltb i j) row column; row = row .tangent; column = column .tangent; turns = w .turns })
 
 -- The cells that a tile works on: its own, p, or where it reads its wires what they bring, q.
 abbrev pub takenOf : Action → Part → Part → Part
 takenOf a p q = cond (readsCells a) q p
 
-abbrev pub workedOf : ℕ → Action → Part → ℕ → ℕ → Angle → Angle → Float → Float → Work
-workedOf n a p i j row column r c = cond (rotates a) (rotatedOf n p i j row column) (record { cells = p; row = r; column = c })
+abbrev pub workedOf : ℕ → ℕ → Action → Work → ℕ → ℕ → Angle → Angle → Work
+workedOf n k a w i j row column = cond (rotates a) (rotatedOf n k w i j row column) w
 
--- The tile with its cells and its parameter wires as they are after the tick.
+-- What a tile begins its work with, on the cells p.
+abbrev pub workBefore : Tile → Part → Work
+workBefore x p = record { cells = p; row = x .«row_wire»; column = x .«column_wire»; turns = x .turns }
+
+-- The tile with its cells, its parameter wires and its turns as they are after the tick.
 abbrev pub tileWorked : Tile → Work → Tile
-tileWorked x w = record { cells = w .cells; wires = x .wires; «row_wire» = w .row; «column_wire» = w .column; mark = x .mark }
+tileWorked x w = record { cells = w .cells; wires = x .wires; «row_wire» = w .row; «column_wire» = w .column; mark = x .mark; turns = w .turns }
 
-unfoldable pub turnedOf : ℕ → Action → Tile → Part → ℕ → ℕ → Angle → Angle → Tile
-turnedOf n a x q i j row column = tileWorked x (workedOf n a (takenOf a (x .cells) q) i j row column (x .«row_wire») (x .«column_wire»))
+-- In step k of a run of order n.
+unfoldable pub turnedOf : ℕ → ℕ → Action → Tile → Part → ℕ → ℕ → Angle → Angle → Tile
+turnedOf n k a x q i j row column = tileWorked x (workedOf n k a (workBefore x (takenOf a (x .cells) q)) i j row column)
 
 unfoldable pub quadNotFinite : Quad → Bool
 quadNotFinite q = not (finite (q .alpha)) || (not (finite (q .beta)) || (not (finite (q .gamma)) || not (finite (q .delta))))

@@ -1,6 +1,7 @@
 // The cells of a tile: taken in, rotated, tested.
 ghost use mathlib.Core.Path.{_≡_};
 ghost use mathlib.Core.Bool.{_||_};
+ghost use Rattle.systolic.specs.Tiles.{distance, stepAt};
 ghost use Rattle.tile_schedule.specs.Schedule.{theAction};
 ghost use Rattle.tile.specs.Turned.{rowsTurned, columnsTurned, bothTurned, offDiagonalOf, onDiagonalOf, rotatedOf, takenOf, workedOf};
 ghost use Rattle.tile.specs.Turned.{partNotFinite, quadNotFinite};
@@ -10,11 +11,12 @@ use tile_schedule::Action;
 use tile_wires::Part;
 use tile_wires::Quad;
 
-// The cells of a tile after its work, and what its parameter wires carry.
+// The cells of a tile, what its parameter wires carry, and its turns in the current sweep, before its work or after it.
 pub struct Work {
     pub cells: Part,
     pub row: f64,
     pub column: f64,
+    pub turns: u16,
 }
 
 // The cells that a tile works on: its own, or where it reads its wires what they bring.
@@ -30,45 +32,51 @@ pub fn taken(action: Action, cells: Part, brought: Part) -> Part
 pub fn worked(
     n: usize,
     action: Action,
-    cells: Part,
+    tick: usize,
+    before: Work,
     i: usize,
     j: usize,
     row: Angle,
     column: Angle,
-    old_row: f64,
-    old_column: f64,
 ) -> Work
-    ensures { λ r. ⌜ r ≡ workedOf n (theAction action) cells i j row column «old_row» «old_column» ⌝ }
+    ensures { λ r. ⌜ r ≡ workedOf n (stepAt (distance i j) tick) (theAction action) before i j row column ⌝ }
 {
     if tile_schedule::rotates(action) {
-        return rotated(n, cells, i, j, row, column);
+        return rotated(n, tick, before, i, j, row, column);
     }
-    Work {
-        cells: cells,
-        row: old_row,
-        column: old_column,
-    }
+    before
 }
 
-// A tile off the diagonal passes on the tangents that it receives.
-pub fn rotated(n: usize, part: Part, i: usize, j: usize, row: Angle, column: Angle) -> Work
-    ensures { λ r. ⌜ r ≡ rotatedOf n part i j row column ⌝ }
+// A tile off the diagonal passes on the tangents that it receives, and counts nothing.
+pub fn rotated(
+    n: usize,
+    tick: usize,
+    before: Work,
+    i: usize,
+    j: usize,
+    row: Angle,
+    column: Angle,
+) -> Work
+    ensures { λ r. ⌜ r ≡ rotatedOf n (stepAt (distance i j) tick) before i j row column ⌝ }
 {
     if i == j {
-        return on_diagonal(n, i, part);
+        return on_diagonal(n, tile_schedule::diagonal_step(tick), i, before);
     }
+    let part = before.cells;
     let cells = off_diagonal(part, i < j, row, column);
     Work {
         cells: cells,
         row: row.tangent,
         column: column.tangent,
+        turns: before.turns,
     }
 }
 
-// The tile of processor i finds its tangent and sends it along its row and its column.
-pub fn on_diagonal(n: usize, i: usize, part: Part) -> Work
-    ensures { λ r. ⌜ r ≡ onDiagonalOf n i part ⌝ }
+// The tile of processor i finds its tangent, sends it along its row and its column, and counts its turns.
+pub fn on_diagonal(n: usize, step: usize, i: usize, before: Work) -> Work
+    ensures { λ r. ⌜ r ≡ onDiagonalOf n step i before ⌝ }
 {
+    let part = before.cells;
     let a = part.matrix;
     let e = part.vectors;
     let parameters = runs::ruled(n, i, rotation::of_pair(a.alpha, a.delta, a.beta));
@@ -89,6 +97,7 @@ pub fn on_diagonal(n: usize, i: usize, part: Part) -> Work
         cells: cells,
         row: tangent,
         column: tangent,
+        turns: runs::turns_after(n, step, parameters, before.turns),
     }
 }
 

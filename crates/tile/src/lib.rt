@@ -1,28 +1,30 @@
 // One tile of the array in one tick (document 01, "The array").
 ghost use mathlib.Core.Path.{_≡_};
-ghost use Rattle.systolic.specs.Tiles.{distance, actionAt, settledTile};
+ghost use Rattle.systolic.specs.Tiles.{distance, stepAt, actionAt, settledTile};
 ghost use Rattle.tile_wires.specs.Wires.{incomingPart};
 ghost use Rattle.runs.specs.Cells.{Setting};
 ghost use Rattle.tile.specs.Tiles.{theTile, operations};
 ghost use Rattle.tile.specs.Turned.{turnedOf};
+use crate::cells::Work;
 use rotation::Angle;
 use tile_wires::Part;
 
 mod cells;
 
 // The cells of a tile, its outgoing wires, each named after the corner that it leaves by, its outgoing parameter wires along its row and
-// along its column, and its mark.
+// along its column, its mark, and the turns in the current sweep, which a tile on the diagonal counts.
 pub struct Tile {
     pub cells: Part,
     pub wires: Part,
     pub row_wire: f64,
     pub column_wire: f64,
     pub mark: bool,
+    pub turns: u16,
 }
 
 impl Tile {
-    // The tile in row i and column j, from 0, with its cells and its parameter wires as they are after a tick of a run of order n and of so many
-    // steps. Its cell wires bring the cells `brought`, its parameter wires the tangents of `row` and `column`.
+    // The tile in row i and column j, from 0, with its cells, its parameter wires and its turns as they are after a tick of a run of order n and of
+    // so many steps. Its cell wires bring the cells `brought`, its parameter wires the tangents of `row` and `column`.
     pub fn turned(
         self,
         n: usize,
@@ -34,23 +36,18 @@ impl Tile {
         i: usize,
         j: usize,
     ) -> Tile
-        ensures { λ r. ⌜ r ≡ turnedOf n (actionAt steps (distance i j) tick) self brought i j row column ⌝ }
+        ensures { λ r. ⌜ r ≡ turnedOf n (stepAt (distance i j) tick) (actionAt steps (distance i j) tick) self brought i j row column ⌝ }
     {
         let action = tile_schedule::action_at(steps, i, j, tick);
         let own = self.cells;
         let wires = self.wires;
-        let cells = cells::taken(action, own, brought);
-        let work = cells::worked(
-            n,
-            action,
-            cells,
-            i,
-            j,
-            row,
-            column,
-            self.row_wire,
-            self.column_wire,
-        );
+        let before = Work {
+            cells: cells::taken(action, own, brought),
+            row: self.row_wire,
+            column: self.column_wire,
+            turns: self.turns,
+        };
+        let work = cells::worked(n, action, tick, before, i, j, row, column);
         let new = work.cells;
         Tile {
             cells: new,
@@ -58,6 +55,7 @@ impl Tile {
             row_wire: work.row,
             column_wire: work.column,
             mark: self.mark,
+            turns: work.turns,
         }
     }
 
@@ -76,6 +74,7 @@ impl Tile {
             row_wire: self.row_wire,
             column_wire: self.column_wire,
             mark: mark,
+            turns: self.turns,
         }
     }
 }

@@ -1,6 +1,6 @@
 // What a tile does in a tick, by its distance from the diagonal, and what a tick of the array answers (document 01, "The array").
 ghost use mathlib.Core.Path.{_≡_};
-ghost use Rattle.systolic.specs.Tiles.{distance, action, actionAt, phaseIn};
+ghost use Rattle.systolic.specs.Tiles.{distance, action, actionAt, stepAt, phaseIn};
 ghost use Rattle.systolic.specs.Traffic.{rotates, readsCells, changesCells};
 ghost use Rattle.tile_schedule.specs.Schedule.{theAction, inStep};
 ghost use Rattle.tile_schedule.specs.Answers.{progressAnswered, progressOf, leftOf};
@@ -33,6 +33,13 @@ pub fn changes(steps: usize, tick: usize, i: usize, j: usize) -> bool
         return true;
     }
     reads(action)
+}
+
+// The step that the tiles on the diagonal are in.
+pub fn diagonal_step(tick: usize) -> usize
+    ensures { λ r. ⌜ r ≡ stepAt 0 tick ⌝ }
+{
+    tick / 3
 }
 
 // What the tile in row i and column j, from 0, does in a tick.

@@ -16,9 +16,9 @@ use Rattle.tile.specs.declared.Tile.{Tile}
 unfoldable pub zeroPart : Part
 zeroPart = record { matrix = quad plusZero plusZero plusZero plusZero; vectors = quad plusZero plusZero plusZero plusZero }
 
--- A tile with the given cells, its wires at +0, not marked.
+-- A tile with the given cells, its wires at +0, not marked, no turn counted.
 unfoldable pub startingTile : Part → Tile
-startingTile p = record { cells = p; wires = zeroPart; «row_wire» = plusZero; «column_wire» = plusZero; mark = false }
+startingTile p = record { cells = p; wires = zeroPart; «row_wire» = plusZero; «column_wire» = plusZero; mark = false; turns = 0 }
 
 -- The part of A in the rows r and r + 1 and the columns c and c + 1.
 unfoldable pub quadAt : (ℕ → ℕ → Float) → ℕ → ℕ → Quad

@@ -37,7 +37,7 @@ pub fn zero_tile() -> Tile
     tile_with(zero_part())
 }
 
-// A tile with these cells, its wires at +0, not marked.
+// A tile with these cells, its wires at +0, not marked, no turn counted.
 fn tile_with(cells: Part) -> Tile
     ensures { λ r. ⌜ r ≡ startingTile cells ⌝ }
 {
@@ -48,6 +48,7 @@ fn tile_with(cells: Part) -> Tile
         row_wire: 0.0,
         column_wire: 0.0,
         mark: false,
+        turns: 0,
     }
 }
 

@@ -2,10 +2,10 @@
 use crate::expected::{same_bits, FILLED};
 use crate::tally::{number_of, Tally};
 use draw::{Contents, Lent, Random};
-use reference::plain::{self, Tested};
+use reference::array::{self, Made};
 use reference::sizes::{ARRAY_WORDS, MOST_TILES};
-use reference::Refusal;
-use reference::{array, by_hand, forecast, listing, ordering, records, root, rotation, sheet};
+use reference::{by_hand, forecast, listing, ordering, plain, records, root, rotation, sheet};
+use reference::{Refusal, Way};
 use weimrukas::{Array, Parameters};
 
 const DRAWS: usize = 1_000;
@@ -87,7 +87,7 @@ fn compare_runs(lent: Lent, tally: &mut Tally) {
     let [result, vectors] = &mut one;
     let answer = weimrukas::plain_run(n, sweeps, &matrix, result, vectors);
     let [result, vectors] = &mut other;
-    let expected = plain::run(n, sweeps, &matrix, result, vectors, Tested::End);
+    let expected = plain::run(n, sweeps, &matrix, result, vectors, Way::Short);
     count(
         tally,
         answer,
@@ -97,10 +97,10 @@ fn compare_runs(lent: Lent, tally: &mut Tally) {
     let [result, vectors] = &mut one;
     let answer = weimrukas::array_run(n, sweeps, &matrix, result, vectors);
     let [result, vectors] = &mut other;
-    let expected = array::run(n, sweeps, &matrix, result, vectors);
+    let expected = array::run(n, sweeps, &matrix, result, vectors, Way::Short);
     count(
         tally,
-        answer,
+        answer.map(|weimrukas::Made { sweeps, ticks }| Made { sweeps, ticks }),
         expected,
         same_bits(&one.concat(), &other.concat()),
     );

@@ -1,5 +1,5 @@
 //! Draws of what a run is lent.
-use crate::values::ENTRY_KINDS;
+use crate::values::{ENTRY_KINDS, KINDS};
 use crate::Random;
 use reference::sizes::{MOST_LINES, MOST_SWEEPS};
 
@@ -19,19 +19,29 @@ const SWEEPS: usize = MOST_SWEEPS + 1;
 
 impl Lent {
     /// The number of runs with every order, every number of sweeps and every kind of entries.
-    pub const EACH: usize = ORDERS * SWEEPS * ENTRY_KINDS;
+    pub const EACH: usize = ORDERS * SWEEPS * KINDS;
 
-    /// A symmetric matrix with the entries drawn.
+    /// A symmetric matrix with the entries drawn alike.
     pub fn drawn(
         n: usize,
         sweeps: usize,
         random: &mut Random,
         entry: impl Fn(&mut Random) -> f64,
     ) -> Lent {
+        Lent::drawn_by_place(n, sweeps, random, |random, _, _| entry(random))
+    }
+
+    /// A symmetric matrix with the entries drawn by row and column, from 0, of which the column is not the larger.
+    pub fn drawn_by_place(
+        n: usize,
+        sweeps: usize,
+        random: &mut Random,
+        entry: impl Fn(&mut Random, usize, usize) -> f64,
+    ) -> Lent {
         let mut matrix = vec![0.0; n * n];
         for i in 0..n {
             for j in 0..=i {
-                let x = entry(random);
+                let x = entry(random, i, j);
                 matrix[i * n + j] = x;
                 matrix[j * n + i] = x;
             }
@@ -48,8 +58,13 @@ impl Lent {
     /// Run number k, in turn of every order, every number of sweeps and every kind of entries.
     pub fn each(k: usize, random: &mut Random) -> Lent {
         let (n, sweeps) = (2 + k % ORDERS, k / ORDERS % SWEEPS);
-        let kind = k / ORDERS / SWEEPS % ENTRY_KINDS;
-        Lent::drawn(n, sweeps, random, |random| random.entry(kind))
+        let kind = k / ORDERS / SWEEPS % KINDS;
+        Lent::drawn_by_place(n, sweeps, random, |random, i, j| {
+            match kind.checked_sub(ENTRY_KINDS) {
+                None => random.entry(kind),
+                Some(kind) => random.settling_entry(kind, i, j),
+            }
+        })
     }
 
     /// The same, of which one in four is damaged, in one to three ways.

@@ -1,7 +1,9 @@
 //! Draws of an array's words.
 use crate::values::ENTRY_KINDS;
 use crate::Random;
-use reference::sizes::{ticks, ARRAY_WORDS, HEAD_WORDS, MOST_LINES, MOST_SWEEPS, TILE_WORDS};
+use reference::sizes::{
+    sweep_steps, ticks, ARRAY_WORDS, HEAD_WORDS, MOST_LINES, MOST_SWEEPS, TILE_WORDS,
+};
 
 impl Random {
     /// What the words hold before a start: anything.
@@ -13,9 +15,11 @@ impl Random {
     /// A record as a caller may have written it.
     pub fn record(&mut self) -> Vec<u64> {
         let (n, sweeps) = (self.order(), self.sweeps());
-        let last = ticks(n.clamp(2, MOST_LINES), sweeps.min(MOST_SWEEPS));
+        let order = n.clamp(2, MOST_LINES);
+        let last = ticks(order, sweeps.min(MOST_SWEEPS));
         let tick = match self.below(8) {
             0 => self.word() as usize,
+            1 => 3 * sweep_steps(order) * self.below(MOST_SWEEPS),
             _ => self.below(last + 2),
         };
         let mut words = vec![0; ARRAY_WORDS];
@@ -24,7 +28,7 @@ impl Random {
         let kind = self.below(2 * ENTRY_KINDS);
         for tile in tiles.chunks_exact_mut(TILE_WORDS) {
             tile.fill_with(|| self.tile_word(kind));
-            tile[TILE_WORDS - 1] = self.mark();
+            (tile[TILE_WORDS - 2], tile[TILE_WORDS - 1]) = (self.mark(), self.turns());
         }
         self.lent_words(words)
     }
@@ -43,6 +47,17 @@ impl Random {
             self.entry(kind).to_bits()
         } else {
             self.pattern().to_bits()
+        }
+    }
+
+    /// A count of turns: none, one, around the most, or any word.
+    fn turns(&mut self) -> u64 {
+        match self.below(6) {
+            0 => self.word(),
+            1 => self.word() >> self.below(64),
+            2 => 0,
+            3 => 1,
+            _ => u16::MAX as u64 - 1 + self.below(3) as u64,
         }
     }
 

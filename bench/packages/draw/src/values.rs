@@ -7,8 +7,12 @@ const POWER: u64 = 1 << 52;
 /// The exponent of infinities and of patterns that are not numbers.
 const TOP: u64 = 0x7FF * POWER;
 
-/// Kinds of entries that a matrix may have.
+/// Kinds of entries that a matrix may have throughout.
 pub const ENTRY_KINDS: usize = 12;
+/// Kinds of matrices that soon have a quiet sweep.
+const SETTLING_KINDS: usize = 5;
+/// All of them.
+pub const KINDS: usize = ENTRY_KINDS + SETTLING_KINDS;
 
 impl Random {
     /// A value from -1 to 1.
@@ -87,6 +91,24 @@ impl Random {
             9 => ((self.below(17) / 16) as f64).copysign(self.unit()),
             10 => self.within(2045, 2046),
             _ => self.within(0, 3),
+        }
+    }
+
+    /// The entry in row i and column j, from 0, of a matrix of one of `SETTLING_KINDS` kinds: zeros of either sign beside
+    /// a diagonal; lines so far apart in size that every tangent is zero; every other line so, the others ordinary;
+    /// small entries beside a diagonal of whole numbers; or the same with a pair at the first two lines that spoils a run.
+    pub fn settling_entry(&mut self, kind: usize, i: usize, j: usize) -> f64 {
+        let far = |i: usize| 2f64.powi(600 + 5 * i as i32);
+        let small = 2f64.powi(-10 - self.below(40) as i32);
+        match kind {
+            0 if i == j => self.finite(),
+            0 => 0f64.copysign(self.unit()),
+            1 if i == j => far(i).copysign(self.unit()),
+            2 if i == j && i % 2 == 1 => far(i),
+            1 | 2 => self.unit(),
+            4 if i < 2 => f64::MAX,
+            _ if i == j => (i + 1) as f64,
+            _ => self.unit() * small,
         }
     }
 

@@ -20,4 +20,6 @@ fn main() {
     runs::measure_odd(&mut random);
     println!();
     runs::measure_sweeps(&mut random);
+    println!();
+    runs::measure_quiet(&mut random);
 }

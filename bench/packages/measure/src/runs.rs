@@ -1,12 +1,11 @@
-//! The plain run and the array's whole run, by order, odd orders beside even ones, and by sweeps.
+//! The plain run and the array's whole run, by order, odd orders beside even ones, by sweeps, and with quiet sweeps.
 use crate::orders::{self, Call};
 use draw::{Lent, Random};
-use measure::matrices::{drawn, SWEEPS};
+use measure::matrices::{drawn, settling, sweeps_made, SWEEPS};
 use measure::rounds::{fastest, round, shown};
 
-use reference::array;
-use reference::plain::{self, Tested};
-use reference::sizes::MOST_LINES;
+use reference::sizes::{MOST_LINES, MOST_SWEEPS};
+use reference::{array, plain, Way};
 
 pub fn measure_orders(random: &mut Random) {
     let names = ["plain", "array"].map(|run| format!("{run} run, {SWEEPS} sweeps"));
@@ -48,21 +47,54 @@ pub fn measure_odd(random: &mut Random) {
     }
 }
 
+/// The library's times where more sweeps are booked than it takes to settle, beside just as many.
+pub fn measure_quiet(random: &mut Random) {
+    const QUIET: usize = 7;
+    println!(
+        "| call | n | {QUIET} sweeps | {MOST_SWEEPS} sweeps, of which {QUIET} are made | ratio |"
+    );
+    println!("|---|---|---|---|---|");
+    for n in [8, 16, MOST_LINES] {
+        let all = settling(n, QUIET, random);
+        let mut booked = all.clone();
+        booked.iter_mut().for_each(|lent| lent.sweeps = MOST_SWEEPS);
+        let times = fastest([
+            round(&all, library_plain),
+            round(&booked, library_plain),
+            round(&all, library_array),
+            round(&booked, library_array),
+        ]);
+        for (name, [few, many]) in [
+            ("plain", [times[0], times[1]]),
+            ("array", [times[2], times[3]]),
+        ] {
+            println!(
+                "| {name} run | {n} | {} | {} | {:.2} |",
+                shown(few),
+                shown(many),
+                many / few
+            );
+        }
+    }
+}
+
 /// How the library's time grows with the sweeps at the largest order.
 pub fn measure_sweeps(random: &mut Random) {
     let n = MOST_LINES;
     println!(
-        "| n | sweeps | plain run | times 1 sweep | array run | times 1 sweep | array / plain |"
+        "| n | sweeps | made | plain run | times 1 sweep | array run | times 1 sweep | array / plain |"
     );
-    println!("|---|---|---|---|---|---|---|");
+    println!("|---|---|---|---|---|---|---|---|");
     let mut first = None;
     for sweeps in [1, 2, 4, 8, 16] {
         let all = drawn(n, sweeps, random);
+        let made = all.iter().map(|lent| sweeps_made(lent).min(sweeps));
+        let made = made.sum::<usize>() as f64 / all.len() as f64;
         let times = fastest([round(&all, library_plain), round(&all, library_array)]);
         let [one_plain, one_array] = *first.get_or_insert(times);
         let [plain, array] = times;
         println!(
-            "| {n} | {sweeps} | {} | {:.2} | {} | {:.2} | {:.2} |",
+            "| {n} | {sweeps} | {made} | {} | {:.2} | {} | {:.2} | {:.2} |",
             shown(plain),
             plain / one_plain,
             shown(array),
@@ -77,7 +109,7 @@ fn library_plain(lent: &mut Lent) -> bool {
     weimrukas::plain_run(lent.n, lent.sweeps, &lent.matrix, result, vectors).is_ok()
 }
 
-/// It tests for refusal 8 at the end only, as the library does.
+/// It ends after the first quiet sweep and tests for refusal 8 at the end only, as the library does.
 fn reference_plain(lent: &mut Lent) -> bool {
     let (result, vectors) = (&mut lent.result, &mut lent.vectors);
     plain::run(
@@ -86,7 +118,7 @@ fn reference_plain(lent: &mut Lent) -> bool {
         &lent.matrix,
         result,
         vectors,
-        Tested::End,
+        Way::Short,
     )
     .is_ok()
 }
@@ -98,5 +130,13 @@ fn library_array(lent: &mut Lent) -> bool {
 
 fn reference_array(lent: &mut Lent) -> bool {
     let (result, vectors) = (&mut lent.result, &mut lent.vectors);
-    array::run(lent.n, lent.sweeps, &lent.matrix, result, vectors).is_ok()
+    array::run(
+        lent.n,
+        lent.sweeps,
+        &lent.matrix,
+        result,
+        vectors,
+        Way::Short,
+    )
+    .is_ok()
 }

@@ -1,14 +1,16 @@
-//! The array and its whole run (document 01, "The array"; document 02, odd orders), with the processor's square root.
+//! The array and its whole run (document 01, "The array"; document 02, odd orders and quiet sweeps), with the processor's
+//! square root.
 use crate::checks;
 use crate::sizes::{self, is_odd, MOST_TILES};
 use crate::tile::{wires_set, Cell, Tile};
-use crate::Refusal;
+use crate::{Refusal, Way};
 
 /// The tiles in use, row by row, as many rows as columns; whether the order is odd, so that the first row and column of
-/// cells are line 0's; the number of steps, and that of the next tick.
+/// cells are line 0's; the steps of a sweep, the number of all steps, and that of the next tick.
 pub struct Array {
     pub side: usize,
     pub odd: bool,
+    pub sweep: usize,
     pub steps: usize,
     pub tick: usize,
     pub tiles: Vec<Tile>,
@@ -28,27 +30,46 @@ enum Action {
 /// What the tiles at each distance from the diagonal do.
 type Actions = [Action; MOST_TILES];
 
-/// Runs the sweeps, leaves the last matrix and the eigenvectors in the two results, and answers how many ticks were
-/// made.
+/// The sweeps and the ticks of a run up to its first quiet sweep, or of all its sweeps.
+#[derive(Clone, Copy, Debug, PartialEq, Eq)]
+pub struct Made {
+    pub sweeps: usize,
+    pub ticks: usize,
+}
+
+/// Runs the sweeps, leaves the last matrix and the eigenvectors in the two results, and answers what was made.
 pub fn run(
     n: usize,
     sweeps: usize,
     matrix: &[f64],
     result: &mut [f64],
     vectors: &mut [f64],
-) -> Result<usize, Refusal> {
+    way: Way,
+) -> Result<Made, Refusal> {
     checks::run(n, sweeps, matrix, result.len(), vectors.len())?;
     let mut array = Array::of_matrix(n, sweeps, matrix);
-    for _ in 0..sizes::ticks(n, sweeps) {
+    let mut quiet = None;
+    while !array.has_stopped() {
         array.make_tick();
+        if let Some(sweep) = array.quiet_sweep() {
+            quiet.get_or_insert(sweep);
+            if way == Way::Short {
+                array.steps = sweep * array.sweep;
+            }
+        }
     }
+    let sweeps = quiet.unwrap_or(sweeps);
+    let ticks = match way {
+        Way::Whole => sizes::ticks(n, sweeps),
+        Way::Short => array.tick,
+    };
     if array.is_spoiled() {
         result.fill(0.0);
         vectors.fill(0.0);
         return Err(Refusal::of(8));
     }
     array.write_cells(n, result, vectors);
-    Ok(array.tick)
+    Ok(Made { sweeps, ticks })
 }
 
 impl Array {
@@ -57,6 +78,7 @@ impl Array {
         let mut array = Array {
             side,
             odd: is_odd(n),
+            sweep: sizes::sweep_steps(n),
             steps: sweeps * sizes::sweep_steps(n),
             tick: 0,
             tiles: vec![Tile::default(); side * side],
@@ -90,6 +112,15 @@ impl Array {
     /// step later.
     pub fn has_stopped(&self) -> bool {
         (0..self.side).all(|away| self.tick > away + 3 * self.steps)
+    }
+
+    /// The sweep whose last rotations on the diagonal the last tick made, if no tile there counted a turn in it.
+    fn quiet_sweep(&self) -> Option<usize> {
+        let last = self.tick - 1;
+        let steps = last / 3 + 1;
+        let is_end = (last % 3, steps % self.sweep) == (0, 0) && steps <= self.steps;
+        let is_quiet = || (0..self.side).all(|i| self.tile(i, i).turns == 0);
+        (is_end && is_quiet()).then_some(steps / self.sweep)
     }
 
     /// Makes a tick. Tiles are marked where their cells may have changed.
@@ -153,10 +184,14 @@ impl Array {
 
     fn work(&mut self, actions: Actions) {
         let (last, odd) = (self.side - 1, self.odd);
+        let (tick, sweep) = (self.tick, self.sweep);
         for (i, row) in self.tiles.chunks_exact_mut(self.side).enumerate() {
             for (j, tile) in row.iter_mut().enumerate() {
                 match actions[i.abs_diff(j)] {
                     Action::First | Action::Rotate => {
+                        if i == j && tick / 3 % sweep == 0 {
+                            tile.turns = 0;
+                        }
                         tile.rotate(i, j, odd && i == 0);
                         tile.mark();
                         tile.set_wires(0, i, j, last);

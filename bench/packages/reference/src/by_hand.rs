@@ -12,6 +12,7 @@ const WIRES: usize = 8;
 const ROW: usize = 16;
 const COLUMN: usize = 17;
 const MARK: usize = 18;
+const TURNS: usize = 19;
 /// How far the eigenvectors' corners are from those of the matrix.
 const VECTORS: usize = 4;
 
@@ -60,6 +61,7 @@ fn load(n: usize, sweeps: usize, words: &[u64]) -> Array {
     Array {
         side,
         odd: sizes::is_odd(n),
+        sweep: sizes::sweep_steps(n),
         steps: sweeps * sizes::sweep_steps(n),
         tick: words[2] as usize,
         tiles: (0..side * side).map(tile).collect(),
@@ -88,6 +90,7 @@ fn tile_of(words: &[u64]) -> Tile {
         row: value(ROW),
         column: value(COLUMN),
         marked: words[MARK] != 0,
+        turns: u16::try_from(words[TURNS]).unwrap_or(u16::MAX),
     }
 }
 
@@ -97,6 +100,7 @@ fn put_tile(tile: &Tile, words: &mut [u64]) {
     words[ROW] = bits(tile.row);
     words[COLUMN] = bits(tile.column);
     words[MARK] = tile.marked as u64;
+    words[TURNS] = tile.turns.into();
 }
 
 fn put_corners(corners: &Corners, words: &mut [u64]) {

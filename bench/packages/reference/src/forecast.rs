@@ -13,7 +13,7 @@ pub struct Forecast {
     pub parameters: usize,
 }
 
-/// What any run of this order and these sweeps takes.
+/// The most that a run of this order and these sweeps can need: what it takes if it makes all of them.
 pub fn of_run(n: usize, sweeps: usize) -> Result<Forecast, Refusal> {
     checks::order(n)?;
     checks::sweeps(sweeps)?;

@@ -1,6 +1,6 @@
-//! Document 01, with document 02's line codes, odd orders and forecasts, in plain Rust. It shares nothing with the
-//! library that it is compared with, nor with the library's wrapper. Its square root is found by whole numbers; its
-//! runs use the processor's.
+//! Document 01, with document 02's line codes, odd orders, forecasts and quiet sweeps, in plain Rust. It shares nothing
+//! with the library that it is compared with, nor with the library's wrapper. Its square root is found by whole numbers;
+//! its runs use the processor's.
 #![forbid(unsafe_code)]
 
 pub mod array;
@@ -20,3 +20,12 @@ pub mod sizes;
 mod tile;
 
 pub use refusal::Refusal;
+
+/// How a run is made. Either way it leaves and answers the same.
+#[derive(Clone, Copy, PartialEq)]
+pub enum Way {
+    /// All sweeps are made, and the plain run is tested for refusal 8 after each step.
+    Whole,
+    /// The run ends after the first quiet sweep, and is tested for refusal 8 at its end.
+    Short,
+}

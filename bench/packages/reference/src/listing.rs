@@ -1,7 +1,7 @@
-//! The printed sheet (document 01, "The printed sheet").
+//! The printed sheet (document 01, "The printed sheet"; document 02, quiet sweeps).
 use crate::sizes::text_length;
-use crate::Refusal;
 use crate::{array, checks, sheet};
+use crate::{Refusal, Way};
 use std::fmt::Write;
 
 /// Puts the printed sheet into a lent text and answers how many bytes it has. A refusal leaves the text as it was.
@@ -17,8 +17,8 @@ fn printed(bytes: &[u8], room: usize) -> Result<String, Refusal> {
     let (n, sweeps) = sheet::read(bytes, &mut codes, &mut matrix)?;
     checks::room(room, text_length(n))?;
     let (mut result, mut vectors) = (vec![0.0; n * n], vec![0.0; n * n]);
-    let ticks = array::run(n, sweeps, &matrix, &mut result, &mut vectors)?;
-    let mut print = format!("{n} {sweeps} {ticks}\n");
+    let made = array::run(n, sweeps, &matrix, &mut result, &mut vectors, Way::Whole)?;
+    let mut print = format!("{n} {sweeps} {}\n", made.ticks);
     for (k, code) in codes.iter().enumerate() {
         let column = vectors.iter().skip(k).step_by(n);
         write!(print, "{code}").expect("a string grows");

@@ -1,56 +1,61 @@
-//! The plain run (document 01, "Plain run"), with the processor's square root. Line 0 of an odd order is left out: its
-//! pair is still, and what is cleared there is never reported.
+//! The plain run (document 01, "Plain run"; document 02, quiet sweeps), with the processor's square root. Line 0 of an odd
+//! order is left out: its pair is still, and what is cleared there is never reported.
 use crate::checks;
 use crate::ordering::Registers;
 use crate::rotation::{parameters, Turn};
 use crate::sizes::sweep_steps;
-use crate::Refusal;
+use crate::{Refusal, Way};
 
-/// When the two matrices are tested for refusal 8. An entry that is not finite stays so, so both give the same answer.
-#[derive(Clone, Copy, PartialEq)]
-pub enum Tested {
-    EachStep,
-    End,
-}
-
-/// Runs the sweeps, and leaves the last matrix and the eigenvectors in the two results.
+/// Runs the sweeps, leaves the last matrix and the eigenvectors in the two results, and answers the number of the first
+/// sweep in which every pair was still, or that of all sweeps. An entry that is not finite stays so, so that it makes no
+/// difference when the matrices are tested.
 pub fn run(
     n: usize,
     sweeps: usize,
     matrix: &[f64],
     result: &mut [f64],
     vectors: &mut [f64],
-    tested: Tested,
-) -> Result<(), Refusal> {
+    way: Way,
+) -> Result<usize, Refusal> {
     checks::run(n, sweeps, matrix, result.len(), vectors.len())?;
     result.copy_from_slice(matrix);
     vectors.fill(0.0);
     vectors.iter_mut().step_by(n + 1).for_each(|x| *x = 1.0);
     let mut registers = Registers::start(n);
-    let mut spoiled = false;
-    for _ in 0..sweeps * sweep_steps(n) {
-        for &(p, q) in registers.real_pairs() {
-            turn_pair(n, p - 1, q - 1, result, vectors);
+    let (mut spoiled, mut quiet) = (false, None);
+    for sweep in 1..=sweeps {
+        let mut turned = false;
+        for _ in 0..sweep_steps(n) {
+            for &(p, q) in registers.real_pairs() {
+                turned |= turn_pair(n, p - 1, q - 1, result, vectors);
+            }
+            spoiled |= way == Way::Whole && !all_finite(result, vectors);
+            registers.step();
         }
-        spoiled |= tested == Tested::EachStep && !all_finite(result, vectors);
-        registers.step();
+        if !turned {
+            quiet.get_or_insert(sweep);
+            if way == Way::Short {
+                break;
+            }
+        }
     }
     if spoiled || !all_finite(result, vectors) {
         result.fill(0.0);
         vectors.fill(0.0);
         return Err(Refusal::of(8));
     }
-    Ok(())
+    Ok(quiet.unwrap_or(sweeps))
 }
 
 fn all_finite(result: &[f64], vectors: &[f64]) -> bool {
     result.iter().chain(vectors).all(|x| x.is_finite())
 }
 
-/// Turns the pair of the lines p and q, from 0.
-fn turn_pair(n: usize, p: usize, q: usize, a: &mut [f64], vectors: &mut [f64]) {
+/// Turns the pair of the lines p and q, from 0, and tells whether it was not still.
+fn turn_pair(n: usize, p: usize, q: usize, a: &mut [f64], vectors: &mut [f64]) -> bool {
     let [app, aqq, apq] = [a[p * n + p], a[q * n + q], a[p * n + q]];
-    if let Some(turn) = parameters(app, aqq, apq) {
+    let found = parameters(app, aqq, apq);
+    if let Some(turn) = found {
         turn_rows(turn, n, p, q, a);
         turn_columns(turn, n, p, q, a);
         turn_columns(turn, n, p, q, vectors);
@@ -59,6 +64,7 @@ fn turn_pair(n: usize, p: usize, q: usize, a: &mut [f64], vectors: &mut [f64]) {
     }
     a[p * n + q] = 0.0;
     a[q * n + p] = 0.0;
+    found.is_some()
 }
 
 /// Turns the rows p and q, also where they meet the columns p and q: those entries are set anew.

@@ -1,5 +1,5 @@
-//! One tile: its rotation, its wires, its mark (document 01, "The array"; document 02, odd orders). Rows and columns of
-//! tiles are counted from 0.
+//! One tile: its rotation, its wires, its mark, its count of turns (document 01, "The array"; document 02, odd orders and
+//! quiet sweeps). Rows and columns of tiles are counted from 0.
 use crate::rotation::{of_tangent, parameters, Turn};
 
 /// An entry of the matrix and the like entry of the eigenvectors, which move together.
@@ -13,7 +13,7 @@ pub struct Cell {
 pub type Corners = [[Cell; 2]; 2];
 
 /// Beside its cells a tile holds its outgoing wires: one by each corner, and those that pass a tangent along its row
-/// and its column.
+/// and its column. On the diagonal it counts its turns in the current sweep.
 #[derive(Clone, Copy, Default)]
 pub struct Tile {
     pub cells: Corners,
@@ -21,6 +21,7 @@ pub struct Tile {
     pub row: f64,
     pub column: f64,
     pub marked: bool,
+    pub turns: u16,
 }
 
 /// Which wires of a tile are set in a phase, by row and column of their corners (document 003, Program 3).
@@ -54,6 +55,7 @@ impl Tile {
             Some(Turn { t, .. }) => (t, a - t * b, d + t * b),
             None => (0.0, a, d),
         };
+        self.turns = self.turns.saturating_add(turn.is_some() as u16);
         self.turn_columns(turn);
         let [[alpha, beta], [gamma, delta]] = &mut self.cells;
         (alpha.entry, beta.entry) = (a, 0.0);

@@ -50,15 +50,28 @@ mul-words-3 c = search needs
 slice-write-words-3 : tie.Need-slice-write-words-3
 slice-write-words-3 c = simp length-set (omega arith)
 
+cast-words-2 : tie.Need-cast-words-2
+cast-words-2 c = search needs
+
+add-words-4 : tie.Need-add-words-4
+add-words-4 c = search needs
+
+mul-words-4 : tie.Need-mul-words-4
+mul-words-4 c = search needs
+
+slice-write-words-4 : tie.Need-slice-write-words-4
+slice-write-words-4 c = simp length-set (omega arith)
+
 same-length : tie.Need-same-length
 same-length c = simp length-set (omega arith)
 
 returns : tie.Need-returns
 returns c =
-    let row = c .before .before in
+    let column = c .before .before in
+    let row = column .before in
     let wires = row .before .before .before in
     let cells = wires .before .before .before .before in
-    tile-written _ _ _ (cells .store-part .ensures) (wires .store-part2 .ensures) (row .to-bits .ensures) (c .before .to-bits2 .ensures)
+    tile-written _ _ _ (cells .store-part .ensures) (wires .store-part2 .ensures) (row .to-bits .ensures) (column .to-bits2 .ensures)
 
 pub store-tile-spec : {M : Type 1} → statement M
 store-tile-spec =
@@ -79,5 +92,9 @@ store-tile-spec =
     add-words-3
     mul-words-3
     slice-write-words-3
+    cast-words-2
+    add-words-4
+    mul-words-4
+    slice-write-words-4
     same-length
     returns)

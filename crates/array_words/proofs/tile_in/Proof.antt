@@ -30,12 +30,26 @@ add-word-at c = search needs
 word-at-requires : tie.Need-word-at-requires
 word-at-requires c κs = search needs
 
+add-turns-at : tie.Need-add-turns-at
+add-turns-at c = search needs
+
+turns-at-requires : tie.Need-turns-at-requires
+turns-at-requires c κs = search needs
+
 returns : tie.Need-returns
 unfolding tileIn
 returns c =
-    let v = c .before .before in
+    let w = c .before in
+    let v = w .before .before in
     let p = v .before in
-    rw (p .before .part-in .ensures, p .part-in2 .ensures, v .value-at .ensures, c .before .value-at2 .ensures, c .word-at .ensures)
+    rw (
+      p .before .part-in .ensures,
+      p .part-in2 .ensures,
+      v .value-at .ensures,
+      w .before .value-at2 .ensures,
+      w .word-at .ensures,
+      c .turns-at .ensures,
+    )
 
 pub tile-in-spec : {M : Type 1} → statement M
 tile-in-spec =
@@ -50,4 +64,6 @@ tile-in-spec =
     value-at-requires-2
     add-word-at
     word-at-requires
+    add-turns-at
+    turns-at-requires
     returns)

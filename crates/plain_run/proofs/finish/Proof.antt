@@ -20,7 +20,7 @@ returns : tie.Need-returns
 returns c =
     let spoiled = c .before .before .before .before in
     let tested = spoiled .before .before .before in
-    spoils _ _ _ (of-not _ (tested .before .both-finite .ensures) .0 (not-true _ (tested .if1 .taken))) (spoiled .spoil .ensures)
+    spoils _ _ _ _ (of-not _ (tested .before .both-finite .ensures) .0 (not-true _ (tested .if1 .taken))) (spoiled .spoil .ensures)
 
 same-length-3 : tie.Need-same-length-3
 same-length-3 c = search needs
@@ -29,7 +29,7 @@ same-length-4 : tie.Need-same-length-4
 same-length-4 c = search needs
 
 returns-2 : tie.Need-returns-2
-returns-2 c = stays _ _ _ (of-not _ (c .before .both-finite .ensures) .1 (not-false _ (c .if1 .left)))
+returns-2 c = stays _ _ _ _ (of-not _ (c .before .both-finite .ensures) .1 (not-false _ (c .if1 .left)))
 
 pub finish-spec : {M : Type 1} → statement M
 finish-spec =

@@ -1,5 +1,5 @@
 use Prim.Native.Nat.{_-_, _≤_}
-use mathlib.Core.Path.{refl}
+use mathlib.Core.Path.{_≡_, refl, _∙_}
 use native.Mathlib.Nat.{le-antisymm}
 use native.Mathlib.Omega.{arith}
 use borrow.Author.Needs.{needs}
@@ -12,17 +12,18 @@ use Rattle.plain_run.specs.State.{Paired, pairsRotated}
 use Rattle.plain_run.proofs.HeldStates.{no-pairs, pair-next}
 use Rattle.plain_run.proofs.ProcessorPairs.{are-real}
 use Rattle.plain_run.proofs.StepParameters.{Found}
+use Rattle.plain_run.proofs.CountedTurns.{turnsFound, still-uncounted, turn-more, turns-few, all-counted}
 use Rattle.plain_run.proofs.make_pairs.Statement.{statement}
 use Rattle.plain_run.proofs.make_pairs.Tie as tie
 
--- The pairs of the processors below k are turned, or always still. What falls is processors - k.
+-- The pairs of the processors below k are turned, or always still, and those that are not still are counted. What falls is processors - k.
 abbrev Inv-loop : tie.InvT-loop
-Inv-loop n a₀ vectors₀ found lefts rights processors k₀ a vectors k =
+Inv-loop n a₀ vectors₀ found lefts rights processors turns₀ k₀ a vectors turns k =
     (k ≤ processors) × (stillOf n ≤ k) × Paired n lefts rights processors × Found n found lefts rights (stateOf n a₀ vectors₀) processors
-    × Held n a vectors (pairsRotated n lefts rights k (stateOf n a₀ vectors₀))
+    × Held n a vectors (pairsRotated n lefts rights k (stateOf n a₀ vectors₀)) × (turns ≡ turnsFound n found k)
 
 abbrev μ-loop : tie.MeasureT-loop
-μ-loop n a₀ vectors₀ found lefts rights processors k₀ a vectors k = processors - k
+μ-loop n a₀ vectors₀ found lefts rights processors turns₀ k₀ a vectors turns k = processors - k
 
 processors-of-requires : tie.Need-processors-of-requires Inv-loop μ-loop
 processors-of-requires c κs = search needs
@@ -41,7 +42,22 @@ loop-holds c =
       rw N paired,
       rw N (at-start .pre .1 .1),
       no-pairs _ _ _ _ (held-itself _ _ _ (omega arith) (omega arith)) _ _ _ paired still (omega arith),
+      still-uncounted _ _ still,
     )
+
+mul-turns-of : tie.Need-mul-turns-of Inv-loop μ-loop
+mul-turns-of c = omega arith
+
+array-copy-out-turns-of : tie.Need-array-copy-out-turns-of Inv-loop μ-loop
+array-copy-out-turns-of c = omega arith
+
+turns-of-requires : tie.Need-turns-of-requires Inv-loop μ-loop
+turns-of-requires c κs = search needs
+
+add-turns : tie.Need-add-turns Inv-loop μ-loop
+add-turns c =
+    let i = c .before .before .before .loop .inv in
+    omega (arith, turns-few _ _ (turn-more _ _ _ (i .1) (i .5) (c .turns-of .ensures)))
 
 mul-turn : tie.Need-mul-turn Inv-loop μ-loop
 mul-turn c = omega arith
@@ -73,12 +89,20 @@ loop-less c = omega arith
 loop-again : tie.Need-loop-again Inv-loop μ-loop
 loop-again c =
     let turned = c .before .before .before .before in
-    let at-loop = turned .before .before .before .before .before .loop in
+    let counted = turned .before .before .before .before in
+    let at-loop = counted .before .before .before .loop in
     let i = at-loop .inv in
     let h = held-long _ _ _ _ (i .4) in
     let two = are-real _ _ _ _ (i .2 (at-loop .k) (omega arith)) (i .1) in
     let held = pair-held _ _ _ _ _ _ (two-as _ _ _ two (h .0)) (h .1) (turned .turn .ensures) in
-    (omega arith, omega arith, i .2, i .3, pair-next _ _ _ _ _ _ (i .4) _ _ _ _ _ (i .1) two refl (i .3 (at-loop .k) (i .1) (omega arith)) held)
+    let found = i .3 (at-loop .k) (i .1) (omega arith) in (
+      omega arith,
+      omega arith,
+      i .2,
+      i .3,
+      pair-next _ _ _ _ _ _ (i .4) _ _ _ _ _ (i .1) two refl found held,
+      turn-more _ _ _ (i .1) (i .5) (counted .turns-of .ensures),
+    )
 
 same-length : tie.Need-same-length Inv-loop μ-loop
 same-length c = omega (arith, held-long _ _ _ _ (c .before .loop .inv .4) .0)
@@ -89,7 +113,9 @@ same-length-2 c = omega (arith, held-long _ _ _ _ (c .before .loop .inv .4) .1)
 returns : tie.Need-returns Inv-loop μ-loop
 returns c =
     let i = c .before .loop .inv in
-    rw (le-antisymm (i .0) (c .loop-test .left), c .before .before .before .processors-of .ensures) at (i .4)
+    let last = le-antisymm (i .0) (c .loop-test .left) in
+    let processors = c .before .before .before .processors-of .ensures in
+    (all-counted _ _ (last ∙ processors) (i .5), rw (last, processors) at (i .4))
 
 pub make-pairs-spec : {M : Type 1} → statement M
 make-pairs-spec =
@@ -100,6 +126,10 @@ make-pairs-spec =
     processors-of-requires
     still-of-requires
     loop-holds
+    mul-turns-of
+    array-copy-out-turns-of
+    turns-of-requires
+    add-turns
     mul-turn
     array-copy-out-turn
     mul-turn-2

@@ -30,13 +30,9 @@ set-identity-requires c κs =
     let o = order-is _ (b .order) in
     (omega arith, omega (arith, b .vectors-long))
 
-steps-of-requires : tie.Need-steps-of-requires
-steps-of-requires c κs = let b = begun (start-of (c .before .before .before)) in (b .order, b .few)
-
-make-steps-requires : tie.Need-make-steps-requires
-make-steps-requires c κs =
-    let counted = c .before .before in
-    let at-identity = counted .before .before .before in
+make-sweeps-requires : tie.Need-make-sweeps-requires
+make-sweeps-requires c κs =
+    let at-identity = c .before .before .before .before in
     let b = begun (start-of (at-identity .before)) in
     (b .order, omega (arith, b .result-long), omega (arith, b .vectors-long))
 
@@ -46,8 +42,8 @@ transpose-requires c κs = search needs
 finish-requires : tie.Need-finish-requires
 finish-requires c κs =
     let at-columns = c .before .before .before .before in
-    let at-steps = at-columns .before .before .before .before .before .before in
-    let h = held-long _ _ _ _ (at-steps .make-steps .ensures) in
+    let at-sweeps = at-columns .before .before .before .before .before .before in
+    let h = held-long _ _ _ _ (at-sweeps .make-sweeps .ensures .1) in
     (h .0, omega (arith, h .1))
 
 same-length : tie.Need-same-length
@@ -60,14 +56,12 @@ returns : tie.Need-returns
 returns c =
     let at-end = c .before .before .before .before in
     let at-columns = at-end .before .before .before .before .before in
-    let at-steps = at-columns .before .before .before .before .before .before in
-    let counted = at-steps .before .before .before in
-    let at-identity = counted .before .before .before in
+    let at-sweeps = at-columns .before .before .before .before .before .before in
+    let at-identity = at-sweeps .before .before .before .before .before in
     let at-copy = at-identity .before .before .before .before in
     let known = at-copy .before .before .before .before in
-    let held = rw (counted .steps-of .ensures) at (at-steps .make-steps .ensures) in
-    run-made _ _ _ (known .shared-slice-known .given) _ _ (begun (known .before)) _ _ _ _ _ (at-copy .copy .ensures)
-    (at-identity .set-identity .ensures) held (at-columns .transpose .ensures) (at-end .finish .ensures)
+    run-made _ _ _ (known .shared-slice-known .given) _ _ (begun (known .before)) _ _ _ _ _ _ (at-copy .copy .ensures)
+    (at-identity .set-identity .ensures) (at-sweeps .make-sweeps .ensures) (at-columns .transpose .ensures) (at-end .finish .ensures)
 
 pub run-accepted-spec : {M : Type 1} → statement M
 run-accepted-spec =
@@ -75,8 +69,7 @@ run-accepted-spec =
     (tie.spec
     copy-requires
     set-identity-requires
-    steps-of-requires
-    make-steps-requires
+    make-sweeps-requires
     transpose-requires
     finish-requires
     same-length

@@ -1,6 +1,8 @@
 //! The runs of a shared library that is loaded by its file.
 use draw::Lent;
 use std::ffi::{c_char, c_int, c_void, CStr, CString};
+use std::fs;
+use std::path::Path;
 
 const RTLD_NOW: c_int = 2;
 
@@ -9,14 +11,25 @@ extern "C" {
     fn dlsym(library: *mut c_void, name: *const c_char) -> *mut c_void;
 }
 
+/// A run that sets two numbers, three or four. Before version 0.7.0 the sweeps made are not among them.
 #[rustfmt::skip]
-type PlainRun = unsafe extern "C" fn(
+type RunOf2 = unsafe extern "C" fn(
     usize, usize, *const f64, usize, *mut f64, usize, *mut f64, usize, *mut usize, *mut usize,
 ) -> u8;
 #[rustfmt::skip]
-type ArrayRun = unsafe extern "C" fn(
+type RunOf3 = unsafe extern "C" fn(
     usize, usize, *const f64, usize, *mut f64, usize, *mut f64, usize, *mut usize, *mut usize, *mut usize,
 ) -> u8;
+#[rustfmt::skip]
+type RunOf4 = unsafe extern "C" fn(
+    usize, usize, *const f64, usize, *mut f64, usize, *mut f64, usize, *mut usize, *mut usize, *mut usize, *mut usize,
+) -> u8;
+
+/// The plain run and the array's run.
+enum Runs {
+    WithoutSweeps(RunOf2, RunOf3),
+    WithSweeps(RunOf3, RunOf4),
+}
 
 /// Whether a run is accepted that is lent this and these numbers.
 macro_rules! accepts {
@@ -40,13 +53,13 @@ macro_rules! accepts {
     }};
 }
 
-pub struct Library {
-    plain_run: PlainRun,
-    array_run: ArrayRun,
-}
+pub struct Library(Runs);
 
 impl Library {
+    /// Loads PREFIX/lib/libweimrukas.so, of which PREFIX/include/weimrukas.h tells what the runs take.
     pub fn load(file: &str) -> Library {
+        let prefix = Path::new(file).ancestors().nth(2).expect("a folder");
+        let header = fs::read_to_string(prefix.join("include/weimrukas.h")).expect("a header");
         let name = CString::new(file).expect("a file name has no NUL");
         // SAFETY: the library has no code that runs when it is loaded, and its header says what the two functions take.
         unsafe {
@@ -57,22 +70,33 @@ impl Library {
                 assert!(!found.is_null(), "{file} has no {name:?}");
                 found
             };
-            Library {
-                plain_run: std::mem::transmute::<*mut c_void, PlainRun>(function(
-                    c"weimrukas_plain_run",
-                )),
-                array_run: std::mem::transmute::<*mut c_void, ArrayRun>(function(
-                    c"weimrukas_array_run",
-                )),
-            }
+            let plain_run = function(c"weimrukas_plain_run");
+            let array_run = function(c"weimrukas_array_run");
+            Library(if header.contains("sweeps_made") {
+                Runs::WithSweeps(
+                    std::mem::transmute::<*mut c_void, RunOf3>(plain_run),
+                    std::mem::transmute::<*mut c_void, RunOf4>(array_run),
+                )
+            } else {
+                Runs::WithoutSweeps(
+                    std::mem::transmute::<*mut c_void, RunOf2>(plain_run),
+                    std::mem::transmute::<*mut c_void, RunOf3>(array_run),
+                )
+            })
         }
     }
 
     pub fn plain_run(&self, lent: &mut Lent) -> bool {
-        accepts!((self.plain_run), lent, row, column)
+        match self.0 {
+            Runs::WithoutSweeps(run, _) => accepts!(run, lent, row, column),
+            Runs::WithSweeps(run, _) => accepts!(run, lent, sweeps, row, column),
+        }
     }
 
     pub fn array_run(&self, lent: &mut Lent) -> bool {
-        accepts!((self.array_run), lent, ticks, row, column)
+        match self.0 {
+            Runs::WithoutSweeps(_, run) => accepts!(run, lent, ticks, row, column),
+            Runs::WithSweeps(_, run) => accepts!(run, lent, sweeps, ticks, row, column),
+        }
     }
 }

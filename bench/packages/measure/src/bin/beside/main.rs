@@ -4,13 +4,14 @@ mod library;
 
 use draw::Random;
 use library::Library;
-use measure::matrices::{drawn, SWEEPS};
+use measure::matrices::{restless, SWEEPS};
 use measure::rounds::{fastest, round, shown};
 use reference::sizes::MOST_LINES;
 use std::env;
 
 const SEED: u64 = 1983;
-const ORDERS: [usize; 4] = [2, 8, 16, MOST_LINES];
+/// Orders with numbers of sweeps of which none is quiet, so that a version which ends early makes them all.
+const SIZES: [(usize, usize); 4] = [(2, 1), (8, SWEEPS), (16, SWEEPS), (MOST_LINES, SWEEPS)];
 const TIMES: usize = 3;
 
 fn main() {
@@ -20,16 +21,16 @@ fn main() {
     };
     let libraries = [before, now].map(|file| Library::load(file));
     let mut random = Random::new(SEED);
-    println!("| run of {SWEEPS} sweeps | n | before | now | now / before, {TIMES} times |");
-    println!("|---|---|---|---|---|");
-    for n in ORDERS {
-        measure(&libraries, n, &mut random);
+    println!("| run | n | sweeps | before | now | now / before, {TIMES} times |");
+    println!("|---|---|---|---|---|---|");
+    for (n, sweeps) in SIZES {
+        measure(&libraries, n, sweeps, &mut random);
     }
 }
 
 /// Prints the rows of an order.
-fn measure([before, now]: &[Library; 2], n: usize, random: &mut Random) {
-    let all = drawn(n, SWEEPS, random);
+fn measure([before, now]: &[Library; 2], n: usize, sweeps: usize, random: &mut Random) {
+    let all = restless(n, sweeps, random);
     let times = [(); TIMES].map(|()| {
         fastest([
             round(&all, |lent| before.plain_run(lent)),
@@ -48,7 +49,7 @@ fn measure([before, now]: &[Library; 2], n: usize, random: &mut Random) {
         };
         let ratios = pairs.map(|[before, now]| format!("{:.2}", now / before));
         println!(
-            "| {run} | {n} | {} | {} | {} |",
+            "| {run} | {n} | {sweeps} | {} | {} | {} |",
             shown(least(0)),
             shown(least(1)),
             ratios.join(", ")

@@ -1,37 +1,51 @@
-use Prim.Native.Nat.{_-_, _≤_}
+use Prim.Native.Nat.{_-_, _*_, _≤_}
 use mathlib.Core.Path.{_≡_, refl, ap, _∙_}
 use mathlib.Core.Bool.{true}
 use native.Mathlib.Nat.{le-antisymm}
 use native.Mathlib.Omega.{arith}
 use borrow.Author.Needs.{needs}
-use Rattle.sizes.specs.Sizes.{isOrder}
+use Rattle.lists.proofs.Bounded.{count-most}
+use Rattle.sizes.specs.Sizes.{mostProcessors, isOrder}
 use Rattle.ordering.specs.Pairs.{registersAt, afterStep}
-use Rattle.sizes.proofs.Orders.{order-is}
+use Rattle.sizes.proofs.Orders.{order-is, order-half, few-steps}
 use Rattle.ordering.proofs.OrderRegisters.{of-order, next-at}
 use Rattle.plain_pair.specs.Pair.{stateOf, Held}
 use Rattle.plain_pair.proofs.AlikeStates.{held-itself, held-long}
 use Rattle.plain_run.specs.State.{after}
+use Rattle.plain_run.specs.Quiet.{turnsBy}
 use Rattle.plain_run.proofs.HeldStates.{no-steps, step-next}
 use Rattle.plain_run.proofs.ProcessorPairs.{registers-paired}
 use Rattle.plain_run.proofs.StepParameters.{step-found}
-use Rattle.plain_run.proofs.make_steps.Statement.{statement}
-use Rattle.plain_run.proofs.make_steps.Tie as tie
+use Rattle.plain_run.proofs.CountedTurns.{none-counted, turns-next}
+use Rattle.plain_run.proofs.make_sweep.Statement.{statement}
+use Rattle.plain_run.proofs.make_sweep.Tie as tie
 
--- The two lists hold the state after k steps and the registers stand at step k. What falls is count - k.
+-- The two lists hold the state after k steps, the registers stand at step k, and the turns so far are counted: a step has mostProcessors
+-- at most. What falls is steps - k.
 abbrev Inv-loop : tie.InvT-loop
-Inv-loop n count a₀ vectors₀ registers₀ k₀ a vectors registers k =
-    (k ≤ count) × (isOrder n ≡ true) × (registers ≡ registersAt n k) × Held n a vectors (after n k (stateOf n a₀ vectors₀))
+Inv-loop n a₀ vectors₀ steps registers₀ turns₀ k₀ a vectors registers turns k =
+    (k ≤ steps) × (isOrder n ≡ true) × (registers ≡ registersAt n k) × Held n a vectors (after n k (stateOf n a₀ vectors₀))
+    × (turns ≡ turnsBy n k (stateOf n a₀ vectors₀)) × (turns ≤ mostProcessors * k)
 
 abbrev μ-loop : tie.MeasureT-loop
-μ-loop n count a₀ vectors₀ registers₀ k₀ a vectors registers k = count - k
+μ-loop n a₀ vectors₀ steps registers₀ turns₀ k₀ a vectors registers turns k = steps - k
+
+sweep-steps-requires : tie.Need-sweep-steps-requires Inv-loop μ-loop
+sweep-steps-requires c κs = search needs
 
 of-order-requires : tie.Need-of-order-requires Inv-loop μ-loop
 of-order-requires c κs = search needs
 
 loop-holds : tie.Need-loop-holds Inv-loop μ-loop
 loop-holds c =
-    let p = c .before .before .before .pre in
-    (omega arith, p .0, of-order _ (p .0) (c .of-order .ensures), no-steps _ _ _ _ (held-itself _ _ _ (p .1) (p .2)))
+    let p = c .before .before .before .before .pre in (
+      omega arith,
+      p .0,
+      of-order _ (p .0) (c .of-order .ensures),
+      no-steps _ _ _ _ (held-itself _ _ _ (p .1) (p .2)),
+      none-counted _ _,
+      omega arith,
+    )
 
 tangents-of-requires : tie.Need-tangents-of-requires Inv-loop μ-loop
 tangents-of-requires c κs = order-is _ (c .before .before .loop .inv .1) .1
@@ -55,6 +69,13 @@ make-pairs-requires c κs =
       ),
     )
 
+add-turns : tie.Need-add-turns Inv-loop μ-loop
+add-turns c =
+    let turned = c .before .before .before .before in
+    let at-loop = turned .before .before .before .before .before .before .before in
+    let i = at-loop .loop .inv in
+    omega (arith, count-most _ _ (turned .make-pairs .ensures .0), i .5, order-half _ (i .1), few-steps _ (i .1))
+
 after-step-requires : tie.Need-after-step-requires Inv-loop μ-loop
 after-step-requires c κs = search needs
 
@@ -67,12 +88,17 @@ loop-less c = omega arith
 loop-again : tie.Need-loop-again Inv-loop μ-loop
 loop-again c =
     let turned = c .before .before .before .before .before in
-    let at-loop = turned .before .before .before .before .before .before .before .loop in
-    let i = at-loop .inv in (
+    let with-parameters = turned .before .before .before in
+    let at-loop = with-parameters .before .before .before .before .loop in
+    let i = at-loop .inv in
+    let found = with-parameters .parameters-of .result in
+    let at-turn = make-pairs-requires (turned .before) (turned .make-pairs .lifetimes) .1 .1 in (
       omega arith,
       i .1,
       of-order _ (i .1) (c .after-step .ensures) ∙ ap (afterStep _) (i .2) ∙ next-at _ _ (i .1),
-      step-next _ _ _ _ _ _ (i .3) (at-loop .registers) _ _ (i .2) (rw (i .2) (registers-paired _ (i .1) _)) refl (turned .make-pairs .ensures),
+      step-next _ _ _ _ _ _ (i .3) (at-loop .registers) _ _ (i .2) (rw (i .2) (registers-paired _ (i .1) _)) refl (turned .make-pairs .ensures .1),
+      turns-next _ (i .1) (at-loop .registers) (at-loop .k) _ found _ _ (i .2) (i .3) at-turn (i .4) (turned .make-pairs .ensures .0),
+      omega (arith, count-most _ _ (turned .make-pairs .ensures .0), i .5, order-half _ (i .1)),
     )
 
 same-length : tie.Need-same-length Inv-loop μ-loop
@@ -84,19 +110,22 @@ same-length-2 c = omega (arith, held-long _ _ _ _ (c .before .loop .inv .3) .1)
 returns : tie.Need-returns Inv-loop μ-loop
 returns c =
     let i = c .before .loop .inv in
-    rw (le-antisymm (i .0) (c .loop-test .left)) at (i .3)
+    let last = le-antisymm (i .0) (c .loop-test .left) ∙ c .before .before .before .sweep-steps .ensures in
+    (rw last at (i .4), rw last at (i .3))
 
-pub make-steps-spec : {M : Type 1} → statement M
-make-steps-spec =
+pub make-sweep-spec : {M : Type 1} → statement M
+make-sweep-spec =
     tie.close
     (tie.spec
     Inv-loop
     μ-loop
+    sweep-steps-requires
     of-order-requires
     loop-holds
     tangents-of-requires
     parameters-of-requires
     make-pairs-requires
+    add-turns
     after-step-requires
     add-k
     loop-less
