@@ -120,7 +120,7 @@ impl Array {
 
     // The array after `count` more ticks, which are all made. In each tick all tiles turn before any sets its cell wires;
     // a tile does not set its parameter wires while another takes what they bring.
-    fn after(self, count: usize) -> Array
+    pub fn after(self, count: usize) -> Array
         requires { ⌜ GoesOn self count ⌝ }
         ensures { λ r. ⌜ r ≡ ticked count self ⌝ }
     {

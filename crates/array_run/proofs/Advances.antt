@@ -215,6 +215,14 @@ module _ (x : Array) (order : isOrder (x .n) ≡ true) (few : x .sweeps ≤ most
         let e = h .by-ticks ∙ ticked-made x (done m) (going m (done m) (omega arith) (omega arith)) in
         (ap (λ (z : Array). z .n) e, ap (λ (z : Array). z .sweeps) e, ap (λ (z : Array). z .tick) e ∙ rw (begins, zero-add))
 
+    pub swept-goes : GoesOn y (next - y .tick)
+    swept-goes =
+        record {
+          order = rw (y-is .0) order;
+          few = rw (y-is .1) few;
+          room = rw (y-is .0, y-is .1) (omega (arith, y-is .2, apart, fits (m + 1) (omega arith)));
+        }
+
     -- the record before the tick that ends the next sweep
     abbrev last : Array
     last = ticked between y

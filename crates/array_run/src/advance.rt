@@ -7,8 +7,8 @@ ghost use Rattle.array_run.specs.Advance.{noneCounted, advancedBy};
 use array::Array;
 use sizes::MOST_PROCESSORS;
 
-// The array at the end of a run from the start. The tiles on the diagonal have made their rotations of m sweeps of L steps once the tick 3 (m L - 1)
-// is made; up to there no S can be lowered.
+// The array at the end of a run from the start. With L steps in a sweep the tick 3 (m L - 1) has the last rotations on the diagonal in sweep m, and S
+// can be lowered only right after such a tick. So the ticks up to it are made in one go.
 pub fn to_the_end(start: Array) -> Array
     requires { ⌜ (isOrder (start .n) ≡ true) × (start .sweeps ≤ mostSweeps) × (start .tick ≡ 0) ⌝ }
     ensures { λ r. ⌜ r ≡ advancedBy (ticksOf (start .n) (start .sweeps)) start ⌝ }
@@ -19,7 +19,7 @@ pub fn to_the_end(start: Array) -> Array
     let mut array = start;
     for m in 0..sweeps {
         let next = 3 * sizes::steps_of(n, m + 1) - 2;
-        array = array.ticks(next - array.tick);
+        array = array.after(next - array.tick);
         if none_counted(array) {
             array.sweeps = m + 1;
             return array.ticks(end - next);

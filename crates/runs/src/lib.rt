@@ -86,7 +86,7 @@ fn counted(parameters: Parameters, turns: u16) -> u16
     turns
 }
 
-// Whether a step, from 0, is the first of a sweep.
+// Whether a step, from 0, is the first of a sweep. Order 0 has no steps in a sweep.
 fn begins_sweep(n: usize, step: usize) -> bool
     ensures { λ r. ⌜ r ≡ beginsSweep n step ⌝ }
 {
