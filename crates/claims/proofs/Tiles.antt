@@ -26,7 +26,7 @@ use Rattle.rotation.specs.Rotation.{sent}
 use Rattle.matrix.specs.Matrix.{at}
 use Rattle.runs.specs.State.{identity, bordered, startOf}
 use Rattle.runs.specs.Blocks.{blockParameters}
-use Rattle.runs.specs.Counts.{counted, beginsSweep, turnsAfter}
+use Rattle.runs.specs.Counts.{turnCounted, beginsSweep, turnsAfter}
 use Rattle.runs.specs.Cells.{Cell, cell, cellOf, blockEntries, Setting, setting, ruledBlock}
 use Rattle.runs.proofs.BlockTurns.{rows-turned, columns-turned}
 use Rattle.tile_schedule.specs.Answers.{made, progressAnswered}
@@ -44,7 +44,7 @@ use Rattle.claims.proofs.FirstProcessor.{ruled-first}
 
 -- ---- the count, by the page's words
 counted-as : (n k : ℕ) (P : Parameters) (d : ℕ) → turnsAfter n k P d ≡ countedOn P (cond (eqb (k % sweepSteps n) 0) 0 d)
-unfolding turnsAfter counted beginsSweep
+unfolding turnsAfter turnCounted beginsSweep
 counted-as n k Still d = refl
 counted-as n k (Turn t c s) d = refl
 

@@ -14,7 +14,7 @@ use Rattle.sizes.specs.Sizes.{isOrder, processorsOf, sweepSteps, firstLine}
 use Rattle.sizes.proofs.Orders.{few-steps}
 use Rattle.rotation.specs.declared.Parameters.{Parameters}
 use Rattle.runs.specs.State.{State}
-use Rattle.runs.specs.Counts.{counted, turnsAfter}
+use Rattle.runs.specs.Counts.{turnCounted, turnsAfter}
 use Rattle.runs.specs.Cells.{cellOf, Setting, rules}
 use Rattle.runs.proofs.TurnCounts.{counts-one, counts-anew, counts-on, begins-at}
 use Rattle.plain_run.specs.Quiet.{parametersAt, turnsIn, quiet, turnsFrom}
@@ -57,7 +57,7 @@ module _ (S : Setting) (order : isOrder (S .order) ≡ true) (X : State) where
       let most = few-steps n order in
       kept-next k i l
       ∙ sym (counts-on P (kept k i) n k (begins-at n j (suc s) h ∙ ne-eqb (suc s) 0 (λ e. omega arith)) refl)
-      ∙ ap (counted P) (ap (λ (m : ℕ). kept m i) before ∙ kept-turns j s i l (omega arith))
+      ∙ ap (turnCounted P) (ap (λ (m : ℕ). kept m i) before ∙ kept-turns j s i l (omega arith))
       ∙ counts-one P (turnsFrom n z (suc s) i X) (omega (arith, few, most))
 
   -- no processor turns in sweep j + 1 exactly if the sweep is quiet

@@ -7,27 +7,27 @@ use borrow.Author.Tests.{lt-ltb, le-ltb}
 use lib.Dec.{eqb}
 use Rattle.rotation.specs.declared.Parameters.{Parameters}
 use Rattle.sizes.specs.Sizes.{mostCounted, sweepSteps}
-use Rattle.runs.specs.Counts.{isTurn, counted, beginsSweep, turnsAfter}
+use Rattle.runs.specs.Counts.{isTurn, turnCounted, beginsSweep, turnsAfter}
 
 module _ (P : Parameters) (d : ℕ) where
-  pub still-counts : isTurn P ≡ false → d ≡ counted P d
-  unfolding counted
+  pub still-counts : isTurn P ≡ false → d ≡ turnCounted P d
+  unfolding turnCounted
   still-counts e = rw e
 
-  pub turn-counts : isTurn P ≡ true → d < mostCounted → d + 1 ≡ counted P d
-  unfolding counted
+  pub turn-counts : isTurn P ≡ true → d < mostCounted → d + 1 ≡ turnCounted P d
+  unfolding turnCounted
   turn-counts e l = rw (e, lt-ltb d mostCounted l)
 
-  pub most-counts : isTurn P ≡ true → mostCounted ≤ d → d ≡ counted P d
-  unfolding counted
+  pub most-counts : isTurn P ≡ true → mostCounted ≤ d → d ≡ turnCounted P d
+  unfolding turnCounted
   most-counts e l = rw (e, le-ltb d mostCounted l)
 
   module _ (n k : ℕ) where
-    pub counts-anew : beginsSweep n k ≡ true → {c : ℕ} → c ≡ counted P 0 → c ≡ turnsAfter n k P d
+    pub counts-anew : beginsSweep n k ≡ true → {c : ℕ} → c ≡ turnCounted P 0 → c ≡ turnsAfter n k P d
     unfolding turnsAfter
     counts-anew e h = rw e h
 
-    pub counts-on : beginsSweep n k ≡ false → {c : ℕ} → c ≡ counted P d → c ≡ turnsAfter n k P d
+    pub counts-on : beginsSweep n k ≡ false → {c : ℕ} → c ≡ turnCounted P d → c ≡ turnsAfter n k P d
     unfolding turnsAfter
     counts-on e h = rw e h
 
@@ -51,8 +51,8 @@ begins-at n j s l =
     (ap (λ (x : ℕ). (x + s) % sweepSteps n) (mul-comm j (sweepSteps n)) ∙ mul-add-mod-self-left (sweepSteps n) j s ∙ mod-eq-of-lt l)
 
 -- a count below the most
-pub counts-one : (P : Parameters) (d : ℕ) → d < mostCounted → counted P d ≡ cond (isTurn P) 1 0 + d
-unfolding counted
+pub counts-one : (P : Parameters) (d : ℕ) → d < mostCounted → turnCounted P d ≡ cond (isTurn P) 1 0 + d
+unfolding turnCounted
 counts-one P d l = rw (lt-ltb d mostCounted l) (go (isTurn P))
   where
     go : (b : Bool) → cond (b && true) (d + 1) d ≡ cond b 1 0 + d

@@ -12,8 +12,8 @@ isTurn Still = false
 isTurn (Turn t c s) = true
 
 -- The count d, and one more where the pair turns; a count at the most stays there.
-unfoldable pub counted : Parameters → ℕ → ℕ
-counted P d = cond (isTurn P && ltb d mostCounted) (d + 1) d
+unfoldable pub turnCounted : Parameters → ℕ → ℕ
+turnCounted P d = cond (isTurn P && ltb d mostCounted) (d + 1) d
 
 -- Step k, from 0, is the first of a sweep.
 unfoldable pub beginsSweep : ℕ → ℕ → Bool
@@ -21,4 +21,4 @@ beginsSweep n k = eqb (k % sweepSteps n) 0
 
 -- The turns in the current sweep after step k, in which the processor has the parameters P; d before it. The count begins anew with a sweep.
 unfoldable pub turnsAfter : ℕ → ℕ → Parameters → ℕ → ℕ
-turnsAfter n k P d = counted P (cond (beginsSweep n k) 0 d)
+turnsAfter n k P d = turnCounted P (cond (beginsSweep n k) 0 d)

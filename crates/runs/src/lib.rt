@@ -3,7 +3,7 @@ ghost use mathlib.Core.Path.{_≡_};
 ghost use Rattle.refusal.specs.Answers.{answered};
 ghost use Rattle.runs.specs.State.{identity};
 ghost use Rattle.runs.specs.Blocks.{ruled};
-ghost use Rattle.runs.specs.Counts.{isTurn, counted, beginsSweep, turnsAfter};
+ghost use Rattle.runs.specs.Counts.{isTurn, turnCounted, beginsSweep, turnsAfter};
 ghost use Rattle.runs.specs.Outcome.{beforeRun, slicesAnswer};
 use refusal::Answer;
 use refusal::Refusal;
@@ -68,14 +68,14 @@ pub fn turns_after(n: usize, step: usize, parameters: Parameters, turns: u16) ->
     ensures { λ r. ⌜ r ≡ turnsAfter n step parameters turns ⌝ }
 {
     if begins_sweep(n, step) {
-        return counted(parameters, 0);
+        return turn_counted(parameters, 0);
     }
-    counted(parameters, turns)
+    turn_counted(parameters, turns)
 }
 
 // One more than `turns`, where a pair with these parameters is turned; at most the most.
-fn counted(parameters: Parameters, turns: u16) -> u16
-    ensures { λ r. ⌜ r ≡ counted parameters turns ⌝ }
+fn turn_counted(parameters: Parameters, turns: u16) -> u16
+    ensures { λ r. ⌜ r ≡ turnCounted parameters turns ⌝ }
 {
     if !is_turn(parameters) {
         return turns;

@@ -3,8 +3,8 @@ use native.Mathlib.Omega.{arith}
 use borrow.Author.Needs.{needs}
 use borrow.Author.Tests.{not-true, not-false}
 use Rattle.runs.proofs.TurnCounts.{still-counts, turn-counts, most-counts}
-use Rattle.runs.proofs.counted.Statement.{statement}
-use Rattle.runs.proofs.counted.Tie as tie
+use Rattle.runs.proofs.turn_counted.Statement.{statement}
+use Rattle.runs.proofs.turn_counted.Tie as tie
 
 is-turn-requires : tie.Need-is-turn-requires
 is-turn-requires c κs = search needs
@@ -21,5 +21,5 @@ returns-2 c = let t = c .before in turn-counts _ _ (sym (t .before .is-turn .ens
 returns-3 : tie.Need-returns-3
 returns-3 c = let t = c .before in most-counts _ _ (sym (t .before .is-turn .ensures) ∙ not-false _ (t .if1 .left)) (omega arith)
 
-pub counted-spec : {M : Type 1} → statement M
-counted-spec = tie.close (tie.spec is-turn-requires returns add-result returns-2 returns-3)
+pub turn-counted-spec : {M : Type 1} → statement M
+turn-counted-spec = tie.close (tie.spec is-turn-requires returns add-result returns-2 returns-3)
