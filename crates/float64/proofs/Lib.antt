@@ -10,6 +10,7 @@ pub mod Operands
 pub mod Vanishing
 pub mod Rounding
 pub mod Bounds
+pub mod FiniteBounds
 pub mod UnitOperations
 pub mod Halving
 pub mod HalfDifferences

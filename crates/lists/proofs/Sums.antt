@@ -1,12 +1,12 @@
 -- Sums over the numbers below a bound. Assumes nothing.
 use Prim.Native.Nat.{ℕ, zero, suc, _+_, _*_, _≤_, _<_}
-use mathlib.Core.Path.{_≡_, refl}
+use mathlib.Core.Path.{_≡_, refl, _∙_}
 use mathlib.Core.Bool.{Bool, true, false, not, cond}
 use native.Mathlib.Omega.{arith}
-use native.Mathlib.Nat.{suc-mul}
+use native.Mathlib.Nat.{add-zero, add-suc, suc-mul, mul-zero}
 use borrow.Author.Tests.{ltb-true, ltb-false, eqb-true, eqb-false, eq-eqb, lt-ltb, le-ltb}
 use lib.Dec.{ltb, eqb}
-use Rattle.lists.specs.Bounded.{any, total}
+use Rattle.lists.specs.Bounded.{count, any, total}
 use Rattle.lists.proofs.Bounded.{sum-none}
 
 pub total-below : (f g : ℕ → ℕ) (n : ℕ) → ((i : ℕ) → i < n → f i ≡ g i) → total n f ≡ total n g
@@ -47,3 +47,37 @@ module _ (f : ℕ → ℕ) (x : ℕ) where
       let h : total (suc n) f + cond (ltb k (suc n)) x 0 ≡ suc n * x = but-one k (suc n) e in
       let g : total (suc n) f + x ≡ n * x + x = rw (lt-ltb k (suc n) l, suc-mul n x) at h in
       omega arith
+
+-- a sum in two parts
+pub total-parts : (f : ℕ → ℕ) (a b : ℕ) → total (a + b) f ≡ total a f + total b (λ i. f (a + i))
+unfolding total
+total-parts f a zero = rw (add-zero a) (omega arith)
+total-parts f a (suc b) = rw (add-suc a b, total-parts f a b) (omega arith)
+
+-- terms of b at most
+pub total-most : (f : ℕ → ℕ) (b n : ℕ) → ((i : ℕ) → i < n → f i ≤ b) → total n f ≤ n * b
+unfolding total
+total-most f b zero h = omega arith
+total-most f b (suc n) h =
+    let few : total n f ≤ n * b = total-most f b n (λ i l. h i (omega arith)) in
+    let last : f n ≤ b = h n (omega arith) in
+    rw (suc-mul n b) (omega arith)
+
+-- ---- sums exchanged
+total-plus : (f g : ℕ → ℕ) (n : ℕ) → total n (λ i. f i + g i) ≡ total n f + total n g
+unfolding total
+total-plus f g zero = refl
+total-plus f g (suc n) = rw (total-plus f g n) (omega arith)
+
+total-ones : (f : ℕ → Bool) (n : ℕ) → total n (λ i. cond (f i) 1 0) ≡ count f n
+unfolding total count
+total-ones f zero = refl
+total-ones f (suc n) = rw (total-ones f n) (omega arith)
+
+-- how many of the first k numbers and the first n pass a test together, summed by the latter or by the former
+pub total-exchanged : (f : ℕ → ℕ → Bool) (n k : ℕ) → total n (λ i. count (λ s. f s i) k) ≡ total k (λ s. count (f s) n)
+unfolding total count
+total-exchanged f n zero = total-same (λ i. 0) 0 n (λ i l. refl) ∙ mul-zero n
+total-exchanged f n (suc k) =
+    total-plus (λ i. cond (f k i) 1 0) (λ i. count (λ s. f s i) k) n
+    ∙ rw (total-ones (f k) n, total-exchanged f n k) (omega arith)
