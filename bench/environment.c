@@ -44,19 +44,20 @@ static uint64_t bits_of(double x) {
 }
 
 static int run(const double *matrix, double results[2][ENTRIES]) {
-    size_t sweeps, row, column;
-    return weimrukas_plain_run(N, SWEEPS, matrix, ENTRIES, results[0], ENTRIES, results[1], ENTRIES, &sweeps, &row,
-                               &column);
+    size_t sweeps, rounded, row, column;
+    return weimrukas_plain_run(N, SWEEPS, matrix, ENTRIES, results[0], ENTRIES, results[1], ENTRIES, &sweeps, &rounded,
+                               &row, &column);
 }
 
 static struct given give(void) {
     struct given given;
     double ordinary[ENTRIES], subnormal[ENTRIES];
+    uint8_t exact;
     for (int k = 0; k < ENTRIES; k++) {
         ordinary[k] = entries[k];
         subnormal[k] = of_bits(entries[k] * SMALL);
     }
-    weimrukas_root(of_bits(SMALL), &given.root);
+    weimrukas_root(of_bits(SMALL), &given.root, &exact);
     given.ordinary_answer = run(ordinary, given.ordinary);
     given.subnormal_answer = run(subnormal, given.subnormal);
     return given;

@@ -38,13 +38,14 @@ static void forecast(void) {
 
 static void run(void) {
     double array_result[ENTRIES], array_vectors[ENTRIES];
-    size_t sweeps = 0, ticks = 0;
-    accepted(weimrukas_plain_run(N, SWEEPS, matrix, ENTRIES, result, ENTRIES, vectors, ENTRIES, &sweeps, &row, &column));
-    printf("%zu sweeps made of %d\n", sweeps, SWEEPS);
+    size_t sweeps = 0, ticks = 0, rounded = 0;
+    accepted(weimrukas_plain_run(N, SWEEPS, matrix, ENTRIES, result, ENTRIES, vectors, ENTRIES, &sweeps, &rounded, &row,
+                                 &column));
+    printf("%zu sweeps made of %d, %zu pairs rounded\n", sweeps, SWEEPS, rounded);
     accepted(weimrukas_array_run(N, SWEEPS, matrix, ENTRIES, array_result, ENTRIES, array_vectors, ENTRIES, &sweeps,
-                                 &ticks, &row, &column));
+                                 &ticks, &rounded, &row, &column));
     int same = memcmp(result, array_result, sizeof result) == 0 && memcmp(vectors, array_vectors, sizeof vectors) == 0;
-    printf("%zu sweeps and %zu ticks of the array: %s by plain sweeps\n", sweeps, ticks,
+    printf("%zu sweeps and %zu ticks of the array, %zu pairs rounded: %s by plain sweeps\n", sweeps, ticks, rounded,
            same ? "the same bits as" : "other bits than");
     for (size_t k = 0; k < N; k++) {
         printf("line %d: eigenvalue %.6f, eigenvector", codes[k], result[k * N + k]);
@@ -68,7 +69,12 @@ static void run_by_hand(void) {
         const uint64_t *cell = words + WEIMRUKAS_TILE(i / 2, j / 2) + i % 2 * 2 + j % 2;
         same += memcmp(cell, result + k, sizeof *cell) == 0;
     }
-    printf("%d ticks by hand: %d of %d cells have the same bits\n", (int)words[2], same, ENTRIES);
+    int rounded = 0;
+    for (size_t k = 0; k < (N + 1) / 2; k++) {
+        rounded += (int)words[WEIMRUKAS_TILE(k, k) + WEIMRUKAS_TILE_WORDS - 1];
+    }
+    printf("%d ticks by hand: %d of %d cells have the same bits, %d pairs rounded\n", (int)words[2], same, ENTRIES,
+           rounded);
 }
 
 static void use_sheet(void) {
@@ -93,9 +99,9 @@ int main(void) {
     run_by_hand();
     use_sheet();
     matrix[1 * N + 2] = NAN;
-    size_t sweeps = 0;
-    int number =
-        weimrukas_plain_run(N, SWEEPS, matrix, ENTRIES, result, ENTRIES, vectors, ENTRIES, &sweeps, &row, &column);
+    size_t sweeps = 0, rounded = 0;
+    int number = weimrukas_plain_run(N, SWEEPS, matrix, ENTRIES, result, ENTRIES, vectors, ENTRIES, &sweeps, &rounded,
+                                     &row, &column);
     printf("refused %d at row %zu, column %zu\n", number, row, column);
     return 0;
 }

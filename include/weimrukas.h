@@ -14,7 +14,7 @@
  *      4  line code: zero, or used before; a sheet of the long form of which no code is above 255
  *      5  entry: not finite
  *      6  entry a_ij and its mirror a_ji differ in bits
- *      7  lent bytes, text, registers or records: too short
+ *      7  lent bytes, text, registers, records or flags: too short
  *      8  end of a run: an entry is no longer finite
  *      9  square root: not a number, or below zero
  *
@@ -35,6 +35,12 @@
  * tiles of an array by hand; matrices, results, sheets and listings have the lines 1 to n alone.
  *
  * A matrix is n * n doubles, row by row. A double that is not a number is always given back as 7FF8000000000000.
+ *
+ * Exact and rounded. A square root is exact if its square is the value itself; those of +0, -0 and +infinity are. A
+ * pair takes two roots: that of 1 + xi * xi for its tangent t, where xi = (d / 2 - a / 2) / b, and that of 1 + t * t for
+ * its cosine, each operation rounded before the root is taken. It is exact if both roots are, and also where b is zero;
+ * it is rounded if one of them is not, and also where t is not a number. A pair that is still is always exact, as that
+ * of processor 1 is where n is odd; one that turns may be either.
  *
  * Floating point. All that is said here holds in the default floating-point environment only: rounding to nearest,
  * subnormal values kept, no exception trapped. In another one a call may answer otherwise or leave other bits, and does
@@ -58,7 +64,7 @@ extern "C" {
 #define WEIMRUKAS_RESTRICT restrict
 #endif
 
-#define WEIMRUKAS_VERSION "0.7.0"
+#define WEIMRUKAS_VERSION "0.8.0"
 
 #define WEIMRUKAS_MOST_LINES 32 /* the largest order */
 #define WEIMRUKAS_MOST_SWEEPS 16
@@ -84,16 +90,17 @@ static inline int weimrukas_environment_is_default(void) {
     return above == one && below == one && twice == least;
 }
 
-/* Sets *root to the f64 nearest to the exact square root of x. 9. */
-uint8_t weimrukas_root(double x, double *WEIMRUKAS_RESTRICT root);
+/* Sets *root to the f64 nearest to the exact square root of x, and *exact to 1 if it is exact, otherwise to 0. 9. */
+uint8_t weimrukas_root(double x, double *WEIMRUKAS_RESTRICT root, uint8_t *WEIMRUKAS_RESTRICT exact);
 
 /*
  * The parameters of a pair with the left line p and the right line q, from a = a_pp, d = a_qq and b = a_pq: *turn is 1
  * and *t, *c and *s are tangent, cosine and sine; or the pair is still, *turn is 0 and they are +0, 1 and +0. Where a, d
- * and b are finite, so are these.
+ * and b are finite, so are these. *exact is 1 if the pair is exact and 0 if it is rounded.
  */
 void weimrukas_parameters(double a, double d, double b, uint8_t *WEIMRUKAS_RESTRICT turn, double *WEIMRUKAS_RESTRICT t,
-                          double *WEIMRUKAS_RESTRICT c, double *WEIMRUKAS_RESTRICT s);
+                          double *WEIMRUKAS_RESTRICT c, double *WEIMRUKAS_RESTRICT s,
+                          uint8_t *WEIMRUKAS_RESTRICT exact);
 
 /*
  * The list of pairs of order n in a step, from 0: left[k - 1] and right[k - 1] become the registers of processor k, and
@@ -106,22 +113,25 @@ uint8_t weimrukas_pairs(size_t n, size_t step, size_t *WEIMRUKAS_RESTRICT left, 
 /*
  * The parameters of the N pairs of a step, from 0, found from the matrix as lent: t, c and s of processor k become
  * records[3 k - 3], [3 k - 2] and [3 k - 1]; still is +0, 1, +0, as processor 1 always is where n is odd. All of them
- * are finite. What follows stays. 1, 3, 5, 6; 7 where there are fewer than 3 N values.
+ * are finite. exact[k - 1] becomes 1 if the pair of processor k is exact and 0 if it is rounded. What follows stays, in
+ * both. 1, 3, 5, 6; 7 where there are fewer than 3 N values or fewer than N flags.
  */
 uint8_t weimrukas_records(size_t n, const double *matrix, size_t matrix_length, size_t step,
-                          double *WEIMRUKAS_RESTRICT records, size_t records_length, size_t *WEIMRUKAS_RESTRICT row,
-                          size_t *WEIMRUKAS_RESTRICT column);
+                          double *WEIMRUKAS_RESTRICT records, size_t records_length, uint8_t *WEIMRUKAS_RESTRICT exact,
+                          size_t exact_length, size_t *WEIMRUKAS_RESTRICT row, size_t *WEIMRUKAS_RESTRICT column);
 
 /*
  * The plain run of a number of sweeps: result becomes the matrix after them, vectors the eigenvectors, a column each.
  * The run ends after the first sweep in which every pair was still, a quiet one; further sweeps would change no bit.
- * *sweeps_made becomes the number of that sweep, from 1, or sweeps if none is quiet. 1, 2, 3, 5, 6; 8, which fills both
- * results with +0. A refusal leaves *sweeps_made as it was.
+ * *sweeps_made becomes the number of that sweep, from 1, or sweeps if none is quiet. *rounded becomes the number of
+ * rounded pairs among all that it met, N in each step of these sweeps; further sweeps would add none. 1, 2, 3, 5, 6; 8,
+ * which fills both results with +0. A refusal, 8 too, leaves *sweeps_made and *rounded as they were.
  */
 uint8_t weimrukas_plain_run(size_t n, size_t sweeps, const double *matrix, size_t matrix_length,
                             double *WEIMRUKAS_RESTRICT result, size_t result_length, double *WEIMRUKAS_RESTRICT vectors,
                             size_t vectors_length, size_t *WEIMRUKAS_RESTRICT sweeps_made,
-                            size_t *WEIMRUKAS_RESTRICT row, size_t *WEIMRUKAS_RESTRICT column);
+                            size_t *WEIMRUKAS_RESTRICT rounded, size_t *WEIMRUKAS_RESTRICT row,
+                            size_t *WEIMRUKAS_RESTRICT column);
 
 /*
  * The same by the array, with the same bits and answers; *ticks becomes the number of ticks that it made, those of
@@ -130,8 +140,8 @@ uint8_t weimrukas_plain_run(size_t n, size_t sweeps, const double *matrix, size_
 uint8_t weimrukas_array_run(size_t n, size_t sweeps, const double *matrix, size_t matrix_length,
                             double *WEIMRUKAS_RESTRICT result, size_t result_length, double *WEIMRUKAS_RESTRICT vectors,
                             size_t vectors_length, size_t *WEIMRUKAS_RESTRICT sweeps_made,
-                            size_t *WEIMRUKAS_RESTRICT ticks, size_t *WEIMRUKAS_RESTRICT row,
-                            size_t *WEIMRUKAS_RESTRICT column);
+                            size_t *WEIMRUKAS_RESTRICT ticks, size_t *WEIMRUKAS_RESTRICT rounded,
+                            size_t *WEIMRUKAS_RESTRICT row, size_t *WEIMRUKAS_RESTRICT column);
 
 /*
  * The most that a run by the array can need, told before it is made; a run that makes all its sweeps needs just this.
@@ -178,7 +188,7 @@ uint8_t weimrukas_list(const uint8_t *sheet, size_t sheet_length, uint8_t *WEIMR
  * WEIMRUKAS_MOST_PROCESSORS rows of as many tiles, of which the first N of the first N rows are in use. A tile
  * has WEIMRUKAS_TILE_WORDS: the cells of the matrix (alpha, beta, gamma, delta: row by row) and of the eigenvectors,
  * the wires of the matrix and of the eigenvectors by the same corners, the tangents that it sends along its row and its
- * column, all as bits of doubles, its mark, and its count of turns.
+ * column, all as bits of doubles, its mark, its count of turns, and its count of rounded pairs.
  *
  * The mark of a tile in use is 1 if one of its cells was not finite after some tick, and stays so; otherwise it is 0.
  * Where a tile is marked at the end, the whole run by one call answers 8. Otherwise entry (r, c) of the results, both
@@ -192,10 +202,14 @@ uint8_t weimrukas_list(const uint8_t *sheet, size_t sheet_length, uint8_t *WEIMR
  * tick lowers the record's sweeps, so by hand all of them are made. With L steps in a sweep, sweep m is quiet if right
  * after the tick with number 3 (m L - 1), the first being 0, the counts of the N tiles in use on the diagonal are 0.
  *
+ * A tile on the diagonal also counts the steps of the whole run in which its pair was rounded: no sweep begins this
+ * count anew, and one of 65535 stays. Tiles off the diagonal keep theirs, which is 0 at the start. Where no tile is
+ * marked at the end, the counts of the N tiles in use on the diagonal add up to the *rounded of the whole run.
+ *
  * A record that a caller wrote may hold any words: each pattern of no number counts as 7FF8000000000000, each mark but
  * 0 as 1, each count above 65535 as 65535, and a tick that is made writes all words anew in that form.
  */
-#define WEIMRUKAS_TILE_WORDS 20
+#define WEIMRUKAS_TILE_WORDS 21
 #define WEIMRUKAS_ARRAY_WORDS (3 + WEIMRUKAS_MOST_PROCESSORS * WEIMRUKAS_MOST_PROCESSORS * WEIMRUKAS_TILE_WORDS)
 
 /* Where the tile in row i and column j, both from 0, begins. */

@@ -1,32 +1,34 @@
 #!/usr/bin/env python3
 """Writes crates/test_runs/stdin and crates/test_runs/stdout: whole runs of the array, runs by hand, single
 ticks of wild records and runs by plain sweeps, and what comes of them by document 01, "The array", and document
-02, odd orders and quiet sweeps.
+02, odd orders, quiet sweeps and rounded roots.
 
 The tiles, the wires and the ticks follow the documents: document 01, "The array"; document 000, the
 connections and Algorithm Interchange; document 003, Program 3. Tiles, rows and columns are counted from 1
 as there. The parameters of a pair, the turn of two values and the matrices are those of plain_vectors.py.
-Before anything is written, runs of the array are held against the plain run of that file: results, sweeps made and
-ticks. Of each kind of cases the even orders come first, then the odd ones, and last those for ends of the range and for
-quiet sweeps.
+Before anything is written, runs of the array are held against the plain run of that file: results, sweeps made, ticks,
+and the sum of what the tiles on the diagonal count against the pairs with a rounded root. Of each kind of cases the even
+orders come first, then the odd ones, and last those for ends of the range, for quiet sweeps and for exact turns.
 
 A case begins with a word for its kind.
 
 0, a whole run: the words of a plain run. The answer is the plain run's, with the number of ticks after that of the
-   sweeps, unless it is refused.
+   sweeps made, unless it is refused.
 1, a run by hand: n, the sweeps, the length of the matrix, the matrix and a number of ticks. The answer is
    the refusal of the start, if it is refused, then what the last tick answered (0 made, 1 stopped,
    2 refused, 3 there was none), and of the last record n, the sweeps, the tick and the N by N tiles, row by
    row.
 2, a tick of a wild record: n, the sweeps, the tick, the word that every cell and wire of all tiles holds, and the
-   turns that each tile has counted, up to 65,535. The answer is that of the tick, followed by its number if it is
-   refused, and of the record given back n, the sweeps, the tick and the tiles P_11, P_12, P_21 and P_16,16.
+   turns and the rounded pairs that each tile has counted, up to 65,535. The answer is that of the tick, followed by its
+   number if it is refused, and of the record given back n, the sweeps, the tick and the tiles P_11, P_12, P_21 and
+   P_16,16.
 3, a run by plain sweeps: n, the sweeps, the lengths of the matrix and of both results, the word that these are
-   filled with, and the matrix. The answer is the refusal, or the number of the sweeps made, and both results.
+   filled with, and the matrix. The answer is the refusal, or the number of the sweeps made and that of the pairs with a
+   rounded root, and both results.
 
 Of a tile these are printed: the cells α β γ δ of the matrix and of the vectors, the wires that leave by
 α β γ δ with values of the matrix and of the vectors, the parameter wires along the row and along the
-column, the mark, and the count of turns in the current sweep.
+column, the mark, the count of turns in the current sweep, and that of rounded pairs.
 """
 import argparse
 import functools
@@ -53,22 +55,22 @@ WHOLE, BY_HAND, WILD, PLAIN = range(4)
 
 
 class Tile:
-    def __init__(self, value, turns):
+    def __init__(self, value, turns, rounded):
         self.cells = [dict.fromkeys(CORNERS, value) for _ in range(2)]
         self.lines = [dict.fromkeys(CORNERS, value) for _ in range(2)]
         self.row = self.column = value
         self.mark = False
-        self.turns = turns
+        self.turns, self.rounded = turns, rounded
 
 
 class Array:
-    """A record with one value in every cell and line and one count of turns in every tile. Tiles beyond row and column N
-    are not in use. Beside the record it counts what its ticks do: the values set on matrix and vector lines, and the
-    parameters received off the diagonal."""
+    """A record with one value in every cell and line, one count of turns and one of rounded pairs in every tile. Tiles
+    beyond row and column N are not in use. Beside the record it counts what its ticks do: the values set on matrix and
+    vector lines, and the parameters received off the diagonal."""
 
-    def __init__(self, n, sweeps, tick, value, turns=0):
+    def __init__(self, n, sweeps, tick, value, turns=0, rounded=0):
         self.n, self.sweeps, self.tick = n, sweeps, tick
-        self.tiles = {(i, j): Tile(value, turns) for i in range(1, MOST + 1) for j in range(1, MOST + 1)}
+        self.tiles = {(i, j): Tile(value, turns, rounded) for i in range(1, MOST + 1) for j in range(1, MOST + 1)}
         self.values_set = self.received = 0
 
     @property
@@ -200,18 +202,25 @@ def column_turn(angle, x):
     return {"α": alpha, "β": beta, "γ": gamma, "δ": delta}
 
 
+def raised(count):
+    return min(count + 1, MOST_COUNTED)
+
+
 def rotate_diagonal(tile, is_still, is_first):
-    """Document 02 (vi): the first rotation of a sweep begins the count of turns anew."""
+    """Document 02 (vi): the first rotation of a sweep begins the count of turns anew. No sweep begins that of rounded
+    pairs anew, document 02 (vii)."""
     matrix, vectors = tile.cells
     a, b, d = matrix["α"], matrix["β"], matrix["δ"]
-    found = STILL if is_still else plain.parameters(a, d, b)
+    found, exact = (STILL, True) if is_still else plain.parameters(a, d, b)
     t = 0.0
     if is_first:
         tile.turns = 0
     if found is not STILL:
         t = found[0]
         a, d = a - t * b, d + t * b
-        tile.turns = min(tile.turns + 1, MOST_COUNTED)
+        tile.turns = raised(tile.turns)
+    if not exact:
+        tile.rounded = raised(tile.rounded)
     tile.cells = [{"α": a, "β": 0.0, "γ": 0.0, "δ": d}, column_turn(angle_of(t), vectors)]
     tile.row = tile.column = t
 
@@ -326,15 +335,23 @@ def whole(array, part):
     return plain.patterns_of(plain.real_lines(array.n, rows))
 
 
+def rounded_in(array):
+    """What the tiles on the diagonal have counted. The others count nothing."""
+    counts = {place: tile.rounded for place, tile in array.tiles.items() if tile.rounded}
+    assert all(i == j <= array.N for i, j in counts)
+    return sum(counts.values())
+
+
 def ran(case):
     """The outcome of a run that is not refused before it, and the ticks made."""
     array, ticks = start(case.n, case.sweeps, case.matrix), 0
     while advance(array) == MADE:
         ticks += 1
+    told = plain.Outcome(sweeps=array.sweeps, rounded=rounded_in(array))
     if any(tile.mark for tile in array.tiles.values()):
         nothing = [plain.ZERO] * case.n**2
-        return plain.Outcome(number=8, result=nothing, vectors=nothing, sweeps=array.sweeps), ticks
-    return plain.Outcome(result=whole(array, 0), vectors=whole(array, 1), sweeps=array.sweeps), ticks
+        return told._replace(number=8, result=nothing, vectors=nothing), ticks
+    return told._replace(result=whole(array, 0), vectors=whole(array, 1)), ticks
 
 
 def run(case):
@@ -406,7 +423,8 @@ def part_at(a, first, rows, columns):
 
 def check_rotations(case):
     """Holds the cells of each tile, those of line 0 too, right after each of its rotations, against the plain run
-    after that step, and gives the number of the rotations."""
+    after that step, and at the end what the tiles count against the plain run's count, all sweeps being made. Gives the
+    number of the rotations."""
     steps, array, count = list(plain_steps(case)), start(case.n, case.sweeps, case.matrix), 0
     first = plain.first_line(case.n)
     while tick(array)[0] == MADE:
@@ -418,6 +436,7 @@ def check_rotations(case):
                     found = {corner: bits(value) for corner, value in cells.items()}
                     assert found == part_at(rows, first, pairs[i - 1], pairs[j - 1]), (case, i, j, k)
                 count += 1
+    assert rounded_in(array) == plain.outcome_of(case).rounded
     return count
 
 
@@ -553,6 +572,21 @@ QUIET_HAND_RUNS = [
     (9, 1, plain.ordinary, [25, 32]),
     (31, 1, plain.ordinary, [91]),
     (32, 1, plain.ordinary, [91]),
+]
+
+
+# With counts of rounded pairs beside those of turns: turns that are exact, and sweeps after which the first goes on and
+# the second begins anew.
+ROUNDED_HAND_RUNS = [
+    (2, 2, plain.exact_turns, [1, 4, 7]),
+    (4, 3, plain.exact_turns, [1, 7, 10, 13, 29]),
+    (4, 2, plain.larger_steps, [1, 4, 7, 10, 20]),
+    (6, 2, plain.partly_exact, [1, 13, 16, 33]),
+    (3, 3, plain.exact_turns, [1, 7, 10, 29]),
+    (3, 2, plain.larger_steps, [1, 4, 10, 20]),
+    (5, 2, plain.partly_exact, [1, 13, 16, 33]),
+    (7, 2, plain.larger_steps, [19, 46]),
+    (5, 2, plain.spoiled_by_sum, [1, 4, 16, 33]),
 ]
 
 
@@ -715,7 +749,7 @@ def bits(value):
 
 def words_of(tile):
     parts = [bits(part[corner]) for part in tile.cells + tile.lines for corner in CORNERS]
-    return [*parts, bits(tile.row), bits(tile.column), int(tile.mark), tile.turns]
+    return [*parts, bits(tile.row), bits(tile.column), int(tile.mark), tile.turns, tile.rounded]
 
 
 def record_of(array, shown):
@@ -742,12 +776,12 @@ def hand_run_lines(case, ticks):
     return plain.lines_of(words), answer + plain.lines_of([told, *record_of(array, array.places())])
 
 
-def wild_lines(n, sweeps, now, word, turns):
-    array = Array(n, sweeps, now, plain.value_of(word), turns)
+def wild_lines(n, sweeps, now, word, turns, rounded):
+    array = Array(n, sweeps, now, plain.value_of(word), turns, rounded)
     told, refusal = tick(array)
     answer = [told] if refusal is None else [told, refusal]
     record = record_of(array, [(1, 1), (1, 2), (2, 1), (MOST, MOST)])
-    return plain.lines_of([WILD, n, sweeps, now, word, turns]), plain.lines_of(answer + record)
+    return plain.lines_of([WILD, n, sweeps, now, word, turns, rounded]), plain.lines_of(answer + record)
 
 
 def lines_of_wholes(cases, rng, *known):
@@ -763,20 +797,39 @@ def some_counts(rng):
         yield from [*COUNTS, rng.randint(0, MOST_COUNTED)]
 
 
-def lines_of_wilds(rng):
-    """The lines of wild records and of their answers."""
+def wilds(rng, rounded):
+    """A size, a tick, a word and two counts of each wild record."""
     words, counts = itertools.cycle(WILD_WORDS), some_counts(rng)
     for sizes in WILD_SIZES + ODD_WILD_ENDS:
-        yield wild_lines(*sizes, next(words), next(counts))
+        yield *sizes, next(words), next(counts), next(rounded)
     for sizes in ODD_WILD_SIZES:
         for word in WILD_WORDS:
-            yield wild_lines(*sizes, word, next(counts))
+            yield *sizes, word, next(counts), next(rounded)
     for sizes in COUNTING_SIZES:
         for word in COUNTING_WORDS[:2]:
             for turns in COUNTS[2:]:
-                yield wild_lines(*sizes, word, turns)
+                yield *sizes, word, turns, next(rounded)
         for word in COUNTING_WORDS[2:]:
-            yield wild_lines(*sizes, word, next(counts))
+            yield *sizes, word, next(counts), next(rounded)
+
+
+def check_counts(drawn):
+    """Each count is at its end or one below it, with the other so too, where the pair of P_11 turns and is rounded: in a
+    sweep's first step and in another."""
+    for is_first in (True, False):
+        found = set()
+        for n, sweeps, now, word, turns, rounded in drawn:
+            if n in plain.EVEN_ORDERS and sweeps <= 16 and now % 3 == 0 and now < 3 * plain.steps_of(n, sweeps):
+                if word == ONE and (now // 3 % plain.steps_of(n, 1) == 0) == is_first:
+                    found.add((turns, rounded))
+        assert found >= set(itertools.product(COUNTS[2:], repeat=2))
+
+
+def lines_of_wilds(rng, rounded_rng):
+    """The lines of wild records and of their answers."""
+    drawn = list(wilds(rng, some_counts(rounded_rng)))
+    check_counts(drawn)
+    return [wild_lines(*record) for record in drawn]
 
 
 def all_lines(rng, odd_rng):
@@ -789,12 +842,16 @@ def all_lines(rng, odd_rng):
     quiet_rng = random.Random(9)
     quiet = [(case, *agreed(case)) for case in plain.quiet_runs(quiet_rng)]
     wholes += [whole_run_lines(*drawn, fill) for drawn, fill in zip(quiet, plain.finite_patterns(quiet_rng))]
+    rounded_rng = random.Random(2019)
+    rounded = [(case, *agreed(case)) for case in plain.rounded_runs(rounded_rng)]
+    wholes += [whole_run_lines(*drawn, fill) for drawn, fill in zip(rounded, plain.finite_patterns(rounded_rng))]
     hands = [hand_run_lines(*drawn) for drawn in [*hand_runs(rng), *odd_hand_runs(odd_rng)]]
     hands += [hand_run_lines(*drawn) for drawn in given_hand_runs(quiet_rng, QUIET_HAND_RUNS)]
-    wilds = list(lines_of_wilds(random.Random(MOST_COUNTED)))
-    print(f"{len(wholes)} whole runs, {len(hands)} runs by hand, {len(wilds)} wild records")
+    hands += [hand_run_lines(*drawn) for drawn in given_hand_runs(rounded_rng, ROUNDED_HAND_RUNS)]
+    ticks = lines_of_wilds(random.Random(MOST_COUNTED), random.Random(754))
+    print(f"{len(wholes)} whole runs, {len(hands)} runs by hand, {len(ticks)} wild records")
     plains = [(plain.lines_of([PLAIN]) + lines, answer) for lines, answer in plain.all_lines()]
-    return wholes + hands + wilds + plains
+    return wholes + hands + ticks + plains
 
 
 def main():

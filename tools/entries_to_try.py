@@ -1,7 +1,7 @@
 #!/usr/bin/env python3
 """Writes crates/test_entries/stdout: what the calls of document 01, "Entries to try", answer and leave, by the models of
-the other files here. What document 01 itself says of an entry is asserted, and of the orders 3 and 5 what
-the report's rule gives.
+the other files here. What document 01 itself says of an entry is asserted, of the orders 3 and 5 what the report's rule
+gives, and which of the roots are exact.
 """
 import argparse
 import pathlib
@@ -17,14 +17,14 @@ import sheet_vectors as sheet
 PROCESSORS = 16
 NINE = 0x4022 << 48  # what results are lent with
 
-# The patterns of a value and of its root.
+# The patterns of a value and of its root, and whether it is exact.
 ROOTS = [
-    (0x4010 << 48, 0x4000 << 48),
-    (plain.SIGN, plain.SIGN),
-    (0x4000 << 48, 0x3FF6A09E667F3BCD),
-    (1, (1023 - 537) << 52),
-    (plain.ONE - 1, plain.ONE - 1),
-    (plain.ONE + 1, plain.ONE),
+    (0x4010 << 48, 0x4000 << 48, True),
+    (plain.SIGN, plain.SIGN, True),
+    (0x4000 << 48, 0x3FF6A09E667F3BCD, False),
+    (1, (1023 - 537) << 52, True),
+    (plain.ONE - 1, plain.ONE - 1, False),
+    (plain.ONE + 1, plain.ONE, False),
 ]
 
 LISTS = [
@@ -67,10 +67,10 @@ def refused(number, place=None):
 
 
 def root_lines():
-    for pattern, expected in ROOTS:
+    for pattern, expected, is_exact in ROOTS:
         found = root.square_root(pattern)
-        assert found == expected
-        yield from words([found])
+        assert (found, root.is_exact(pattern)) == (expected, is_exact)
+        yield from [*words([found]), "exact" if is_exact else "rounded"]
 
 
 def list_lines(n, step, expected):
@@ -91,11 +91,13 @@ def run_lines(n, sweeps, matrix, number, ticks):
     case = plain.Case(n, sweeps, matrix, len(matrix), len(matrix))
     outcome = plain.outcome_of(case)
     assert outcome.number == number
-    yield from [f"sweeps {outcome.sweeps}"] if number is None else refused(number)
+    rounded = f"rounded {outcome.rounded}"
+    yield from [f"sweeps {outcome.sweeps}", rounded] if number is None else refused(number)
     yield from result_lines(outcome, len(matrix))
     outcome, made = array.run(case)
     assert outcome.number == number and ticks in (None, made)
-    yield from [f"sweeps {outcome.sweeps}", f"ticks {made}"] if number is None else refused(number)
+    rounded = f"rounded {outcome.rounded}"
+    yield from [f"sweeps {outcome.sweeps}", f"ticks {made}", rounded] if number is None else refused(number)
     yield from result_lines(outcome, len(matrix))
 
 

@@ -1,12 +1,12 @@
 """Orders, sweeps and matrices, and what the plain run makes of them by document 01, "One rotation",
-"Pairs and their movement" and "Refused, by place", and document 02, odd orders and quiet sweeps. array_vectors.py writes
-them to files; run alone, this file only makes and checks them, and prints how many there are.
+"Pairs and their movement" and "Refused, by place", and document 02, odd orders, quiet sweeps and rounded roots.
+array_vectors.py writes them to files; run alone, this file only makes and checks them, and prints how many there are.
 
 The model makes all the sweeps that are asked for, whatever they do. A sweep is quiet if every pair in it was still, and
-what it leaves is held to what the last sweep leaves.
+what it leaves, and how many pairs had a rounded root up to its end, is held to what the last sweep leaves.
 
 The arithmetic is that of Python's float, which is binary64 rounded to nearest. No operation here is
-fused with another, and none divides by zero.
+fused with another, and none divides by zero. Whether a root is exact is told by its square as a fraction.
 """
 import argparse
 import collections
@@ -33,9 +33,10 @@ STILL = None
 Case = collections.namedtuple("Case", "n sweeps matrix result_size vectors_size")
 
 # What a run answers: the number of its refusal, and its row and column, if it has them; the patterns of
-# the two results, or None where they keep what they hold; the step that spoils it, from 0; and the sweeps made, up to
-# the first quiet one, also of a spoiled run, whose answer does not tell them.
-Outcome = collections.namedtuple("Outcome", "number place result vectors spoiled sweeps", defaults=[None] * 6)
+# the two results, or None where they keep what they hold; the step that spoils it, from 0; the sweeps made, up to
+# the first quiet one, and the number of the pairs with a rounded root in them, also of a spoiled run, whose answer does
+# not tell them.
+Outcome = collections.namedtuple("Outcome", "number place result vectors spoiled sweeps rounded", defaults=[None] * 7)
 
 
 def value_of(pattern):
@@ -59,24 +60,26 @@ EXAMPLES = [
             result=[ZERO, ZERO, ZERO, TWO],
             vectors=[HALF_ROOT, HALF_ROOT, SIGN + HALF_ROOT, HALF_ROOT],
             sweeps=1,
+            rounded=1,
         ),
     ),
     (
         case_of(2, 1, [ONE, ZERO, ZERO, THREE]),
-        Outcome(result=[ONE, ZERO, ZERO, THREE], vectors=[ONE, ZERO, ZERO, ONE], sweeps=1),
+        Outcome(result=[ONE, ZERO, ZERO, THREE], vectors=[ONE, ZERO, ZERO, ONE], sweeps=1, rounded=0),
     ),
     (
         case_of(2, 1, [ONE, SIGN, SIGN, THREE]),
-        Outcome(result=[ONE, ZERO, ZERO, THREE], vectors=[ONE, ZERO, ZERO, ONE], sweeps=1),
+        Outcome(result=[ONE, ZERO, ZERO, THREE], vectors=[ONE, ZERO, ZERO, ONE], sweeps=1, rounded=0),
     ),
     (
         case_of(2, 1, [LARGEST] * 4),
-        Outcome(number=8, result=[ZERO] * 4, vectors=[ZERO] * 4, spoiled=0, sweeps=1),
+        Outcome(number=8, result=[ZERO] * 4, vectors=[ZERO] * 4, spoiled=0, sweeps=1, rounded=1),
     ),
 ]
 
 # The same of order 3, by hand: two lines that are alike beside a third. Lines 2 and 3 meet in the first step, 1 and 2
-# in the second, and in the last line 3 is the left one and line 1 the right.
+# in the second, and in the last line 3 is the left one and line 1 the right. The pair of two lines that are alike has the
+# roots of 1 and of 2. In the last example the first pair makes entries of line 3 infinite, and the last has no tangent.
 ODD_EXAMPLES = [
     (
         case_of(3, 1, [THREE, ZERO, ZERO, ZERO, ONE, ONE, ZERO, ONE, ONE]),
@@ -84,6 +87,7 @@ ODD_EXAMPLES = [
             result=[THREE, ZERO, ZERO, ZERO, ZERO, ZERO, ZERO, ZERO, TWO],
             vectors=[ONE, ZERO, ZERO, ZERO, HALF_ROOT, HALF_ROOT, ZERO, SIGN + HALF_ROOT, HALF_ROOT],
             sweeps=1,
+            rounded=1,
         ),
     ),
     (
@@ -92,6 +96,7 @@ ODD_EXAMPLES = [
             result=[ZERO, ZERO, ZERO, ZERO, TWO, ZERO, ZERO, ZERO, THREE],
             vectors=[HALF_ROOT, HALF_ROOT, ZERO, SIGN + HALF_ROOT, HALF_ROOT, ZERO, ZERO, ZERO, ONE],
             sweeps=1,
+            rounded=1,
         ),
     ),
     (
@@ -100,6 +105,7 @@ ODD_EXAMPLES = [
             result=[TWO, ZERO, ZERO, ZERO, THREE, ZERO, ZERO, ZERO, ZERO],
             vectors=[HALF_ROOT, ZERO, SIGN + HALF_ROOT, ZERO, ONE, ZERO, HALF_ROOT, ZERO, HALF_ROOT],
             sweeps=1,
+            rounded=1,
         ),
     ),
     (
@@ -108,11 +114,12 @@ ODD_EXAMPLES = [
             result=[ONE, ZERO, ZERO, ZERO, THREE, ZERO, ZERO, ZERO, TWO],
             vectors=[ONE, ZERO, ZERO, ZERO, ONE, ZERO, ZERO, ZERO, ONE],
             sweeps=1,
+            rounded=0,
         ),
     ),
     (
         case_of(3, 1, [LARGEST] * 9),
-        Outcome(number=8, result=[ZERO] * 9, vectors=[ZERO] * 9, spoiled=0, sweeps=1),
+        Outcome(number=8, result=[ZERO] * 9, vectors=[ZERO] * 9, spoiled=0, sweeps=1, rounded=2),
     ),
 ]
 
@@ -156,17 +163,29 @@ def quotient(a, d, b):
     return xi
 
 
+def is_exact(x, root):
+    """Whether the root of a value above zero, or of +infinity, is exact. Python's fractions are in lowest terms."""
+    if math.isinf(x):
+        return True
+    (numerator, denominator), (above, below) = x.as_integer_ratio(), root.as_integer_ratio()
+    return above * above == numerator and below * below == denominator
+
+
 def parameters(a, d, b, xi_of=quotient):
-    """STILL, or the tangent, the cosine and the sine."""
-    t = 0.0
-    if b != 0:
-        xi = xi_of(a, d, b)
-        sign = -1.0 if xi < 0 else 1.0
-        t = sign / (abs(xi) + math.sqrt(1 + xi * xi))
+    """STILL, or the tangent, the cosine and the sine; and whether both roots were exact."""
+    if b == 0:
+        return STILL, True
+    xi = xi_of(a, d, b)
+    sign = -1.0 if xi < 0 else 1.0
+    first = math.sqrt(1 + xi * xi)
+    t = sign / (abs(xi) + first)
+    second = math.sqrt(1 + t * t)
+    exact = not math.isnan(t) and is_exact(1 + xi * xi, first) and is_exact(1 + t * t, second)
     if t == 0:
-        return STILL
-    c = 1 / math.sqrt(1 + t * t)
-    return t, c, t * c
+        assert exact
+        return STILL, exact
+    c = 1 / second
+    return (t, c, t * c), exact
 
 
 def turn(c, s, x, y):
@@ -174,9 +193,10 @@ def turn(c, s, x, y):
 
 
 def turn_pair(a, vectors, p, q, is_still, xi_of=quotient):
-    """Gives the pair of the lines p and q its parameters, its row turn and its column turn, and tells whether it turned."""
+    """Gives the pair of the lines p and q its parameters, its row turn and its column turn, and tells whether it turned
+    and whether its roots were exact."""
     pp, qq, pq = a[p][p], a[q][q], a[p][q]
-    found = STILL if is_still else parameters(pp, qq, pq, xi_of)
+    found, exact = (STILL, True) if is_still else parameters(pp, qq, pq, xi_of)
     if found is not STILL:
         t, c, s = found
         others = [r for r in range(len(a)) if r not in (p, q)]
@@ -188,7 +208,7 @@ def turn_pair(a, vectors, p, q, is_still, xi_of=quotient):
         for row in vectors:
             row[p], row[q] = turn(c, s, row[p], row[q])
     a[p][q] = a[q][p] = 0.0
-    return found is not STILL
+    return found is not STILL, exact
 
 
 def moved(left, right):
@@ -204,13 +224,16 @@ def first_registers(n):
 
 
 def make_steps(n, sweeps, a, vectors, xi_of=quotient):
-    """Makes the steps of a run, and stops after each with the number of the pairs that turned in it."""
+    """Makes the steps of a run, and stops after each with the number of the pairs that turned in it and that of the pairs
+    with a rounded root."""
     first, (left, right) = first_line(n), first_registers(n)
     for _ in range(steps_of(n, sweeps)):
-        turns = 0
+        turns = rounded = 0
         for k, (p, q) in enumerate(zip(left, right), 1):
-            turns += turn_pair(a, vectors, p - first, q - first, always_still(n, k), xi_of)
-        yield turns
+            turned, exact = turn_pair(a, vectors, p - first, q - first, always_still(n, k), xi_of)
+            turns += turned
+            rounded += not exact
+        yield turns, rounded
         left, right = moved(left, right)
 
 
@@ -251,26 +274,28 @@ def all_finite(a):
 def ran(n, sweeps, matrix, xi_of=quotient):
     """The outcome of a run that is not refused before it. A real line is not finite wherever line 0 is not."""
     a, vectors = first_rows(n, matrix)
-    spoiled, turns, quiet = None, 0, None
-    for step, turned in enumerate(make_steps(n, sweeps, a, vectors, xi_of)):
+    spoiled, turns, rounded, quiet = None, 0, 0, None
+    for step, (turned, with_rounded) in enumerate(make_steps(n, sweeps, a, vectors, xi_of)):
         is_finite = all_finite(a) and all_finite(vectors)
         assert is_finite == (all_finite(real_lines(n, a)) and all_finite(real_lines(n, vectors)))
         assert spoiled is None or not is_finite
         if not is_finite and spoiled is None:
             spoiled = step
         turns += turned
+        rounded += with_rounded
         sweep, rest = divmod(step + 1, steps_of(n, 1))
         if rest == 0:
             if turns == 0 and quiet is None:
-                quiet = sweep, patterns_of(a + vectors)
+                quiet = sweep, (rounded, patterns_of(a + vectors))
             turns = 0
     made = sweeps
     if quiet:
         made, left = quiet
-        assert patterns_of(a + vectors) == left
+        assert (rounded, patterns_of(a + vectors)) == left
+    told = Outcome(spoiled=spoiled, sweeps=made, rounded=rounded)
     if spoiled is not None:
-        return Outcome(number=8, result=[ZERO] * n * n, vectors=[ZERO] * n * n, spoiled=spoiled, sweeps=made)
-    return Outcome(result=patterns_of(real_lines(n, a)), vectors=patterns_of(real_lines(n, vectors)), sweeps=made)
+        return told._replace(number=8, result=[ZERO] * n * n, vectors=[ZERO] * n * n)
+    return told._replace(result=patterns_of(real_lines(n, a)), vectors=patterns_of(real_lines(n, vectors)))
 
 
 def first_place(n, is_bad):
@@ -747,10 +772,10 @@ def lines_of(words):
 
 
 def answer_of(case, fill, outcome, *ticks):
-    """The lines of an answer: the refusal, or the sweeps made, and the ticks if there are any, and what both results
-    hold."""
+    """The lines of an answer: the refusal, or the sweeps made, the ticks if there are any, and the number of pairs with a
+    rounded root, and what both results hold."""
     if outcome.number is None:
-        lines = lines_of([outcome.sweeps, *ticks])
+        lines = lines_of([outcome.sweeps, *ticks, outcome.rounded])
     else:
         lines = [f"refused {outcome.number}\n"]
     if outcome.place is not None:
@@ -901,6 +926,50 @@ def checked_quiet(rng):
     return made
 
 
+# The runs with exact and rounded roots, for document 02 (vii).
+
+
+def exact_turns(rng, n, _):
+    """A diagonal of whole numbers, and powers of two beside it that are so small that a turn is by next to nothing: in a
+    first sweep every pair turns and is exact, and the entries that it leaves make most later pairs rounded."""
+    return mirrored(n, lambda i, j: (i + 1) * 2.0**60 if i == j else rng.choice((-1, 1)) * 2.0 ** rng.randint(0, 3))
+
+
+def larger_steps(rng, n, _):
+    """The same, but with turns that are not next to nothing, so that some pairs of the first sweep are rounded."""
+    return mirrored(n, lambda i, j: (i + 1) * 2.0**33 if i == j else rng.choice((-1, 1)) * 2.0 ** rng.randint(0, 3))
+
+
+def partly_exact(rng, n, _):
+    """Every other line is like those of exact_turns, the others are ordinary."""
+    exact, near = exact_turns(rng, n, 0), ordinary(rng, n, 0)
+    return [exact[k] if k % n % 2 == 0 and k // n % 2 == 0 else near[k] for k in range(n * n)]
+
+
+def rounded_runs(rng):
+    """Runs with pairs that turn and are exact beside rounded ones, even and odd, whole, spoiled and ending early."""
+    for n in (2, 3, 4, 5, 6, 7, 8, 11):
+        for kind in (exact_turns, larger_steps, partly_exact):
+            for sweeps in (1, MOST_SWEEPS) if n < 8 else (2,):
+                yield case_of(n, sweeps, kind(rng, n, sweeps))
+    for n in (3, 4, 5):
+        matrix = exact_turns(rng, n, 0)
+        put(n, matrix, n - 2, n - 1, LARGEST)
+        put(n, matrix, n - 2, n - 2, LARGEST)
+        yield case_of(n, 2, matrix)
+
+
+def checked_rounded(rng):
+    """The runs with exact and rounded roots with their outcomes."""
+    made = [(case, outcome_of(case)) for case in rounded_runs(rng)]
+    none = sum(outcome.rounded == 0 for _, outcome in made)
+    early = sum(outcome.sweeps < case.sweeps for case, outcome in made)
+    spoiled = sum(outcome.number == 8 for _, outcome in made)
+    print(f"{len(made)} runs with exact turns: no root rounded in {none}, {early} end early, {spoiled} spoiled")
+    assert none >= 5 and early >= 5 and spoiled >= 1
+    return made
+
+
 def checked_runs(rng, orders):
     """The runs of these orders with their outcomes."""
     made = list(runs(rng, orders))
@@ -935,6 +1004,8 @@ def all_lines():
     filled += zip(checked_ends(rng), finite_patterns(rng))
     rng = random.Random(7)
     filled += zip(checked_quiet(rng), finite_patterns(rng))
+    rng = random.Random(754)
+    filled += zip(checked_rounded(rng), finite_patterns(rng))
     print(f"{len(filled)} plain runs, {len(odd_cases)} of them drawn for odd orders")
     for (case, outcome), fill in filled:
         yield lines_of(head(case, fill) + case.matrix), answer_of(case, fill, outcome)

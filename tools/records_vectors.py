@@ -1,7 +1,7 @@
 #!/usr/bin/env python3
 """Orders, matrices and steps, and the records of the step by document 01, "One rotation", last paragraph, and "Refused,
-by place", and document 02, odd orders. call_vectors.py writes them to files; run alone, this file only makes them, and
-prints how many there are.
+by place", and document 02, odd orders and rounded roots. call_vectors.py writes them to files; run alone, this file only
+makes them, and prints how many there are.
 
 Matrices of all kinds and the parameters of a pair come from plain_vectors.py. The pair of a processor is found
 here by its own rule: the lines stand on a ring of registers, beside line 1, or line 0 of an odd order, and move by
@@ -36,8 +36,9 @@ def pattern_of(value):
     return plain.NAN if math.isnan(value) else plain.pattern_of(value)
 
 
-def record_of(found):
-    return (0.0, 1.0, 0.0) if found is plain.STILL else found
+def record_of(found, exact):
+    """The words of a record, and whether its roots were exact."""
+    return [pattern_of(value) for value in ((0.0, 1.0, 0.0) if found is plain.STILL else found)], exact
 
 
 def refusal_of(n, matrix, room):
@@ -53,16 +54,21 @@ def refusal_of(n, matrix, room):
 def records_of(n, matrix, step):
     a = plain.rows_of(n, matrix)
     for p, q in pairs_at(n, step):
-        found = plain.STILL
+        found = plain.STILL, True
         if p > 0:
             found = plain.parameters(a[p - 1][p - 1], a[q - 1][q - 1], a[p - 1][q - 1])
-        yield [pattern_of(value) for value in record_of(found)]
+        yield record_of(*found)
 
 
-def words_of(n, matrix, step):
-    """The row after a call."""
+def row_after(n, matrix, step, filled):
+    """The row after a call, all records of which were filled."""
     written = [] if refusal_of(n, matrix, ROW)[0] else list(records_of(n, matrix, step))
-    return sum(written, []) + [FILL] * 3 * (ROW - len(written))
+    return written + [filled] * (ROW - len(written))
+
+
+def lines_of_row(row):
+    """The lines of each record: its words, and whether its roots were exact."""
+    return [line for words, exact in row for line in [*plain.lines_of(words), "exact\n" if exact else "rounded\n"]]
 
 
 def told(number, place):
@@ -116,14 +122,22 @@ def odd_cases(rng):
         yield 7, good, 1, room
 
 
+def exact_cases(rng):
+    """Pairs that turn and are exact, beside rounded ones."""
+    for n in (2, 3, 4, 5, 8, 9, 16, 31, 32):
+        for kind in (plain.exact_turns, plain.partly_exact):
+            yield n, kind(rng, n, 0), rng.randrange(40), (n + 1) // 2
+
+
 def all_lines():
-    """The lines of each case and of its answer."""
-    found = [*cases(random.Random(8)), *odd_cases(random.Random(7))]
+    """The lines of each case and of its answer. The rows are lent with exact records and with rounded ones by turns."""
+    found = [*cases(random.Random(8)), *odd_cases(random.Random(7)), *exact_cases(random.Random(9))]
     print(f"{len(found)} calls for the records of a step")
-    for n, matrix, step, room in found:
+    for k, (n, matrix, step, room) in enumerate(found):
+        flag = k % 2
         refused = told(*refusal_of(n, matrix, room)) + told(*refusal_of(n, matrix, ROW))
-        lines = plain.lines_of([n, len(matrix), step, room, FILL, *matrix])
-        yield lines, refused + plain.lines_of(words_of(n, matrix, step))
+        lines = plain.lines_of([n, len(matrix), step, room, FILL, flag, *matrix])
+        yield lines, refused + lines_of_row(row_after(n, matrix, step, ([FILL] * 3, flag == 1)))
 
 
 def main():

@@ -1,6 +1,7 @@
 #!/usr/bin/env python3
-"""Bit patterns of f64 values, and what the square root of each is by document 01, "Square root". call_vectors.py writes
-them to files; run alone, this file only makes and checks them, and prints how many there are.
+"""Bit patterns of f64 values, what the square root of each is by document 01, "Square root", and whether it is exact by
+document 02 (vii). call_vectors.py writes them to files; run alone, this file only makes and checks them, and prints how
+many there are.
 
 The roots are worked out here with whole numbers alone. math.sqrt is only held against them.
 """
@@ -17,14 +18,14 @@ PLUS_INFINITY = 0x7FF << 52
 MINUS_INFINITY = SIGN + PLUS_INFINITY
 ONE = 0x3FF << 52
 
-# The roots of document 01, "Entries to try".
+# The roots of document 01, "Entries to try", and whether each is exact.
 EXAMPLES = [
-    (0x4010000000000000, 0x4000000000000000),  # 4: 2
-    (0x8000000000000000, 0x8000000000000000),  # -0: -0
-    (0x4000000000000000, 0x3FF6A09E667F3BCD),  # 2
-    (0x0000000000000001, 0x1E60000000000000),  # 2^-1074: 2^-537
-    (0x3FEFFFFFFFFFFFFF, 0x3FEFFFFFFFFFFFFF),  # 1 - 2^-53: itself
-    (0x3FF0000000000001, 0x3FF0000000000000),  # 1 + 2^-52: 1
+    (0x4010000000000000, 0x4000000000000000, True),  # 4: 2
+    (0x8000000000000000, 0x8000000000000000, True),  # -0: -0
+    (0x4000000000000000, 0x3FF6A09E667F3BCD, False),  # 2
+    (0x0000000000000001, 0x1E60000000000000, True),  # 2^-1074: 2^-537
+    (0x3FEFFFFFFFFFFFFF, 0x3FEFFFFFFFFFFFFF, False),  # 1 - 2^-53: itself
+    (0x3FF0000000000001, 0x3FF0000000000000, False),  # 1 + 2^-52: 1
 ]
 
 
@@ -66,6 +67,18 @@ def square_root(pattern):
     if pattern > SIGN:
         return None
     return pattern_of(nearest_root(units_of(pattern)))
+
+
+def is_exact(pattern):
+    """Whether the root of a pattern that is not refused is exact: zeros and +infinity, and a value that is the square of
+    its nearest root. It is so just where the root of its units, as nearest_root has them, is a whole number."""
+    if pattern in (PLUS_ZERO, MINUS_ZERO, PLUS_INFINITY):
+        return True
+    units = units_of(pattern)
+    n = units << 1074
+    exact = nearest_root(units) ** 2 == n
+    assert exact == (math.isqrt(n) ** 2 == n)
+    return exact
 
 
 # The patterns.
@@ -147,7 +160,7 @@ def negatives(rng):
     """Values below zero of every size."""
     for size in [1, 2, HIDDEN - 1, HIDDEN, HIDDEN + 1, ONE - 1, ONE, ONE + 1, 2 * ONE, PLUS_INFINITY - 1]:
         yield SIGN + size
-    for pattern, _ in EXAMPLES:
+    for pattern, _, _ in EXAMPLES:
         yield SIGN | pattern
     for field in range(0, 2047, 31):
         yield SIGN + field * HIDDEN + 1
@@ -155,10 +168,36 @@ def negatives(rng):
         yield SIGN + 1 + rng.getrandbits(64) % (PLUS_INFINITY - 1)
 
 
+def short_roots(rng):
+    """Squares of numbers of few digits, subnormal ones and those of every size, and twice of each, which is no square."""
+    for digits in [1, 2, 3, 5, 8, 13, 20, 24, 25, 26]:
+        number = (1 << (digits - 1)) + rng.getrandbits(digits - 1) | 1
+        room = (53 - (number * number).bit_length()) // 2
+        for half in (0, room // 2, room, 300, 537, 800, 997 - digits):
+            exact = pattern_of((number * number) << (2 * half))
+            yield from (exact, exact + 1, exact - 1, pattern_of((2 * number * number) << (2 * half)))
+
+
+def rounded_squares(rng):
+    """Values that are the square of a number of more digits than any exact root has, rounded, so that their root is that
+    number and is not exact."""
+    for digits in (27, 28, 29, 40, 53):
+        for _ in range(12):
+            number = (1 << (digits - 1)) + rng.getrandbits(digits - 1) | 1
+            square = number * number
+            if square.bit_length() <= 53:
+                continue
+            step = 1 << (square.bit_length() - 53)
+            near = (square + step // 2) // step * step
+            pattern = pattern_of(near << 2 * rng.randint(0, 900))
+            assert not is_exact(pattern)
+            yield pattern
+
+
 def patterns():
     """All patterns, in order and each once."""
     rng = random.Random(1983)
-    found = [pattern for pattern, _ in EXAMPLES]
+    found = [pattern for pattern, _, _ in EXAMPLES]
     found += [PLUS_ZERO, MINUS_ZERO, PLUS_INFINITY, MINUS_INFINITY]
     found += every_exponent()
     found += subnormals(rng)
@@ -167,6 +206,9 @@ def patterns():
     found += near_middles()
     found += normals(rng)
     found += negatives(rng)
+    rng = random.Random(754)
+    found += short_roots(rng)
+    found += rounded_squares(rng)
     return list(dict.fromkeys(found))
 
 
@@ -188,19 +230,28 @@ def check(pattern, root):
 
 
 def check_examples():
-    for pattern, root in EXAMPLES:
-        assert square_root(pattern) == root, f"{pattern:016X}"
+    for pattern, root, exact in EXAMPLES:
+        assert (square_root(pattern), is_exact(pattern)) == (root, exact), f"{pattern:016X}"
+
+
+def answer_of(pattern):
+    """The lines of an answer: the root and whether it is exact, or the refusal alone."""
+    root = square_root(pattern)
+    check(pattern, root)
+    if root is None:
+        return ["refused 9\n"]
+    return [f"{root:016X}\n", "exact\n" if is_exact(pattern) else "rounded\n"]
 
 
 def all_lines():
     """The lines of each case and of its answer."""
     check_examples()
-    found = patterns()
-    print(f"{len(found)} square roots")
-    for pattern in found:
-        root = square_root(pattern)
-        check(pattern, root)
-        yield [f"{pattern:016X}\n"], ["refused 9\n" if root is None else f"{root:016X}\n"]
+    made = [(pattern, answer_of(pattern)) for pattern in patterns()]
+    exact = sum(answer[-1] == "exact\n" for _, answer in made)
+    refused = sum(len(answer) == 1 for _, answer in made)
+    print(f"{len(made)} square roots, {exact} of them exact and {refused} refused")
+    for pattern, answer in made:
+        yield [f"{pattern:016X}\n"], answer
 
 
 def main():

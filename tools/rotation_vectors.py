@@ -1,7 +1,7 @@
 #!/usr/bin/env python3
-"""Bit patterns of f64 values a = a_pp, d = a_qq and b = a_pq of pairs, and what the parameters of each pair are by
-document 01, "One rotation", and document 02 (v). call_vectors.py writes them to files; run alone, this file only makes
-and checks them, and prints how many there are.
+"""Bit patterns of f64 values a = a_pp, d = a_qq and b = a_pq of pairs, what the parameters of each pair are by document
+01, "One rotation", and document 02 (v), and whether both roots were exact by document 02 (vii). call_vectors.py writes
+them to files; run alone, this file only makes and checks them, and prints how many there are.
 
 The operations are worked out here with whole numbers alone. Python's own are only held against
 them.
@@ -27,12 +27,23 @@ LEAST_HALVED = 2 * HIDDEN  # 2^-1021: from there on halving is exact
 TOP_PAIR = (ZERO, 2045 * HIDDEN, 2046 * HIDDEN)  # document 02 (v): 0, 2^1022 and 2^1023
 QUARTER = 0x3FD << 52
 
-# Patterns of a, d and b, and the parameters by document 01: from its printed sheet, and from its
-# entries to try, a pair that stays still and the pair of the largest values.
+# Patterns of a, d and b, the parameters by document 01, and whether both roots were exact: from its printed sheet, and
+# from its entries to try, a pair that stays still and the pair of the largest values. The root of 1 is exact and that of
+# 2 is not.
 EXAMPLES = [
-    ((ONE, ONE, ONE), (ONE, 0x3FE6A09E667F3BCC, 0x3FE6A09E667F3BCC)),
-    ((ONE, 0x4008000000000000, ZERO), STILL),
-    ((LARGEST, LARGEST, LARGEST), (ONE, 0x3FE6A09E667F3BCC, 0x3FE6A09E667F3BCC)),
+    ((ONE, ONE, ONE), (ONE, 0x3FE6A09E667F3BCC, 0x3FE6A09E667F3BCC), False),
+    ((ONE, 0x4008000000000000, ZERO), STILL, True),
+    ((LARGEST, LARGEST, LARGEST), (ONE, 0x3FE6A09E667F3BCC, 0x3FE6A09E667F3BCC), False),
+]
+
+# Quotients of which both roots are exact and neither 1 nor a square is lost in a sum, found by a search.
+BOTH_EXACT = [
+    0x40A6A09E595F6198,
+    0x408FFFFF6FFFFF80,
+    0x40875E9681752194,
+    0x407FFFFDBFFFF800,
+    0x406FFFF6FFFF8000,
+    0x4044E592CCA7A8C8,
 ]
 
 
@@ -144,6 +155,18 @@ def sqrt(x):
     return size_with(low + step if middle * middle < 4 * square else low)
 
 
+def has_exact_root(x):
+    """Whether the root of a value from 1 on is exact: whether its units, as sqrt has them, are a whole square."""
+    if x == INFINITY:
+        return True
+    assert ONE <= x < INFINITY
+    square = units_of(x) << 1074
+    whole = math.isqrt(square)
+    exact = whole * whole == square
+    assert not exact or size_with(whole) == sqrt(x)
+    return exact
+
+
 def quotient(a, d, b):
     """xi by document 02 (v), for a b that is not zero."""
     return div(sub(div(d, TWO), div(a, TWO)), b)
@@ -161,19 +184,32 @@ def is_kept(a, d, b):
 
 
 def tangent(a, d, b):
+    """The tangent, and the value of which a root was taken, if one was."""
     if size_of(b) == ZERO:
-        return ZERO
+        return ZERO, None
     xi = quotient(a, d, b)
     if xi == NAN:
-        return NAN
+        return NAN, NAN
     sign = SIGN + ONE if sign_of(xi) and size_of(xi) != ZERO else ONE
-    return div(sign, add(size_of(xi), sqrt(add(ONE, mul(xi, xi)))))
+    square = add(ONE, mul(xi, xi))
+    return div(sign, add(size_of(xi), sqrt(square))), square
+
+
+def are_exact(pair):
+    """Whether both roots of a pair were exact: without any where b is zero, and not where t is no number."""
+    t, square = tangent(*map(read, pair))
+    if square is None:
+        return True
+    if t == NAN:
+        return False
+    return has_exact_root(square) and has_exact_root(add(ONE, mul(t, t)))
 
 
 def parameters(pair):
     """STILL, or the tangent, the cosine and the sine."""
-    t = tangent(*map(read, pair))
+    t, _ = tangent(*map(read, pair))
     if size_of(t) == ZERO:
+        assert are_exact(pair)
         return STILL
     c = div(ONE, sqrt(add(ONE, mul(t, t))))
     return t, c, mul(t, c)
@@ -299,10 +335,34 @@ def at_the_ends(rng):
         yield SIGN, a, SIGN + HIDDEN
 
 
+def exact_roots(rng):
+    """Quotients with an exact root, the first, the second or both: those that a search found and their neighbours; 3/4
+    and others of Pythagoras; of few digits, and so large that 1 is lost, around where the second root becomes exact;
+    and powers of two of either sign, up to where the square is infinite and the tangent zero."""
+    for xi in BOTH_EXACT:
+        yield from ((ZERO, xi, HALF), (SIGN + xi, ZERO, SIGN + HALF))
+        yield from ((ZERO, xi - 1, HALF), (ZERO, xi + 1, HALF))
+    for leg, other in [(3, 4), (4, 3), (5, 12), (12, 5), (7, 24), (24, 7), (15, 8), (8, 15)]:
+        yield ZERO, rounded(0, leg << 1074, 1), rounded(0, other << 1073, 1)
+    for exponent in [*range(20, 32), 52, 53, 300, 510, 511, 512, 1000]:
+        for number in [1, 3, 5, rng.getrandbits(20) | 1, rng.getrandbits(26) | 1]:
+            xi = rounded(rng.getrandbits(1), number << 1074 + exponent - number.bit_length() + 1, 1)
+            yield ZERO, xi, HALF
+    for exponent in [-1, -2, -26, -27, -28, -52, -53, -54, -55, -600, -1074]:
+        yield ZERO, rounded(rng.getrandbits(1), 1 << 1074 + exponent, 1), HALF
+
+
+def no_numbers(rng):
+    """Quotients and tangents that are no numbers."""
+    for x in (NAN, INFINITY, SIGN + INFINITY):
+        yield from ((x, ONE, ONE), (ONE, x, ONE), (ONE, ONE, x), (x, x, ONE), (x, ONE, x), (x, x, x))
+        yield from ((x, ONE, ZERO), (ONE, x, SIGN), (x, x, within(rng, 1000, 1040)))
+
+
 def pairs():
     """All pairs, in order and each once."""
     rng = random.Random(1985)
-    found = [pair for pair, _ in EXAMPLES]
+    found = [pair for pair, _, _ in EXAMPLES]
     found += special_places()
     found += nan_places(rng)
     found += small_numbers()
@@ -313,6 +373,9 @@ def pairs():
     found += quotients(rng)
     found += random_patterns(rng)
     found += at_the_ends(rng)
+    rng = random.Random(754)
+    found += exact_roots(rng)
+    found += no_numbers(rng)
     return list(dict.fromkeys(found))
 
 
@@ -351,8 +414,11 @@ def check_quotient(pair):
 
 def check_examples():
     assert quotient(*TOP_PAIR) == QUARTER and first_quotient(*TOP_PAIR) == ZERO
-    for pair, answer in EXAMPLES:
-        assert parameters(pair) == answer, pair
+    for pair, answer, exact in EXAMPLES:
+        assert (parameters(pair), are_exact(pair)) == (answer, exact), pair
+    for xi in BOTH_EXACT:
+        t, square = tangent(ZERO, xi, HALF)
+        assert are_exact((ZERO, xi, HALF)) and square != mul(xi, xi) and add(ONE, mul(t, t)) != ONE, xi
 
 
 def lines_of(patterns):
@@ -362,13 +428,15 @@ def lines_of(patterns):
 def all_lines():
     """The lines of each case and of its answer."""
     check_examples()
-    made = [(pair, parameters(pair)) for pair in pairs()]
-    still = sum(answer == STILL for _, answer in made)
-    other = sum(check_quotient(pair) for pair, _ in made)
-    print(f"{len(made)} pairs, {still} of them still; xi is not document 01's in {other}")
-    for pair, answer in made:
+    made = [(pair, parameters(pair), are_exact(pair)) for pair in pairs()]
+    still = sum(answer == STILL for _, answer, _ in made)
+    turned = sum(answer != STILL and exact for _, answer, exact in made)
+    other = sum(check_quotient(pair) for pair, _, _ in made)
+    print(f"{len(made)} pairs, {still} of them still, {turned} others exact; xi is not document 01's in {other}")
+    for pair, answer, exact in made:
         check(pair, answer)
-        yield lines_of(pair), ["still\n"] if answer == STILL else lines_of(answer)
+        lines = ["still\n"] if answer == STILL else lines_of(answer)
+        yield lines_of(pair), [*lines, "exact\n" if exact else "rounded\n"]
 
 
 def main():

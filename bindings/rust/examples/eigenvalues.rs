@@ -1,6 +1,6 @@
 //! The eigenvalues of four coded lines: by plain sweeps, by the array in one call, and by the array tick by tick.
 //! First, the most that the array's run can need. It prints what the example in C prints.
-use weimrukas::{Array, Forecast, Made, Refusal};
+use weimrukas::{Array, Forecast, Made, Ran, Refusal};
 
 const N: usize = 4;
 const SWEEPS: usize = 16;
@@ -19,8 +19,9 @@ const MATRIX: Matrix = [
 fn main() -> Result<(), Refusal> {
     forecast()?;
     let (mut result, mut vectors) = ([0.0; N * N], [0.0; N * N]);
-    let sweeps = weimrukas::plain_run(N, SWEEPS, &MATRIX, &mut result, &mut vectors)?;
-    println!("{sweeps} sweeps made of {SWEEPS}");
+    let Ran { sweeps, rounded } =
+        weimrukas::plain_run(N, SWEEPS, &MATRIX, &mut result, &mut vectors)?;
+    println!("{sweeps} sweeps made of {SWEEPS}, {rounded} pairs rounded");
     run(&result, &vectors)?;
     run_by_hand(&result)?;
     use_sheet()?;
@@ -45,15 +46,19 @@ fn forecast() -> Result<(), Refusal> {
 
 fn run(plain_result: &Matrix, plain_vectors: &Matrix) -> Result<(), Refusal> {
     let (mut result, mut vectors) = ([0.0; N * N], [0.0; N * N]);
-    let Made { sweeps, ticks } =
-        weimrukas::array_run(N, SWEEPS, &MATRIX, &mut result, &mut vectors)?;
+    let Made {
+        sweeps,
+        ticks,
+        rounded,
+    } = weimrukas::array_run(N, SWEEPS, &MATRIX, &mut result, &mut vectors)?;
     let differ = |x: &Matrix, y: &Matrix| x.map(f64::to_bits) != y.map(f64::to_bits);
     let bits = if differ(&result, plain_result) || differ(&vectors, plain_vectors) {
         "other bits than"
     } else {
         "the same bits as"
     };
-    println!("{sweeps} sweeps and {ticks} ticks of the array: {bits} by plain sweeps");
+    print!("{sweeps} sweeps and {ticks} ticks of the array, {rounded} pairs rounded: ");
+    println!("{bits} by plain sweeps");
     for (k, code) in CODES.iter().enumerate() {
         let column = vectors.iter().skip(k).step_by(N);
         let vector: String = column.map(|x| format!(" {x:.6}")).collect();
@@ -70,8 +75,11 @@ fn run_by_hand(result: &Matrix) -> Result<(), Refusal> {
         |i: usize, j: usize| array.words()[weimrukas::tile(i / 2, j / 2) + i % 2 * 2 + j % 2];
     let is_same = |&k: &usize| cell(k / N, k % N) == result[k].to_bits();
     let same = (0..N * N).filter(is_same).count();
+    let counted = |k: usize| array.words()[weimrukas::tile(k, k) + weimrukas::TILE_WORDS - 1];
+    let rounded: u64 = (0..N.div_ceil(2)).map(counted).sum();
     let (ticks, all) = (array.words()[2], N * N);
-    println!("{ticks} ticks by hand: {same} of {all} cells have the same bits");
+    print!("{ticks} ticks by hand: {same} of {all} cells have the same bits, ");
+    println!("{rounded} pairs rounded");
     Ok(())
 }
 

@@ -11,7 +11,7 @@ pub struct Place {
 }
 
 extern "C" {
-    fn weimrukas_root(x: f64, root: *mut f64) -> u8;
+    fn weimrukas_root(x: f64, root: *mut f64, exact: *mut u8) -> u8;
     fn weimrukas_parameters(
         a: f64,
         d: f64,
@@ -20,6 +20,7 @@ extern "C" {
         t: *mut f64,
         c: *mut f64,
         s: *mut f64,
+        exact: *mut u8,
     );
     fn weimrukas_pairs(
         n: usize,
@@ -36,6 +37,8 @@ extern "C" {
         step: usize,
         records: *mut f64,
         records_length: usize,
+        exact: *mut u8,
+        exact_length: usize,
         row: *mut usize,
         column: *mut usize,
     ) -> u8;
@@ -49,6 +52,7 @@ extern "C" {
         vectors: *mut f64,
         vectors_length: usize,
         sweeps_made: *mut usize,
+        rounded: *mut usize,
         row: *mut usize,
         column: *mut usize,
     ) -> u8;
@@ -63,6 +67,7 @@ extern "C" {
         vectors_length: usize,
         sweeps_made: *mut usize,
         ticks: *mut usize,
+        rounded: *mut usize,
         row: *mut usize,
         column: *mut usize,
     ) -> u8;
@@ -120,12 +125,21 @@ extern "C" {
     fn weimrukas_array_tick(words: *mut u64, words_length: usize, made: *mut u8) -> u8;
 }
 
-pub fn root(x: f64, root: &mut f64) -> u8 {
-    unsafe { weimrukas_root(x, root) }
+pub fn root(x: f64, root: &mut f64, exact: &mut u8) -> u8 {
+    unsafe { weimrukas_root(x, root, exact) }
 }
 
-pub fn parameters(a: f64, d: f64, b: f64, turn: &mut u8, t: &mut f64, c: &mut f64, s: &mut f64) {
-    unsafe { weimrukas_parameters(a, d, b, turn, t, c, s) }
+pub fn parameters(
+    a: f64,
+    d: f64,
+    b: f64,
+    turn: &mut u8,
+    t: &mut f64,
+    c: &mut f64,
+    s: &mut f64,
+    exact: &mut u8,
+) {
+    unsafe { weimrukas_parameters(a, d, b, turn, t, c, s, exact) }
 }
 
 pub fn pairs(n: usize, step: usize, left: &mut [usize], right: &mut [usize]) -> u8 {
@@ -146,6 +160,7 @@ pub fn records(
     matrix: &[f64],
     step: usize,
     records: &mut [f64],
+    exact: &mut [u8],
     place: &mut Place,
 ) -> u8 {
     unsafe {
@@ -156,6 +171,8 @@ pub fn records(
             step,
             records.as_mut_ptr(),
             records.len(),
+            exact.as_mut_ptr(),
+            exact.len(),
             &mut place.row,
             &mut place.column,
         )
@@ -169,6 +186,7 @@ pub fn plain_run(
     result: &mut [f64],
     vectors: &mut [f64],
     sweeps_made: &mut usize,
+    rounded: &mut usize,
     place: &mut Place,
 ) -> u8 {
     unsafe {
@@ -182,6 +200,7 @@ pub fn plain_run(
             vectors.as_mut_ptr(),
             vectors.len(),
             sweeps_made,
+            rounded,
             &mut place.row,
             &mut place.column,
         )
@@ -196,6 +215,7 @@ pub fn array_run(
     vectors: &mut [f64],
     sweeps_made: &mut usize,
     ticks: &mut usize,
+    rounded: &mut usize,
     place: &mut Place,
 ) -> u8 {
     unsafe {
@@ -210,6 +230,7 @@ pub fn array_run(
             vectors.len(),
             sweeps_made,
             ticks,
+            rounded,
             &mut place.row,
             &mut place.column,
         )

@@ -1,13 +1,14 @@
 //! The functions of `weimrukas.h` for Rust: eigenvalues and eigenvectors of symmetric matrices of coded barley lines,
 //! by plain sweeps or by an array of tiles. Orders are 2 to 32, even and odd. What each function asks for and answers,
-//! the order of its refusals and what a refused call leaves is said in the header. As everywhere in Rust, the
-//! floating-point environment is the default.
+//! the order of its refusals, what a refused call leaves and which pairs are exact and which rounded is said in the
+//! header. As everywhere in Rust, the floating-point environment is the default.
 //!
 //! ```
 //! let (mut result, mut vectors) = ([0.0; 4], [0.0; 4]);
-//! let sweeps = weimrukas::plain_run(2, 16, &[1.0; 4], &mut result, &mut vectors)?;
+//! let ran = weimrukas::plain_run(2, 16, &[1.0; 4], &mut result, &mut vectors)?;
 //! assert_eq!(result, [0.0, 0.0, 0.0, 2.0]);
-//! assert_eq!(sweeps, 2);
+//! assert_eq!((ran.sweeps, ran.rounded), (2, 1));
+//! assert!(weimrukas::root(4.0)?.exact && !weimrukas::root(2.0)?.exact);
 //! # Ok::<(), weimrukas::Refusal>(())
 //! ```
 //!
@@ -28,6 +29,15 @@ pub use sizes::{
     MOST_SWEEPS, TILE_WORDS,
 };
 
+/// A square root.
+#[derive(Clone, Copy, Debug, PartialEq)]
+pub struct Root {
+    /// The f64 nearest to the exact root.
+    pub value: f64,
+    /// Whether it is the exact root.
+    pub exact: bool,
+}
+
 /// The parameters of a pair.
 #[derive(Clone, Copy, Debug, PartialEq)]
 pub enum Parameters {
@@ -36,11 +46,29 @@ pub enum Parameters {
     Turn(f64, f64, f64),
 }
 
+/// What is found of a pair.
+#[derive(Clone, Copy, Debug, PartialEq)]
+pub struct Found {
+    pub parameters: Parameters,
+    /// Whether both roots were exact. Where it takes none they were, and where its tangent is not a number they were not.
+    pub exact: bool,
+}
+
+/// What a run by plain sweeps made.
+#[derive(Clone, Copy, Debug, PartialEq, Eq)]
+pub struct Ran {
+    pub sweeps: usize,
+    /// How many of the pairs that it met had a rounded root.
+    pub rounded: usize,
+}
+
 /// What a run by the array made.
 #[derive(Clone, Copy, Debug, PartialEq, Eq)]
 pub struct Made {
     pub sweeps: usize,
     pub ticks: usize,
+    /// How many of the pairs that it met had a rounded root.
+    pub rounded: usize,
 }
 
 /// The most that a run by the array can need.
@@ -53,21 +81,26 @@ pub struct Forecast {
     pub parameters: usize,
 }
 
-/// The f64 nearest to the exact square root of x.
-pub fn root(x: f64) -> Result<f64, Refusal> {
-    let mut root = 0.0;
-    let number = calls::root(x, &mut root);
-    answer(number, Place::default(), root)
+/// The f64 nearest to the exact square root of x, and whether it is exact.
+pub fn root(x: f64) -> Result<Root, Refusal> {
+    let (mut value, mut exact) = (0.0, 0);
+    let number = calls::root(x, &mut value, &mut exact);
+    let exact = exact == 1;
+    answer(number, Place::default(), Root { value, exact })
 }
 
-/// The parameters of a pair, from a = a_pp, d = a_qq and b = a_pq. They are finite where these are.
-pub fn parameters(a: f64, d: f64, b: f64) -> Parameters {
-    let (mut turn, mut t, mut c, mut s) = (0, 0.0, 0.0, 0.0);
-    calls::parameters(a, d, b, &mut turn, &mut t, &mut c, &mut s);
-    if turn == 0 {
-        Parameters::Still
-    } else {
-        Parameters::Turn(t, c, s)
+/// The parameters of a pair, from a = a_pp, d = a_qq and b = a_pq, and whether its roots were exact. They are finite where
+/// these are.
+pub fn parameters(a: f64, d: f64, b: f64) -> Found {
+    let (mut turn, mut t, mut c, mut s, mut exact) = (0, 0.0, 0.0, 0.0, 0);
+    calls::parameters(a, d, b, &mut turn, &mut t, &mut c, &mut s, &mut exact);
+    Found {
+        parameters: if turn == 0 {
+            Parameters::Still
+        } else {
+            Parameters::Turn(t, c, s)
+        },
+        exact: exact == 1,
     }
 }
 
@@ -83,29 +116,56 @@ pub fn pairs(
     answer(number, Place::default(), ())
 }
 
-/// Writes tangent, cosine and sine of each pair of a step, from 0, into a lent row of three values to a processor.
-/// There are (n + 1) / 2 processors, of which the first is always still where the order is odd. All values are finite.
-pub fn records(n: usize, matrix: &[f64], step: usize, records: &mut [f64]) -> Result<(), Refusal> {
-    let mut place = Place::default();
-    let number = calls::records(n, matrix, step, records, &mut place);
+/// Writes tangent, cosine and sine of each pair of a step, from 0, into a lent row of three values to a processor, and
+/// whether its roots were exact into another of one flag to a processor. There are (n + 1) / 2 processors, of which the
+/// first is always still and exact where the order is odd. All values are finite.
+pub fn records(
+    n: usize,
+    matrix: &[f64],
+    step: usize,
+    records: &mut [f64],
+    exact: &mut [bool],
+) -> Result<(), Refusal> {
+    let (mut bytes, mut place) = ([0; MOST_PROCESSORS], Place::default());
+    // No order has more processors.
+    let lent = exact.len().min(MOST_PROCESSORS);
+    let bytes = &mut bytes[..lent];
+    for (byte, flag) in bytes.iter_mut().zip(&*exact) {
+        *byte = *flag as u8;
+    }
+    let number = calls::records(n, matrix, step, records, bytes, &mut place);
+    for (flag, byte) in exact.iter_mut().zip(bytes) {
+        *flag = *byte == 1;
+    }
     answer(number, place, ())
 }
 
 /// Runs the sweeps, and leaves the last matrix and the eigenvectors in the two results. It ends after the first sweep in
-/// which every pair was still, as further ones would change no bit, and answers the number of the sweeps that it made.
+/// which every pair was still, as further ones would change no bit, and answers the number of the sweeps that it made and
+/// that of the pairs with a rounded root in them.
 pub fn plain_run(
     n: usize,
     sweeps: usize,
     matrix: &[f64],
     result: &mut [f64],
     vectors: &mut [f64],
-) -> Result<usize, Refusal> {
-    let (mut made, mut place) = (0, Place::default());
-    let number = calls::plain_run(n, sweeps, matrix, result, vectors, &mut made, &mut place);
-    answer(number, place, made)
+) -> Result<Ran, Refusal> {
+    let (mut made, mut rounded, mut place) = (0, 0, Place::default());
+    let number = calls::plain_run(
+        n,
+        sweeps,
+        matrix,
+        result,
+        vectors,
+        &mut made,
+        &mut rounded,
+        &mut place,
+    );
+    let sweeps = made;
+    answer(number, place, Ran { sweeps, rounded })
 }
 
-/// The same by the array. Answers the numbers of the sweeps and of the ticks that it made.
+/// The same by the array. Answers the numbers of the sweeps and of the ticks that it made too.
 pub fn array_run(
     n: usize,
     sweeps: usize,
@@ -113,12 +173,24 @@ pub fn array_run(
     result: &mut [f64],
     vectors: &mut [f64],
 ) -> Result<Made, Refusal> {
-    let (mut made, mut ticks, mut place) = (0, 0, Place::default());
+    let (mut made, mut ticks, mut rounded, mut place) = (0, 0, 0, Place::default());
     let number = calls::array_run(
-        n, sweeps, matrix, result, vectors, &mut made, &mut ticks, &mut place,
+        n,
+        sweeps,
+        matrix,
+        result,
+        vectors,
+        &mut made,
+        &mut ticks,
+        &mut rounded,
+        &mut place,
     );
-    let sweeps = made;
-    answer(number, place, Made { sweeps, ticks })
+    let made = Made {
+        sweeps: made,
+        ticks,
+        rounded,
+    };
+    answer(number, place, made)
 }
 
 /// The most that a run by the array can need, before it is made: by the order and the sweeps alone, for a run that will

@@ -8,7 +8,7 @@ pub const MOST_PROCESSORS: usize = MOST_LINES.div_ceil(2);
 
 /// Words before the first tile: the order, the sweeps and the number of the next tick.
 const HEAD_WORDS: usize = 3;
-pub const TILE_WORDS: usize = 20;
+pub const TILE_WORDS: usize = 21;
 pub const ARRAY_WORDS: usize = HEAD_WORDS + MOST_PROCESSORS * MOST_PROCESSORS * TILE_WORDS;
 
 /// The length of a sheet of order n whose codes are all below 256, and so have one byte each.

@@ -19,6 +19,8 @@ use Rattle.systolic.specs.Arrays.{tick}
 use Rattle.sizes.specs.Sizes.{mostProcessors, isOrder, processorsOf, firstLine, stepsOf}
 use Rattle.sizes.proofs.Orders.{order-half}
 use Rattle.runs.specs.State.{startOf}
+use Rattle.runs.specs.declared.Counts.{Counts}
+use Rattle.runs.specs.Counts.{counts}
 use Rattle.runs.specs.Cells.{Cell, cell, cellOf, Setting, setting}
 use Rattle.runs.proofs.Verdicts.{Begins, begins}
 use Rattle.tile_schedule.specs.Answers.{Tick, made, progressAnswered, progressOf}
@@ -75,8 +77,8 @@ module _ (x : Array) (r : Ticked) (p : Ticks x r) (h : progressAnswered (r .answ
       ∙ the-tile-of _))
 
 -- ---- the start
--- cells of the matrix and of the identity, in the order of the lines from the first on, all wires at +0, not marked, no turn counted
-abbrev pub begun : ℕ → List Float → ℕ → ℕ → theory.Tile Cell Float Float ℕ
+-- cells of the matrix and of the identity, in the order of the lines from the first on, all wires at +0, not marked, nothing counted
+abbrev pub begun : ℕ → List Float → ℕ → ℕ → theory.Tile Cell Float Float Counts
 begun n l i j =
     record {
       cells = blockAt (inOrder (firstLine n)) (cellOf (startOf n l)) i j;
@@ -84,7 +86,7 @@ begun n l i j =
       rowWire = plusZero;
       columnWire = plusZero;
       mark = false;
-      kept = 0;
+      kept = counts 0 0;
     }
 
 module _ (n sweeps : ℕ) (l : List Float) where

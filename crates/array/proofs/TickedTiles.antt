@@ -24,6 +24,7 @@ use Rattle.tile_wires.specs.declared.Part.{Part}
 use Rattle.tile_wires.specs.Wires.{incomingPart}
 use Rattle.rotation.specs.declared.Angle.{Angle}
 use Rattle.rotation.specs.Rotation.{angleOf}
+use Rattle.runs.specs.declared.Counts.{Counts}
 use Rattle.runs.specs.Cells.{Cell, Setting}
 use Rattle.tile.specs.declared.Tile.{Tile}
 use Rattle.tile.specs.Tiles.{blockOf, theTile, operations, broughtTo}
@@ -38,7 +39,7 @@ tile-again : (x : Tile) → tileOf (theTile x) ≡ x
 unfolding tileOf partOf theTile blockOf
 tile-again x = refl
 
-pub the-tile-of : (x : theory.Tile Cell Float Float ℕ) → theTile (tileOf x) ≡ x
+pub the-tile-of : (x : theory.Tile Cell Float Float Counts) → theTile (tileOf x) ≡ x
 unfolding theTile tileOf partOf blockOf
 the-tile-of x = refl
 
@@ -107,7 +108,7 @@ at-place l k = let e : k / mostProcessors * mostProcessors + k % mostProcessors 
 
 -- ---- the turning: what each tile is after it
 module _ (s : Setting) (N K t : ℕ) (l : List Tile) where
-  abbrev turnAt : ℕ → ℕ → theory.Tile Cell Float Float ℕ
+  abbrev turnAt : ℕ → ℕ → theory.Tile Cell Float Float Counts
   turnAt i j =
       turnedTile (operations s) (stepAt (distance i j) t) i j (actionAt K (distance i j) t) (theArray l i j) (incoming (N - 1) (theArray l) i j)
       (theArray l i (nearer i j) .rowWire) (theArray l (nearer j i) j .columnWire)
@@ -222,7 +223,7 @@ module _ (s : Setting) (N K t : ℕ) (l : List Tile) where
 
 -- ---- the setting of wires: what each tile is after it
 module _ (s : Setting) (N K t : ℕ) (l₁ : List Tile) where
-  abbrev settled : ℕ → Tile → theory.Tile Cell Float Float ℕ
+  abbrev settled : ℕ → Tile → theory.Tile Cell Float Float Counts
   settled k x =
       settledTile (operations s) (N - 1) (k / mostProcessors) (k % mostProcessors)
       (actionAt K (distance (k / mostProcessors) (k % mostProcessors)) t) (theTile x)

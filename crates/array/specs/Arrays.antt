@@ -14,6 +14,8 @@ use Rattle.systolic.specs.Arrays.{tick}
 use Rattle.tile_wires.specs.declared.Quad.{Quad}
 use Rattle.tile_wires.specs.declared.Part.{Part}
 use Rattle.sizes.specs.Sizes.{mostProcessors, processorsOf, stepsOf}
+use Rattle.runs.specs.declared.Counts.{Counts}
+use Rattle.runs.specs.Counts.{counts}
 use Rattle.runs.specs.Cells.{Cell, blockEntries, blockVectors, Setting, setting}
 use Rattle.tile_schedule.specs.Answers.{Tick, made, stopped, progressAnswered, progressOf}
 use Rattle.tile.specs.declared.Tile.{Tile}
@@ -30,7 +32,7 @@ unfoldable pub noPart : Part
 noPart = record { matrix = noQuad; vectors = noQuad }
 
 unfoldable pub noTile : Tile
-noTile = record { cells = noPart; wires = noPart; «row_wire» = nan; «column_wire» = nan; mark = false; turns = 0 }
+noTile = record { cells = noPart; wires = noPart; «row_wire» = nan; «column_wire» = nan; mark = false; counts = counts 0 0 }
 
 -- The tile in row i and column j.
 unfoldable pub tileAt : List Tile → ℕ → ℕ → Tile
@@ -40,7 +42,7 @@ tileAt l i j = getD l (i * mostProcessors + j) noTile
 unfoldable pub partOf : Block Cell → Part
 partOf b = record { matrix = quadOf (blockEntries b); vectors = quadOf (blockVectors b) }
 
-unfoldable pub tileOf : theory.Tile Cell Float Float ℕ → Tile
+unfoldable pub tileOf : theory.Tile Cell Float Float Counts → Tile
 tileOf x =
     record {
       cells = partOf (x .cells);
@@ -48,11 +50,11 @@ tileOf x =
       «row_wire» = x .rowWire;
       «column_wire» = x .columnWire;
       mark = x .mark;
-      turns = x .kept;
+      counts = x .kept;
     }
 
 -- A list of tiles as the theory's array.
-unfoldable pub theArray : List Tile → ℕ → ℕ → theory.Tile Cell Float Float ℕ
+unfoldable pub theArray : List Tile → ℕ → ℕ → theory.Tile Cell Float Float Counts
 theArray l i j = theTile (tileAt l i j)
 
 -- The tiles after tick t of a run of K steps on N by N tiles at the setting s; those that are not in use stay.

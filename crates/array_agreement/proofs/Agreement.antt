@@ -16,27 +16,31 @@ use Rattle.systolic.specs.Slots.{Slot, slot, inOrderAt, inOrder}
 use Rattle.lists.specs.Bounded.{any}
 use Rattle.systolic.specs.Blocks.{cell, pick}
 use Rattle.systolic.specs.Synchronous.{Operations}
-use Rattle.systolic.specs.Sequential.{operationsOf}
+use Rattle.systolic.specs.Sequential.{operationsOf, sequentialKept}
 use Rattle.systolic.specs.Tiles as theory
 use Rattle.systolic.specs.Arrays.{tick, arrayAfter}
 use Rattle.lists.proofs.Bounded.{any-within}
+use Rattle.lists.proofs.Sums.{total-below}
 use Rattle.systolic.proofs.Neighbourhood.{tick-same}
 use Rattle.systolic.proofs.Starts.{tick-any-start}
 use Rattle.systolic.proofs.Ticks.{kept-turned}
 use Rattle.systolic.proofs.Lines.{inOrder-one}
 use Rattle.systolic.proofs.Agreement.{kept-sequential, agreement}
-use Rattle.sizes.specs.Sizes.{mostSweeps, isOrder, processorsOf, sweepSteps, firstLine, linesOf, stepsOf, ticksOf}
-use Rattle.sizes.proofs.Orders.{order-is, order-half, sweep-is}
+use Rattle.sizes.specs.Sizes.{mostSweeps, isOrder, processorsOf, firstLine, linesOf, stepsOf, ticksOf}
+use Rattle.sizes.proofs.Orders.{order-is, order-half, sweep-is, steps-few}
 use Rattle.matrix.specs.Matrix.{at, flat}
 use Rattle.matrix.proofs.SameEntries.{Line, flat-same}
 use Rattle.runs.specs.State.{State, startOf, zeros}
 use Rattle.plain_run.specs.State.{after, notFinite, spoiled}
-use Rattle.runs.specs.Outcome.{outcome, answering}
+use Rattle.runs.specs.Outcome.{outcome, report, answering}
+use Rattle.runs.specs.declared.Counts.{Counts}
+use Rattle.runs.specs.Counts.{counts}
 use Rattle.plain_run.specs.Run.{ranOf}
 use Rattle.runs.specs.Cells.{Cell, cell as cellWith, cellOf, Setting, setting, rules}
 use Rattle.plain_run.proofs.VanishingLine.{every-line}
-use Rattle.plain_run.specs.Quiet.{turnsFrom}
-use Rattle.plain_run.proofs.KeptTurns.{kept-turns}
+use Rattle.plain_run.specs.Met.{roundedBy}
+use Rattle.plain_run.proofs.RoundedPairs.{rounded-sum}
+use Rattle.plain_run.proofs.KeptCounts.{kept-rounded}
 use Rattle.plain_run.proofs.Sequence.{plain-sequential, plain-fails, fails-are}
 use Rattle.runs.proofs.Verdicts.{Begins}
 use Rattle.plain_run.proofs.RunStart.{start-finite, start-vanishes}
@@ -50,7 +54,7 @@ use Rattle.array.proofs.TickedTiles.{the-tile-of}
 use Rattle.array.proofs.ArrayEnd.{ended-stays}
 use Rattle.array.proofs.TicksInARow.{tilesFrom, ticked-made}
 use Rattle.array.proofs.MadeTicks.{tile-after, start-tile}
-use Rattle.array_run.specs.Results.{Duration, lasting, joinedAt, matrixIn, vectorsIn, someMarked, handedOver}
+use Rattle.array_run.specs.Results.{WholeReport, reporting, joinedAt, matrixIn, vectorsIn, someMarked, roundedPairs, handedOver}
 
 -- the slot of a line, where f is the first
 abbrev slotOf : ℕ → ℕ → Slot
@@ -93,8 +97,8 @@ module _ (n sweeps : ℕ) (l : List Float) (order : isOrder n ≡ true) (few : s
   abbrev s : Setting
   s = setting n
 
-  abbrev S : Operations Cell Float Float ℕ
-  S = operationsOf (rules s) (inOrder (firstLine n)) (cellOf X) (cellWith plusZero plusZero) plusZero plusZero 0
+  abbrev S : Operations Cell Float Float Counts
+  S = operationsOf (rules s) (inOrder (firstLine n)) (cellOf X) (cellWith plusZero plusZero) plusZero plusZero (counts 0 0)
 
   -- the tiles after t ticks
   unfoldable pub tilesBy : ℕ → List Tile
@@ -113,11 +117,11 @@ module _ (n sweeps : ℕ) (l : List Float) (order : isOrder n ≡ true) (few : s
   starts-as i j hi hj = start-tile n sweeps l order long i j (within i hi) (within j hj)
 
   -- ---- the ticks
-  from-start : (t : ℕ) (A : ℕ → ℕ → theory.Tile Cell Float Float ℕ) (i j : ℕ) → tick (operations s) m K t A i j ≡ tick S m K t A i j
+  from-start : (t : ℕ) (A : ℕ → ℕ → theory.Tile Cell Float Float Counts) (i j : ℕ) → tick (operations s) m K t A i j ≡ tick S m K t A i j
   unfolding operations
   from-start t A i j =
       tick-any-start (rules s) (inOrder (firstLine n)) (inOrder (firstLine n)) (λ r c. cellWith plusZero plusZero) (cellOf X) (cellWith plusZero plusZero)
-      (cellWith plusZero plusZero) plusZero plusZero plusZero plusZero 0 0 m K t A i j
+      (cellWith plusZero plusZero) plusZero plusZero plusZero plusZero (counts 0 0) (counts 0 0) m K t A i j
 
   tiles-are : (t i j : ℕ) → i ≤ m → j ≤ m → theArray (tilesBy t) i j ≡ arrayAfter S m K t i j
   tiles-are zero i j hi hj = starts-as i j hi hj
@@ -168,8 +172,8 @@ module _ (n sweeps : ℕ) (l : List Float) (order : isOrder n ≡ true) (few : s
   cells-are : (u z : Slot) → u .processor ≤ m → z .processor ≤ m
       → pick (λ i j. theArray lastTiles i j .cells) u z ≡ cellOf (after n K X) (inOrder (firstLine n) u) (inOrder (firstLine n) z)
   cells-are u z p q =
-      unfold pick in (ap (λ (x : theory.Tile Cell Float Float ℕ). cell (u .side) (z .side) (x .cells)) (last-as (u .processor) (z .processor) p q))
-      ∙ agreement (rules s) (firstLine n) m (cellOf X) (cellWith plusZero plusZero) plusZero plusZero 0 sweeps .cells u z p q
+      unfold pick in (ap (λ (x : theory.Tile Cell Float Float Counts). cell (u .side) (z .side) (x .cells)) (last-as (u .processor) (z .processor) p q))
+      ∙ agreement (rules s) (firstLine n) m (cellOf X) (cellWith plusZero plusZero) plusZero plusZero (counts 0 0) sweeps .cells u z p q
       ∙ rw (← whole-sweeps) (ap (λ (f : ℕ → ℕ → Cell). f (inOrder (firstLine n) u) (inOrder (firstLine n) z)) (plain-sequential s order X K))
 
   -- the slot of a real line
@@ -196,7 +200,8 @@ module _ (n sweeps : ℕ) (l : List Float) (order : isOrder n ≡ true) (few : s
   pub last-marked : notFinite n X ≡ false → someMarked N lastTiles ≡ spoiled n K X
   last-marked f =
       unfold someMarked in (marks-same)
-      ∙ agreement (rules s) (firstLine n) m (cellOf X) (cellWith plusZero plusZero) plusZero plusZero 0 sweeps .mark (rw whole (fails-are s order X X ∙ f))
+      ∙ agreement (rules s) (firstLine n) m (cellOf X) (cellWith plusZero plusZero) plusZero plusZero (counts 0 0) sweeps .mark
+      (rw whole (fails-are s order X X ∙ f))
       ∙ rw (whole, ← whole-sweeps) (plain-fails s order X K)
     where
       whole : 2 * suc m ≡ linesOf n
@@ -204,7 +209,7 @@ module _ (n sweeps : ℕ) (l : List Float) (order : isOrder n ≡ true) (few : s
 
       mark-same : (i j : ℕ) → i < suc m → j < suc m
           → tileAt lastTiles i j .mark ≡ arrayAfter S m (sweeps * (2 * m + 1)) (3 * (sweeps * (2 * m + 1)) + suc m) i j .mark
-      mark-same i j hi hj = unfold theArray theTile in (ap (λ (x : theory.Tile Cell Float Float ℕ). x .mark) (last-as i j (omega arith) (omega arith)))
+      mark-same i j hi hj = unfold theArray theTile in (ap (λ (x : theory.Tile Cell Float Float Counts). x .mark) (last-as i j (omega arith) (omega arith)))
 
       marks-same : any N (λ i. any N (λ j. tileAt lastTiles i j .mark))
           ≡ any (suc m) (λ i. any (suc m) (λ j. arrayAfter S m (sweeps * (2 * m + 1)) (3 * (sweeps * (2 * m + 1)) + suc m) i j .mark))
@@ -213,25 +218,35 @@ module _ (n sweeps : ℕ) (l : List Float) (order : isOrder n ≡ true) (few : s
           any-within N (suc m) _ _ (omega arith) (λ i hi. any-within N (suc m) _ _ (omega arith) (λ j hj. mark-same i j hi hj) (λ j a b. absurd (omega arith)))
           (λ i a b. absurd (omega arith))
 
-  -- ---- what the tiles on the diagonal count: after s + 1 of their rotations in sweep j + 1 and no more, the turns in them
-  pub turns-by : (j k i t : ℕ) → i < N → k < sweepSteps n → let z = suc (j * sweepSteps n + k) in z ≤ K → 3 * z < t + 3 → (z < K → t ≤ 3 * z)
-      → tileAt (tilesBy t) i i .turns ≡ turnsFrom n (j * sweepSteps n) (suc k) i X
-  turns-by j k i t hi hk within made no-more =
-      let z = suc (j * sweepSteps n + k) in
-      unfold theArray theTile in (ap (λ (x : theory.Tile Cell Float Float ℕ). x .kept) (tiles-are t i i (omega arith) (omega arith)))
+  -- ---- what the tiles on the diagonal count: after z of their rotations and no more, what the plain order keeps
+  abbrev pub keptAfter : ℕ → ℕ → Counts
+  keptAfter z i = sequentialKept (rules s) (inOrder (firstLine n)) m (cellOf X) (counts 0 0) z i
+
+  pub counts-by : (z i t : ℕ) → i < N → z ≤ K → 3 * z < t + 3 → (z < K → t ≤ 3 * z) → tileAt (tilesBy t) i i .counts ≡ keptAfter z i
+  counts-by z i t hi within made no-more =
+      unfold theArray theTile in (ap (λ (x : theory.Tile Cell Float Float Counts). x .kept) (tiles-are t i i (omega arith) (omega arith)))
       ∙ kept-turned S m K t z i (omega arith) within made no-more
-      ∙ kept-sequential (rules s) (inOrder (firstLine n)) m (inOrder-one (firstLine n) m) (cellOf X) (cellWith plusZero plusZero) plusZero plusZero 0 z i
-      (omega arith)
-      ∙ kept-turns s order X j k i hi hk
+      ∙ kept-sequential (rules s) (inOrder (firstLine n)) m (inOrder-one (firstLine n) m) (cellOf X) (cellWith plusZero plusZero) plusZero plusZero
+      (counts 0 0) z i (omega arith)
+
+  -- at the end their rounded pairs are those of the plain run
+  last-rounded : roundedPairs N lastTiles ≡ roundedBy n K X
+  unfolding roundedPairs
+  last-rounded =
+      let most = steps-few n sweeps order few in
+      total-below _ _ N (λ i hi.
+      ap (λ (d : Counts). d .rounded) (counts-by K i (ticksOf n sweeps) hi (omega arith) (omega arith) (λ h. absurd (omega arith)))
+      ∙ kept-rounded s order X K i hi (omega (arith, most)))
+      ∙ rounded-sum n K X
 
   -- ---- the record of a run of all its ticks
-  abbrev made : Duration
-  made = lasting sweeps (ticksOf n sweeps)
+  abbrev made : WholeReport
+  made = reporting (report sweeps (roundedBy n K X)) (ticksOf n sweeps)
 
   pub handed-is : notFinite n X ≡ false
       → handedOver (ticked (ticksOf n sweeps) (startArray n sweeps l)) ≡ answering made (ranOf n sweeps l)
   handed-is f = ap handedOver (ticked-is (ticksOf n sweeps) (omega arith)) ∙ unfold handedOver recordBy ranOf in
-      (rw (last-marked f, matrix-flat, vectors-flat) (go (spoiled n K X)))
+      (rw (last-marked f, last-rounded, matrix-flat, vectors-flat) (go (spoiled n K X)))
     where
       matrix-flat : flat n (matrixIn n lastTiles) ≡ flat n (after n K X .matrix)
       matrix-flat = flat-same n _ _ last-matrix
@@ -240,7 +255,7 @@ module _ (n sweeps : ℕ) (l : List Float) (order : isOrder n ≡ true) (few : s
       vectors-flat = flat-same n _ _ last-vectors
 
       go : (b : Bool)
-          → cond b (outcome {A = Duration} (refusedBy Spoiled) (zeros n) (zeros n))
+          → cond b (outcome {A = WholeReport} (refusedBy Spoiled) (zeros n) (zeros n))
           (outcome (given made) (flat n (after n K X .matrix)) (flat n (after n K X .vectors)))
           ≡ answering {A = Unit} made
           (cond b (outcome (refusedBy Spoiled) (zeros n) (zeros n)) (outcome (given tt) (flat n (after n K X .matrix)) (flat n (after n K X .vectors))))

@@ -1,5 +1,6 @@
 pub mod Neighbours
 pub mod Agreement
+pub mod CountedRuns
 pub mod QuietRuns
 pub mod Hand
 pub mod HandCounts

@@ -1,13 +1,12 @@
 -- The whole run ends with the first quiet sweep, as the plain run does, and is the plain run in every bit. Assumes nothing.
 use Prim.Native.Nat.{ℕ, zero, suc, _+_, _-_, _*_, _/_, _%_, _<_, _≤_}
 use mathlib.Core.Path.{_≡_, refl, sym, ap, subst, _∙_, fun-ext}
-use mathlib.Core.Bool.{Bool, true, false, not}
+use mathlib.Core.Bool.{true, false, not}
 use mathlib.Core.List.{List}
 use native.Mathlib.Nat.{mul-le-mul-right}
 use native.Mathlib.Numerals.{add-one}
 use native.Mathlib.Omega.{arith}
-use borrow.Author.Tests.{ltb-true, ltb-false}
-use lib.Dec.{T, eqb, ltb}
+use lib.Dec.{T, eqb}
 use lib.ListN.{length, getD}
 use lib.Ieee.{Float, nan, binary64, fits}
 use Rattle.refusal.specs.Answers.{Answered, given, refused, unlessRefused}
@@ -23,8 +22,9 @@ use Rattle.runs.specs.Outcome.{beforeRun, Outcome, resultsKept, answering}
 use Rattle.runs.specs.Cells.{Setting, setting}
 use Rattle.runs.proofs.Verdicts.{Begins, begins}
 use Rattle.plain_run.specs.Run.{ranOf, runOf}
-use Rattle.plain_run.specs.Quiet.{quiet, sweepsMade, turnsFrom}
-use Rattle.plain_run.proofs.KeptTurns.{none-turns}
+use Rattle.plain_run.specs.Met.{turnsFrom}
+use Rattle.plain_run.specs.Quiet.{quiet, sweepsMade, reportOf}
+use Rattle.plain_run.proofs.KeptCounts.{none-turns}
 use Rattle.plain_run.proofs.SweepsMade.{NoneQuiet, Ends, with-all, when-quiet, made-ends, made-within, ran-made}
 use Rattle.tile_schedule.specs.Answers.{stopped, progressOf}
 use Rattle.tile_schedule.proofs.Answers.{is-stopped}
@@ -34,11 +34,12 @@ use Rattle.array.specs.declared.Array.{Array}
 use Rattle.array.specs.Arrays.{tileAt, theArray, tilesAfter}
 use Rattle.array.specs.Runs.{startArray, ticked}
 use Rattle.array.proofs.TicksInARow.{ticked-order, ticked-more, tilesFrom}
-use Rattle.array_run.specs.Results.{Duration, lasting, handedOver}
+use Rattle.array_run.specs.Results.{WholeReport, reporting, handedOver}
 use Rattle.array_run.specs.Advance.{noneCounted, withSweeps}
 use Rattle.array_run.specs.Whole.{finalArray, wholeOf}
 use Rattle.array_run.proofs.Advances.{diagonalDone, Swept, swept-none, swept-tick, swept-by-ticks, swept-more, swept-quiet, swept-all}
-use Rattle.array_agreement.proofs.Agreement.{tilesBy, recordBy, turns-by, ticked-is, ticked-stays, handed-is, start-clean}
+use Rattle.array_agreement.proofs.Agreement.{tilesBy, recordBy, ticked-is, ticked-stays, handed-is, start-clean}
+use Rattle.array_agreement.proofs.CountedRuns.{turns-after}
 
 -- ---- the tiles of a run of fewer steps, until its diagonal tiles stop
 module _ (s : Setting) (N K L : ℕ) (o : K ≤ L) where
@@ -70,32 +71,9 @@ module _ (n S : ℕ) (l : List Float) (order : isOrder n ≡ true) (few : S ≤ 
   fits-in : (m : ℕ) → m ≤ S → stepsOf n m ≤ stepsOf n S
   fits-in m h = mul-le-mul-right (sweepSteps n) h
 
-  by-record : (t i : ℕ) → tileAt (recordBy n S l order few long t .tiles) i i .turns ≡ tileAt (tilesBy n S l order few long t) i i .turns
-  by-record t i = unfold recordBy in refl
-
-  -- after any ticks, a later one changing nothing
-  pub turns-after : (j k i t : ℕ) → i < N → k < sweepSteps n → let z = suc (j * sweepSteps n + k) in
-      z ≤ stepsOf n S → 3 * z < t + 3 → (z < stepsOf n S → t ≤ 3 * z) → tileAt (ticked t start .tiles) i i .turns ≡ turnsFrom n (j * sweepSteps n) (suc k) i X
-  turns-after j k i t hi hk within made no-more = go (ltb (ticksOf n S) t) refl
-    where
-      z : ℕ
-      z = suc (j * sweepSteps n + k)
-
-      go : (b : Bool) → ltb (ticksOf n S) t ≡ b → tileAt (ticked t start .tiles) i i .turns ≡ turnsFrom n (j * sweepSteps n) (suc k) i X
-      go true e =
-          let late : ticksOf n S < t = ltb-true _ _ e in
-          let all : t ≡ t - ticksOf n S + ticksOf n S = omega arith in
-          ap (λ (x : Array). tileAt (x .tiles) i i .turns) (ap (λ (u : ℕ). ticked u start) all ∙ ticked-stays n S l order few long (t - ticksOf n S))
-          ∙ by-record (ticksOf n S) i
-          ∙ turns-by n S l order few long j k i (ticksOf n S) hi hk within (omega (arith, within)) (λ u. let o = no-more u in omega (arith, o, u, late))
-      go false e =
-          let early : t ≤ ticksOf n S = ltb-false _ _ e in
-          ap (λ (x : Array). tileAt (x .tiles) i i .turns) (ticked-is n S l order few long t early)
-          ∙ by-record t i
-          ∙ turns-by n S l order few long j k i t hi hk within made no-more
-
   -- right after the last rotations on the diagonal in sweep j + 1 its tiles count their turns in that sweep
-  sweep-turns : (j : ℕ) → j < S → (i : ℕ) → i < N → tileAt (ticked (done (j + 1)) start .tiles) i i .turns ≡ turnsFrom n (j * sweepSteps n) (sweepSteps n) i X
+  sweep-turns : (j : ℕ) → j < S → (i : ℕ) → i < N
+      → tileAt (ticked (done (j + 1)) start .tiles) i i .counts .turns ≡ turnsFrom n (j * sweepSteps n) (sweepSteps n) i X
   sweep-turns j h i hi =
       let L = sweepSteps n in
       let some = order-is n order .0 in
@@ -103,7 +81,8 @@ module _ (n S : ℕ) (l : List Float) (order : isOrder n ≡ true) (few : S ≤ 
       let fit = fits-in (j + 1) (omega arith) in
       let all : suc (j * L + (L - 1)) ≡ stepsOf n (j + 1) = omega (arith, next, some) in
       let whole : suc (L - 1) ≡ L = omega (arith, some) in
-      turns-after j (L - 1) i (done (j + 1)) hi (omega (arith, some)) (omega (arith, all, fit)) (omega (arith, all, next, some)) (λ _. omega (arith, all))
+      turns-after n S l order few long j (L - 1) i (done (j + 1)) hi (omega (arith, some)) (omega (arith, all, fit))
+      (omega (arith, all, next, some)) (λ _. omega (arith, all))
       ∙ ap (λ (k : ℕ). turnsFrom n (j * L) k i X) whole
 
   -- so none counts a turn exactly if the sweep is quiet
@@ -206,32 +185,34 @@ module _ (n S : ℕ) (l : List Float) (order : isOrder n ≡ true) (few : S ≤ 
       rw (final-is ∙ ticked-is n made l order less long (ticksOf n made) (omega arith))
       (unfold recordBy in (sym (is-stopped n made (ticksOf n made) order less (omega arith))))
 
--- For every input: the whole run answers and leaves what the plain run does; where it is not refused it makes the same sweeps, and 3 K + N ticks for
--- them.
+-- For every input: the whole run answers and leaves what the plain run does; where it is not refused it reports the same, and 3 K + N ticks for its
+-- sweeps.
+abbrev pub wholeReport : ℕ → ℕ → List Float → WholeReport
+wholeReport n S l = let r = reportOf n S (startOf n l) in reporting r (ticksOf n (r .sweeps))
+
 pub whole-agrees : (n S : ℕ) (l r v : List Float) → ((k : ℕ) → T (fits binary64 (getD l k nan)))
-    → let made = sweepsMade n S (startOf n l) in wholeOf n S l r v ≡ answering (lasting made (ticksOf n made)) (runOf n S l r v)
-unfolding wholeOf runOf
+    → wholeOf n S l r v ≡ answering (wholeReport n S l) (runOf n S l r v)
+unfolding wholeOf runOf reportOf
 whole-agrees n S l r v fitting = go (beforeRun n S l (length r) (length v)) refl
   where
     made : ℕ
     made = sweepsMade n S (startOf n l)
 
-    accepted : Begins n S l (length r) (length v) → handedOver (finalArray n S l) ≡ answering (lasting made (ticksOf n made)) (ranOf n S l)
+    accepted : Begins n S l (length r) (length v) → handedOver (finalArray n S l) ≡ answering (wholeReport n S l) (ranOf n S l)
     accepted b =
         let long = accepted-long n l fitting (b .entries) in
         let within = made-within n (startOf n l) S in
         ap handedOver (final-is n S l (b .order) (b .few) long)
         ∙ handed-is n made l (b .order) (omega (arith, b .few, within)) long (start-clean n S l _ _ fitting b)
-        ∙ ap (answering (lasting made (ticksOf n made))) (sym (ran-made n S l (b .order)))
+        ∙ ap (answering (wholeReport n S l)) (sym (ran-made n S l (b .order)))
 
     go : (a : Answered Unit) → beforeRun n S l (length r) (length v) ≡ a
         → unlessRefused a (handedOver (finalArray n S l)) (resultsKept r v)
-        ≡ answering (lasting made (ticksOf n made)) (unlessRefused a (ranOf n S l) (resultsKept r v))
+        ≡ answering (wholeReport n S l) (unlessRefused a (ranOf n S l) (resultsKept r v))
     go (given x) e = accepted (begins n S l _ _ e)
     go (refused k values) e = refl
 
-pub whole-given : (n S : ℕ) (l r v : List Float) → ((k : ℕ) → T (fits binary64 (getD l k nan))) → (d : Duration) → wholeOf n S l r v .answer ≡ given d
-    → let made = sweepsMade n S (startOf n l) in (runOf n S l r v .answer ≡ given tt) × (d ≡ lasting made (ticksOf n made))
+pub whole-given : (n S : ℕ) (l r v : List Float) → ((k : ℕ) → T (fits binary64 (getD l k nan))) → (d : WholeReport)
+    → wholeOf n S l r v .answer ≡ given d → (runOf n S l r v .answer ≡ given tt) × (d ≡ wholeReport n S l)
 whole-given n S l r v fitting d e =
-    let made = sweepsMade n S (startOf n l) in
-    giving-was (lasting made (ticksOf n made)) d (runOf n S l r v .answer) (sym (ap (λ (o : Outcome Duration). o .answer) (whole-agrees n S l r v fitting)) ∙ e)
+    giving-was (wholeReport n S l) d (runOf n S l r v .answer) (sym (ap (λ (o : Outcome WholeReport). o .answer) (whole-agrees n S l r v fitting)) ∙ e)

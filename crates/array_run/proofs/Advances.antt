@@ -12,7 +12,7 @@ use Rattle.systolic.proofs.Clock.{step-at, rotates-at, at-rotation}
 use Rattle.sizes.specs.Sizes.{mostSweeps, isOrder, processorsOf, sweepSteps, stepsOf, ticksOf}
 use Rattle.sizes.proofs.Orders.{order-is, steps-next}
 use Rattle.runs.specs.Counts.{beginsSweep}
-use Rattle.runs.proofs.TurnCounts.{begins-at}
+use Rattle.runs.proofs.ProcessorCounts.{begins-at}
 use Rattle.tile_schedule.specs.Answers.{Tick, made, stopped, progressOf}
 use Rattle.tile_schedule.proofs.Answers.{is-made}
 use Rattle.array.specs.declared.Array.{Array}

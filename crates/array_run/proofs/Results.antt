@@ -15,12 +15,12 @@ use Rattle.lists.proofs.Bounded.{any-hit}
 use Rattle.tile_wires.specs.declared.Quad.{Quad}
 use Rattle.tile_wires.specs.Wires.{cornerOf}
 use Rattle.matrix.specs.Matrix.{flat}
-use Rattle.runs.specs.Outcome.{Outcome, outcome}
+use Rattle.runs.specs.Outcome.{Outcome, outcome, report}
 use Rattle.runs.specs.State.{zeros}
 use Rattle.tile.specs.declared.Tile.{Tile}
 use Rattle.array.specs.declared.Array.{Array}
 use Rattle.array.specs.Arrays.{tileAt}
-use Rattle.array_run.specs.Results.{Duration, lasting, joinedAt, matrixIn, vectorsIn, someMarked, handedOver}
+use Rattle.array_run.specs.Results.{WholeReport, reporting, reportIn, roundedPairs, joinedAt, matrixIn, vectorsIn, someMarked, handedOver}
 use Rattle.sizes.specs.Sizes.{processorsOf}
 
 -- ---- marks
@@ -52,29 +52,30 @@ flat-filled n k A l h e = filled-all k l h (omega arith)
 
 -- ---- what is handed over
 module _ (x : Array) where
-  pub spoiled-over : someMarked (processorsOf (x .n)) (x .tiles) ≡ true → {o : Outcome Duration}
+  pub spoiled-over : someMarked (processorsOf (x .n)) (x .tiles) ≡ true → {o : Outcome WholeReport}
       → o ≡ outcome (refusedBy Spoiled) (zeros (x .n)) (zeros (x .n)) → o ≡ handedOver x
   unfolding handedOver
   spoiled-over e f = rw e f
 
   pub cells-over : {r v : List Float} → someMarked (processorsOf (x .n)) (x .tiles) ≡ false → r ≡ flat (x .n) (matrixIn (x .n) (x .tiles))
-      → v ≡ flat (x .n) (vectorsIn (x .n) (x .tiles)) → outcome (given (lasting (x .sweeps) (x .tick))) r v ≡ handedOver x
+      → v ≡ flat (x .n) (vectorsIn (x .n) (x .tiles)) → {rounded : ℕ} → rounded ≡ roundedPairs (processorsOf (x .n)) (x .tiles)
+      → outcome (given (reporting (report (x .sweeps) rounded) (x .tick))) r v ≡ handedOver x
   unfolding handedOver
-  cells-over e f g = rw (e, f, g)
+  cells-over e f g h = rw (e, f, g, h)
 
   -- where nothing is refused
-  pub over-given : (d : Duration) → handedOver x .answer ≡ given d
-      → (d ≡ lasting (x .sweeps) (x .tick)) × (handedOver x .result ≡ flat (x .n) (matrixIn (x .n) (x .tiles)))
+  pub over-given : (d : WholeReport) → handedOver x .answer ≡ given d
+      → (d ≡ reportIn x) × (handedOver x .result ≡ flat (x .n) (matrixIn (x .n) (x .tiles)))
       × (handedOver x .vectors ≡ flat (x .n) (vectorsIn (x .n) (x .tiles)))
   unfolding handedOver
   over-given d = go (someMarked (processorsOf (x .n)) (x .tiles))
     where
-      kept : Outcome Duration
-      kept = outcome (given (lasting (x .sweeps) (x .tick))) (flat (x .n) (matrixIn (x .n) (x .tiles))) (flat (x .n) (vectorsIn (x .n) (x .tiles)))
+      kept : Outcome WholeReport
+      kept = outcome (given (reportIn x)) (flat (x .n) (matrixIn (x .n) (x .tiles))) (flat (x .n) (vectorsIn (x .n) (x .tiles)))
 
       go : (b : Bool) → cond b (outcome (refusedBy Spoiled) (zeros (x .n)) (zeros (x .n))) kept .answer ≡ given d
-          → (d ≡ lasting (x .sweeps) (x .tick))
+          → (d ≡ reportIn x)
           × (cond b (outcome (refusedBy Spoiled) (zeros (x .n)) (zeros (x .n))) kept .result ≡ flat (x .n) (matrixIn (x .n) (x .tiles)))
           × (cond b (outcome (refusedBy Spoiled) (zeros (x .n)) (zeros (x .n))) kept .vectors ≡ flat (x .n) (vectorsIn (x .n) (x .tiles)))
       go true e = refused-given e
-      go false e = (sym (ap (λ (a : Answered Duration). valueOr a d) e), refl, refl)
+      go false e = (sym (ap (λ (a : Answered WholeReport). valueOr a d) e), refl, refl)

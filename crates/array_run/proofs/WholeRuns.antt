@@ -12,7 +12,7 @@ use Rattle.tile_schedule.specs.Answers.{Tick, made, stopped, progressOf}
 use Rattle.array.specs.declared.Array.{Array}
 use Rattle.array.specs.Arrays.{arrayOf}
 use Rattle.array.specs.Runs.{startArray}
-use Rattle.array_run.specs.Results.{Duration, handedOver}
+use Rattle.array_run.specs.Results.{WholeReport, handedOver}
 use Rattle.array_run.specs.Advance.{endsSweep, sweepEnded, noneCounted, withSweeps, lowered, advancedAs, advanced, advancedBy}
 use Rattle.array_run.specs.Whole.{finalArray, wholeOf}
 
@@ -23,7 +23,7 @@ module _ (n sweeps : ℕ) (l r v : List Float) where
   unfolding wholeOf
   whole-refused e = rw (← e)
 
-  pub whole-accepted : {o : Outcome Duration} → given tt ≡ beforeRun n sweeps l (length r) (length v)
+  pub whole-accepted : {o : Outcome WholeReport} → given tt ≡ beforeRun n sweeps l (length r) (length v)
       → o ≡ handedOver (finalArray n sweeps l) → o ≡ wholeOf n sweeps l r v
   unfolding wholeOf
   whole-accepted e f = rw (← e) f

@@ -24,7 +24,7 @@ sweepEnded n t = (stepAt 0 t + 1) / sweepSteps n
 
 -- No tile on the diagonal counts a turn in the current sweep.
 unfoldable pub noneCounted : ℕ → List Tile → Bool
-noneCounted N l = not (any N (λ i. not (eqb (tileAt l i i .turns) 0)))
+noneCounted N l = not (any N (λ i. not (eqb (tileAt l i i .counts .turns) 0)))
 
 -- The record for another number of sweeps.
 abbrev pub withSweeps : ℕ → Array → Array

@@ -1,4 +1,4 @@
--- Document 01, "The array", and document 02 (ii): what a whole run makes of its array at the end. Definitions only.
+-- Document 01, "The array", and document 02 (ii), (vi) and (vii): what a whole run makes of its array at the end. Definitions only.
 use Prim.Native.Nat.{ℕ, _-_, _/_, _%_}
 use mathlib.Core.Bool.{Bool, cond}
 use mathlib.Core.List.{List}
@@ -6,11 +6,11 @@ use lib.Dec.{eqb}
 use lib.Ieee.{Float}
 use Rattle.refusal.specs.Answers.{given, refusedBy}
 use Rattle.refusal.specs.declared.Refusal.the-variants.{Spoiled}
-use Rattle.lists.specs.Bounded.{any}
+use Rattle.lists.specs.Bounded.{any, total}
 use Rattle.tile_wires.specs.declared.Quad.{Quad}
 use Rattle.tile_wires.specs.Wires.{cornerOf}
 use Rattle.matrix.specs.Matrix.{flat}
-use Rattle.runs.specs.Outcome.{Outcome, outcome}
+use Rattle.runs.specs.Outcome.{Outcome, outcome, Report, report}
 use Rattle.runs.specs.State.{zeros}
 use Rattle.tile.specs.declared.Tile.{Tile}
 use Rattle.array.specs.declared.Array.{Array}
@@ -32,16 +32,24 @@ vectorsIn n l = joinedAt (firstLine n) (λ i j. tileAt l i j .cells .vectors)
 unfoldable pub someMarked : ℕ → List Tile → Bool
 someMarked N l = any N (λ i. any N (λ j. tileAt l i j .mark))
 
--- How long a run was.
-pub record Duration : Type 0 where
-  pub sweeps : ℕ
+-- The pairs with a rounded root that the tiles on the diagonal count.
+unfoldable pub roundedPairs : ℕ → List Tile → ℕ
+roundedPairs N l = total N (λ i. tileAt l i i .counts .rounded)
+
+-- What a whole run reports: what a plain run does, and its ticks.
+pub record WholeReport : Type 0 where
+  pub report : Report
   pub ticks : ℕ
 
-abbrev pub lasting : ℕ → ℕ → Duration
-lasting sweeps ticks = record { sweeps = sweeps; ticks = ticks }
+abbrev pub reporting : Report → ℕ → WholeReport
+reporting r ticks = record { report = r; ticks = ticks }
 
--- What a whole run makes of its array at the end: 8 if a tile is marked, otherwise its sweeps and ticks, and the cells.
-unfoldable pub handedOver : Array → Outcome Duration
+-- What a run whose array is x at its end reports.
+abbrev pub reportIn : Array → WholeReport
+reportIn x = reporting (report (x .sweeps) (roundedPairs (processorsOf (x .n)) (x .tiles))) (x .tick)
+
+-- What a whole run makes of its array at the end: 8 if a tile is marked, otherwise its report, and the cells.
+unfoldable pub handedOver : Array → Outcome WholeReport
 handedOver x =
     cond (someMarked (processorsOf (x .n)) (x .tiles)) (outcome (refusedBy Spoiled) (zeros (x .n)) (zeros (x .n)))
-    (outcome (given (lasting (x .sweeps) (x .tick))) (flat (x .n) (matrixIn (x .n) (x .tiles))) (flat (x .n) (vectorsIn (x .n) (x .tiles))))
+    (outcome (given (reportIn x)) (flat (x .n) (matrixIn (x .n) (x .tiles))) (flat (x .n) (vectorsIn (x .n) (x .tiles))))

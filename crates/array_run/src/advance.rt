@@ -34,7 +34,7 @@ fn none_counted(array: Array) -> bool
     ensures { λ r. ⌜ r ≡ noneCounted (processorsOf (array .n)) (array .tiles) ⌝ }
 {
     for i in 0..sizes::processors_of(array.n) {
-        if array.tiles[i * MOST_PROCESSORS + i].turns != 0 {
+        if array.tiles[i * MOST_PROCESSORS + i].counts.turns != 0 {
             return false;
         }
     }

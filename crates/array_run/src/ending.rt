@@ -2,17 +2,18 @@
 ghost use mathlib.Core.Path.{_≡_};
 ghost use Prim.Native.Nat.{_*_, _≤_};
 ghost use lib.ListN.{length};
-ghost use Rattle.sizes.specs.Sizes.{largestOrder, processorsOf};
+ghost use Rattle.sizes.specs.Sizes.{mostCounted, largestOrder, processorsOf};
 ghost use Rattle.matrix.specs.Matrix.{flat};
 ghost use Rattle.runs.specs.Outcome.{outcome};
-ghost use Rattle.array_run.specs.Results.{someMarked, matrixIn, vectorsIn, handedOver};
+ghost use Rattle.array_run.specs.Results.{someMarked, roundedPairs, matrixIn, vectorsIn, handedOver};
 ghost use Rattle.array_run.specs.Whole.{completionAnswered};
 use crate::Completion;
 use array::Array;
 use refusal::Refusal;
 use sizes::MOST_PROCESSORS;
+use tile::Tile;
 
-// Refusal 8 and +0 everywhere if a tile is marked, otherwise the numbers of sweeps and ticks, and the cells.
+// Refusal 8 and +0 everywhere if a tile is marked, otherwise the numbers of sweeps, of ticks and of pairs with a rounded root, and the cells.
 pub fn hand_over(array: Array, result: &mut [f64], vectors: &mut [f64]) -> Completion
     requires { ⌜ (array .n ≤ largestOrder) × (length (now result) ≡ array .n * array .n) × (length (now vectors) ≡ array .n * array .n) ⌝ }
     ensures { λ r. ⌜ outcome (completionAnswered r) (now (result .exit)) (now (vectors .exit)) ≡ handedOver array ⌝ }
@@ -23,7 +24,27 @@ pub fn hand_over(array: Array, result: &mut [f64], vectors: &mut [f64]) -> Compl
         return Completion::Refused(Refusal::Spoiled);
     }
     write_cells(array, result, vectors);
-    Completion::Completed(array.sweeps, array.tick)
+    Completion::Completed(array.sweeps, array.tick, rounded_pairs(array))
+}
+
+// The pairs with a rounded root that the tiles on the diagonal count.
+fn rounded_pairs(array: Array) -> usize
+    requires { ⌜ array .n ≤ largestOrder ⌝ }
+    ensures { λ r. ⌜ r ≡ roundedPairs (processorsOf (array .n)) (array .tiles) ⌝ }
+{
+    let mut rounded = 0;
+    for i in 0..sizes::processors_of(array.n) {
+        let tile = array.tiles[i * MOST_PROCESSORS + i];
+        rounded += rounded_by(tile);
+    }
+    rounded
+}
+
+// The pairs with a rounded root that a tile counts.
+fn rounded_by(tile: Tile) -> usize
+    ensures { λ r. ⌜ (r ≡ tile .counts .rounded) × (r ≤ mostCounted) ⌝ }
+{
+    tile.counts.rounded as usize
 }
 
 // Whether a tile in use is marked.

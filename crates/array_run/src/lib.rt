@@ -1,4 +1,4 @@
-// The whole run on the array (document 01, "The array", and document 02 (vi)).
+// The whole run on the array (document 01, "The array", and document 02 (vi) and (vii)).
 ghost use mathlib.Core.Path.{_≡_};
 ghost use lib.ListN.{length};
 ghost use Rattle.refusal.specs.Answers.{given};
@@ -12,9 +12,9 @@ use refusal::Refusal;
 mod advance;
 mod ending;
 
-// What a whole run answers: the numbers of sweeps and of ticks that it made, or a refusal.
+// What a whole run answers: the numbers of sweeps and of ticks that it made and of the pairs met that had a rounded root, or a refusal.
 pub enum Completion {
-    Completed(usize, usize),
+    Completed(usize, usize, usize),
     Refused(Refusal),
 }
 

@@ -13,15 +13,16 @@ use Rattle.lists.specs.Tabulate.{tabulate}
 use Rattle.lists.proofs.Tabulated.{getD-tabulate, tabulated}
 use Rattle.tile_wires.specs.declared.Quad.{Quad}
 use Rattle.tile_wires.specs.declared.Part.{Part}
-use Rattle.sizes.specs.Sizes.{mostProcessors}
+use Rattle.sizes.specs.Sizes.{mostProcessors, mostCounted}
+use Rattle.runs.specs.declared.Counts.{Counts}
 use Rattle.tile.specs.declared.Tile.{Tile}
 use Rattle.array.specs.declared.Array.{Array}
 use Rattle.array.specs.Arrays.{noTile}
-use Rattle.array_words.specs.Words.{tileWords, arrayWords, quadWord, partWord, tileWord, arrayWord, wordsOf, valueAt}
-use Rattle.array_words.specs.Words.{quadIn, partIn, tileIn, arrayIn}
+use Rattle.array_words.specs.Words.{tileWords, arrayWords, quadWord, partWord, countsWord, tileWord, arrayWord, wordsOf, valueAt}
+use Rattle.array_words.specs.Words.{quadIn, partIn, countsIn, tileIn, arrayIn}
 use Rattle.array_words.specs.Words.{Binary64Quad, Binary64Part, Binary64Tile, Binary64Array}
-use Rattle.array_words.proofs.ArrayRead.{turns-within}
-use Rattle.array_words.proofs.WordsWritten.{matrix-word, vectors-word, cells-word, wires-word, tile-word}
+use Rattle.array_words.proofs.ArrayRead.{count-within}
+use Rattle.array_words.proofs.WordsWritten.{matrix-word, vectors-word, cells-word, wires-word, counts-word, tile-word}
 
 mark-back : (b : Bool) → not (eqb (cond b 1 0) 0) ≡ b
 mark-back true = refl
@@ -60,6 +61,11 @@ module _ (l : List ℕ) where
         quad-back (k + 4) (p .vectors) (has-next k 4 4 8 (quadWord (p .vectors)) (partWord p) (omega arith) (vectors-word p) d) (h .vectors-fit),
       )
 
+  counts-back : (k : ℕ) (d : Counts) → Has k 2 (countsWord d) → d .turns ≤ mostCounted → d .rounded ≤ mostCounted → countsIn l k ≡ d
+  unfolding countsIn countsWord
+  counts-back k d e h o =
+      rw (← (count-within l k (sym (rw add-zero at (e 0 (omega arith)))) h), ← (count-within l (k + 1) (sym (e 1 (omega arith))) o))
+
   tile-back : (k : ℕ) (x : Tile) → Has k tileWords (tileWord x) → Binary64Tile x → tileIn l k ≡ x
   unfolding tileIn tileWord
   tile-back k x d h =
@@ -70,7 +76,8 @@ module _ (l : List ℕ) where
         value-back (k + 17) (x .«column_wire») (d 17 (omega arith)) (h .column-fits),
         d 18 (omega arith),
         mark-back (x .mark),
-        sym (turns-within l (k + 19) (sym (d 19 (omega arith))) (h .turns-fit)),
+        counts-back (k + 19) (x .counts) (has-next k 19 2 tileWords (countsWord (x .counts)) (tileWord x) (omega arith) (counts-word x) d) (h .turns-fit)
+            (h .rounded-fit),
       )
 
 -- ---- the array

@@ -8,16 +8,17 @@ use native.Mathlib.Nat.{add-zero, add-suc}
 use native.Mathlib.Numerals.{add-one}
 use borrow.Author.Tests.{lt-ltb, le-ltb, eq-eqb, ne-eqb}
 use mir.Val.{boolByte}
-use lib.ListN.{length, getD, set}
+use lib.ListN.{length, getD, set, length-set}
 use lib.Ieee.{binary64, toBits}
 use Rattle.lists.proofs.Filled.{Filled, filled-none, filled-next, filled-all}
 use Rattle.sizes.specs.Sizes.{mostProcessors}
 use Rattle.tile_wires.specs.declared.Quad.{Quad}
 use Rattle.tile_wires.specs.declared.Part.{Part}
+use Rattle.runs.specs.declared.Counts.{Counts}
 use Rattle.tile.specs.declared.Tile.{Tile}
 use Rattle.array.specs.declared.Array.{Array}
 use Rattle.array.specs.Arrays.{noTile}
-use Rattle.array_words.specs.Words.{tileWords, arrayWords, quadWord, partWord, tileWord, arrayWord, wordsOf, writtenAt, storedIn}
+use Rattle.array_words.specs.Words.{tileWords, arrayWords, quadWord, partWord, countsWord, tileWord, arrayWord, wordsOf, writtenAt, storedIn}
 
 -- ---- which words are those of a part
 pub matrix-word : (p : Part) (w : ℕ) → w < 4 → quadWord (p .matrix) w ≡ partWord p w
@@ -36,7 +37,25 @@ pub wires-word : (x : Tile) (w : ℕ) → w < 8 → partWord (x .wires) w ≡ ti
 unfolding tileWord
 wires-word x w h = let d : 8 + w - 8 ≡ w = omega arith in rw (le-ltb (8 + w) 8 (omega arith), lt-ltb (8 + w) 16 (omega arith), d)
 
+pub counts-word : (x : Tile) (w : ℕ) → w < 2 → countsWord (x .counts) w ≡ tileWord x (19 + w)
+unfolding tileWord
+counts-word x w h =
+    let d : 19 + w - 19 ≡ w = omega arith in
+    rw (
+      le-ltb (19 + w) 8 (omega arith),
+      le-ltb (19 + w) 16 (omega arith),
+      ne-eqb (19 + w) 16 (λ e. omega arith),
+      ne-eqb (19 + w) 17 (λ e. omega arith),
+      ne-eqb (19 + w) 18 (λ e. omega arith),
+      d,
+    )
+
 -- ---- words behind words
+pub written-long : (at m : ℕ) (f : ℕ → ℕ) (l : List ℕ) → length (writtenAt at m f l) ≡ length l
+unfolding writtenAt
+written-long at zero f l = refl
+written-long at (suc m) f l = length-set (writtenAt at m f l) (at + m) (f m) ∙ written-long at m f l
+
 written-same : (at m : ℕ) (f g : ℕ → ℕ) (l : List ℕ) → ((w : ℕ) → w < m → f w ≡ g w) → writtenAt at m f l ≡ writtenAt at m g l
 unfolding writtenAt
 written-same at zero f g l e = refl
@@ -70,11 +89,23 @@ mark-bit : (b : Bool) → boolByte b ≡ cond b 1 0
 mark-bit true = refl
 mark-bit false = refl
 
-pub tile-written : (x : Tile) (at : ℕ) (l : List ℕ) {r s : List ℕ} {a b : ℕ} → r ≡ writtenAt at 8 (partWord (x .cells)) l
+pub counts-written : (d : Counts) (at : ℕ) (l : List ℕ) → set (set l at (d .turns)) (at + 1) (d .rounded) ≡ writtenAt at 2 (countsWord d) l
+unfolding writtenAt countsWord
+counts-written d at l = rw add-zero
+
+-- the words before the counts
+front-written : (x : Tile) (at : ℕ) (l : List ℕ) {r s : List ℕ} {a b : ℕ} → r ≡ writtenAt at 8 (partWord (x .cells)) l
     → s ≡ writtenAt (at + 8) 8 (partWord (x .wires)) r → a ≡ toBits binary64 (x .«row_wire») → b ≡ toBits binary64 (x .«column_wire»)
-    → set (set (set (set s (at + 16) a) (at + 17) b) (at + 18) (boolByte (x .mark))) (at + 19) (x .turns) ≡ writtenAt at tileWords (tileWord x) l
+    → set (set (set s (at + 16) a) (at + 17) b) (at + 18) (boolByte (x .mark)) ≡ writtenAt at 19 (tileWord x) l
 unfolding writtenAt tileWord
-tile-written x at l e f g h = rw (parts-written x at l e f, g, h, mark-bit)
+front-written x at l e f g h = rw (parts-written x at l e f, g, h, mark-bit)
+
+pub tile-written : (x : Tile) (at : ℕ) (l : List ℕ) {r s u : List ℕ} {a b : ℕ} → r ≡ writtenAt at 8 (partWord (x .cells)) l
+    → s ≡ writtenAt (at + 8) 8 (partWord (x .wires)) r → a ≡ toBits binary64 (x .«row_wire») → b ≡ toBits binary64 (x .«column_wire»)
+    → u ≡ writtenAt (at + 19) 2 (countsWord (x .counts)) (set (set (set s (at + 16) a) (at + 17) b) (at + 18) (boolByte (x .mark)))
+    → u ≡ writtenAt at tileWords (tileWord x) l
+tile-written x at l e f g h k =
+    k ∙ rw (front-written x at l e f g h) (written-on at 19 2 (tileWord x) (countsWord (x .counts)) (tileWord x) l (λ w o. refl) (counts-word x))
 
 -- ---- the words of an array
 filled-written : {f : ℕ → ℕ} {n : ℕ} (k m : ℕ) (g : ℕ → ℕ) (l : List ℕ) → Filled 0 f n k l → k + m ≤ n

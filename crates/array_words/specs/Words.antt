@@ -11,13 +11,14 @@ use Rattle.lists.specs.Tabulate.{tabulate}
 use Rattle.sizes.specs.Sizes.{mostProcessors, mostCounted}
 use Rattle.tile_wires.specs.declared.Quad.{Quad}
 use Rattle.tile_wires.specs.declared.Part.{Part}
+use Rattle.runs.specs.declared.Counts.{Counts}
 use Rattle.tile.specs.declared.Tile.{Tile}
 use Rattle.array.specs.declared.Array.{Array}
 use Rattle.array.specs.Arrays.{noTile}
 
 -- The words of a tile, and of an array: three before the tiles.
 abbrev pub tileWords : ℕ
-tileWords = 20
+tileWords = 21
 
 abbrev pub arrayWords : ℕ
 arrayWords = 3 + mostProcessors * mostProcessors * tileWords
@@ -32,13 +33,17 @@ quadWord q w =
 unfoldable pub partWord : Part → ℕ → ℕ
 partWord p w = cond (ltb w 4) (quadWord (p .matrix) w) (quadWord (p .vectors) (w - 4))
 
--- the cells, the wires, the tangents along the row and along the column, the mark, the turns
+-- the turns, then the rounded pairs
+unfoldable pub countsWord : Counts → ℕ → ℕ
+countsWord d w = cond (eqb w 0) (d .turns) (d .rounded)
+
+-- the cells, the wires, the tangents along the row and along the column, the mark, the counts
 unfoldable pub tileWord : Tile → ℕ → ℕ
 tileWord x w =
     cond (ltb w 8) (partWord (x .cells) w)
     (cond (ltb w 16) (partWord (x .wires) (w - 8))
     (cond (eqb w 16) (toBits binary64 (x .«row_wire»))
-    (cond (eqb w 17) (toBits binary64 (x .«column_wire»)) (cond (eqb w 18) (cond (x .mark) 1 0) (x .turns)))))
+    (cond (eqb w 17) (toBits binary64 (x .«column_wire»)) (cond (eqb w 18) (cond (x .mark) 1 0) (countsWord (x .counts) (w - 19))))))
 
 unfoldable pub arrayWord : Array → ℕ → ℕ
 arrayWord x k =
@@ -58,14 +63,17 @@ unfoldable pub valueAt : List ℕ → ℕ → Float
 valueAt l k = ofBits binary64 (getD l k 0)
 
 -- A word above the most that a tile counts to counts as the most.
-unfoldable pub turnsAt : List ℕ → ℕ → ℕ
-turnsAt l k = cond (ltb mostCounted (getD l k 0)) mostCounted (getD l k 0)
+unfoldable pub countAt : List ℕ → ℕ → ℕ
+countAt l k = cond (ltb mostCounted (getD l k 0)) mostCounted (getD l k 0)
 
 unfoldable pub quadIn : List ℕ → ℕ → Quad
 quadIn l k = record { alpha = valueAt l k; beta = valueAt l (k + 1); gamma = valueAt l (k + 2); delta = valueAt l (k + 3) }
 
 unfoldable pub partIn : List ℕ → ℕ → Part
 partIn l k = record { matrix = quadIn l k; vectors = quadIn l (k + 4) }
+
+unfoldable pub countsIn : List ℕ → ℕ → Counts
+countsIn l k = record { turns = countAt l k; rounded = countAt l (k + 1) }
 
 -- any word but 0 is a mark
 unfoldable pub tileIn : List ℕ → ℕ → Tile
@@ -76,7 +84,7 @@ tileIn l k =
       «row_wire» = valueAt l (k + 16);
       «column_wire» = valueAt l (k + 17);
       mark = not (eqb (getD l (k + 18) 0) 0);
-      turns = turnsAt l (k + 19);
+      counts = countsIn l (k + 19);
     }
 
 unfoldable pub arrayIn : List ℕ → Array
@@ -108,7 +116,8 @@ pub record Binary64Tile (x : Tile) : Type 0 where
   pub wires-fit : Binary64Part (x .wires)
   pub row-fits : T (fits binary64 (x .«row_wire»))
   pub column-fits : T (fits binary64 (x .«column_wire»))
-  pub turns-fit : x .turns ≤ mostCounted
+  pub turns-fit : x .counts .turns ≤ mostCounted
+  pub rounded-fit : x .counts .rounded ≤ mostCounted
 
 pub record Binary64Array (x : Array) : Type 0 where
   pub tiles-many : length (x .tiles) ≡ mostProcessors * mostProcessors

@@ -3,9 +3,10 @@ ghost use mathlib.Core.Path.{_≡_};
 ghost use Prim.Native.Nat.{_+_, _≤_};
 ghost use lib.Dec.{eqb};
 ghost use lib.ListN.{length, getD};
-ghost use Rattle.array_words.specs.Words.{tileWords, arrayWords, quadWord, partWord, tileWord, writtenAt};
-ghost use Rattle.array_words.specs.Words.{valueAt, turnsAt, quadIn, partIn, tileIn, arrayIn, storedIn};
+ghost use Rattle.array_words.specs.Words.{tileWords, arrayWords, quadWord, partWord, countsWord, tileWord, writtenAt};
+ghost use Rattle.array_words.specs.Words.{valueAt, countAt, quadIn, partIn, countsIn, tileIn, arrayIn, storedIn};
 use array::Array;
+use runs::Counts;
 use sizes::MOST_COUNTED;
 use sizes::MOST_TILES;
 use tile::Tile;
@@ -13,7 +14,7 @@ use tile_wires::Part;
 use tile_wires::Quad;
 
 // The words of a tile.
-pub const TILE: usize = 20;
+pub const TILE: usize = 21;
 
 // The words of an array: 3, and those of its tiles.
 pub const ARRAY: usize = 3 + MOST_TILES * TILE;
@@ -46,13 +47,24 @@ fn tile_in(words: &[u64], at: usize) -> Tile
     requires { ⌜ at + tileWords ≤ arrayWords ⌝ }
     ensures { λ r. ⌜ r ≡ tileIn (now (words .entry)) at ⌝ }
 {
+    let counts = counts_in(words, at + 19);
     Tile {
         cells: part_in(words, at),
         wires: part_in(words, at + 8),
         row_wire: value_at(words, at + 16),
         column_wire: value_at(words, at + 17),
         mark: word_at(words, at + 18) != 0,
-        turns: turns_at(words, at + 19),
+        counts: counts,
+    }
+}
+
+fn counts_in(words: &[u64], at: usize) -> Counts
+    requires { ⌜ at + 2 ≤ arrayWords ⌝ }
+    ensures { λ r. ⌜ r ≡ countsIn (now (words .entry)) at ⌝ }
+{
+    Counts {
+        turns: count_at(words, at),
+        rounded: count_at(words, at + 1),
     }
 }
 
@@ -84,9 +96,9 @@ fn value_at(words: &[u64], k: usize) -> f64
     float64::from_bits(word_at(words, k))
 }
 
-// The turns in the word at k. A word above the most that a tile counts to counts as the most.
-fn turns_at(words: &[u64], k: usize) -> u16
-    ensures { λ r. ⌜ r ≡ turnsAt (now (words .entry)) k ⌝ }
+// The count in the word at k. A word above the most that a tile counts to counts as the most.
+fn count_at(words: &[u64], k: usize) -> u16
+    ensures { λ r. ⌜ r ≡ countAt (now (words .entry)) k ⌝ }
 {
     let word = word_at(words, k);
     if word > MOST_COUNTED as u64 {
@@ -128,12 +140,21 @@ fn store_tile(tile: Tile, at: usize, words: &mut [u64])
 {
     let cells = tile.cells;
     let wires = tile.wires;
+    let counts = tile.counts;
     store_part(cells, at, words);
     store_part(wires, at + 8, words);
     words[at + 16] = float64::to_bits(tile.row_wire);
     words[at + 17] = float64::to_bits(tile.column_wire);
     words[at + 18] = tile.mark as u64;
-    words[at + 19] = tile.turns as u64;
+    store_counts(counts, at + 19, words);
+}
+
+fn store_counts(counts: Counts, at: usize, words: &mut [u64])
+    requires { ⌜ at + 2 ≤ length (now words) ⌝ }
+    ensures { λ _. ⌜ now (words .exit) ≡ writtenAt at 2 (countsWord counts) (now (words .entry)) ⌝ }
+{
+    words[at] = counts.turns as u64;
+    words[at + 1] = counts.rounded as u64;
 }
 
 fn store_part(part: Part, at: usize, words: &mut [u64])

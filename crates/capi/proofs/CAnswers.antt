@@ -1,13 +1,14 @@
 -- What a C function answers and leaves, from what a call answers and leaves. Assumes nothing.
 use Prim.Native.Nat.{ℕ}
 use mathlib.Core.Path.{_≡_, ap}
+use mathlib.Core.Bool.{Bool}
 use mathlib.Core.List.{List, [], _∷_}
 use lib.Ieee.{Float}
 use Rattle.refusal.specs.Answers.{Answered, given, refusedBy}
 use Rattle.refusal.specs.Refusal.{numberOf, valuesOf}
 use Rattle.refusal.specs.declared.Refusal.{Refusal}
-use Rattle.runs.specs.Outcome.{Outcome, outcome}
-use Rattle.rotation.specs.declared.Parameters.{Parameters}
+use Rattle.runs.specs.Outcome.{Outcome, outcome, Report}
+use Rattle.rotation.specs.declared.Found.{Found}
 use Rattle.forecast.specs.declared.Figures.{Figures}
 use Rattle.plain_run.specs.declared.Ran.{Ran}
 use Rattle.plain_run.specs.declared.Ran.the-variants as ran
@@ -24,10 +25,10 @@ use Rattle.listing_text.specs.Printed.{printing}
 use Rattle.listing.specs.Listing.{ListingOutcome, listed}
 use Rattle.array_run.specs.declared.Completion.{Completion}
 use Rattle.array_run.specs.declared.Completion.the-variants as completion
-use Rattle.array_run.specs.Results.{Duration}
+use Rattle.array_run.specs.Results.{WholeReport}
 use Rattle.array_run.specs.Whole.{completionAnswered}
 use Rattle.capi.specs.CAnswers.{CAnswer, cAnswer, placeOr, refusedAs, cAnswerOf, numberAnswered}
-use Rattle.capi.specs.Calls.{numberAndValue, figures, turns, ofParameters, ofRun, ofWhole, ofReading, ofWriting, ofListing}
+use Rattle.capi.specs.Calls.{flagByte, ofRoot, numberAndValue, figures, turns, ofParameters, ofRun, ofWhole, ofReading, ofWriting, ofListing}
 
 -- ---- the lent row and column
 module _ (i j : ℕ) where
@@ -45,28 +46,29 @@ module _ (i j : ℕ) where
   unfolding refusedAs
   placed r e f = rw e (ap (λ (x : ℕ × ℕ). cAnswer (numberOf r) (x .0) (x .1)) f)
 
-  -- ---- a run
+  -- ---- a run; m, p and t are lent for the sweeps made, the pairs with a rounded root and the ticks
   module _ {l e : List Float} where
-    module _ (m : ℕ) (x : Ran) where
-      pub run-made : (made : ℕ) (o : Outcome ℕ) → x ≡ ran.Made made → outcome (ranAnswered x) l e ≡ o → (cAnswer 0 i j, made, l, e) ≡ ofRun o m i j
+    module _ (m p : ℕ) (x : Ran) where
+      pub run-made : (made rounded : ℕ) (o : Outcome Report) → x ≡ ran.Made made rounded → outcome (ranAnswered x) l e ≡ o
+          → (cAnswer 0 i j, made, rounded, l, e) ≡ ofRun o m p i j
       unfolding ofRun cAnswerOf
-      run-made made o z h = ap (λ (y : Outcome ℕ). ofRun y m i j) (rw z at h)
+      run-made made rounded o z h = ap (λ (y : Outcome Report). ofRun y m p i j) (rw z at h)
 
-      pub run-refused : {s : CAnswer} (r : Refusal) (o : Outcome ℕ) → x ≡ ran.Refused r → outcome (ranAnswered x) l e ≡ o
-          → s ≡ refusedAs (numberOf r) (valuesOf r) i j → (s, m, l, e) ≡ ofRun o m i j
+      pub run-refused : {s : CAnswer} (r : Refusal) (o : Outcome Report) → x ≡ ran.Refused r → outcome (ranAnswered x) l e ≡ o
+          → s ≡ refusedAs (numberOf r) (valuesOf r) i j → (s, m, p, l, e) ≡ ofRun o m p i j
       unfolding ofRun cAnswerOf
-      run-refused r o z h k = rw k (ap (λ (y : Outcome ℕ). ofRun y m i j) (rw z at h))
+      run-refused r o z h k = rw k (ap (λ (y : Outcome Report). ofRun y m p i j) (rw z at h))
 
-    module _ (m t : ℕ) (x : Completion) where
-      pub whole-made : (made ticks : ℕ) (o : Outcome Duration) → x ≡ completion.Completed made ticks → outcome (completionAnswered x) l e ≡ o
-          → (cAnswer 0 i j, made, ticks, l, e) ≡ ofWhole o m t i j
+    module _ (m t p : ℕ) (x : Completion) where
+      pub whole-made : (made ticks rounded : ℕ) (o : Outcome WholeReport) → x ≡ completion.Completed made ticks rounded
+          → outcome (completionAnswered x) l e ≡ o → (cAnswer 0 i j, made, ticks, rounded, l, e) ≡ ofWhole o m t p i j
       unfolding ofWhole cAnswerOf
-      whole-made made ticks o z h = ap (λ (y : Outcome Duration). ofWhole y m t i j) (rw z at h)
+      whole-made made ticks rounded o z h = ap (λ (y : Outcome WholeReport). ofWhole y m t p i j) (rw z at h)
 
-      pub whole-refused : {s : CAnswer} (r : Refusal) (o : Outcome Duration) → x ≡ completion.Refused r → outcome (completionAnswered x) l e ≡ o
-          → s ≡ refusedAs (numberOf r) (valuesOf r) i j → (s, m, t, l, e) ≡ ofWhole o m t i j
+      pub whole-refused : {s : CAnswer} (r : Refusal) (o : Outcome WholeReport) → x ≡ completion.Refused r → outcome (completionAnswered x) l e ≡ o
+          → s ≡ refusedAs (numberOf r) (valuesOf r) i j → (s, m, t, p, l, e) ≡ ofWhole o m t p i j
       unfolding ofWhole cAnswerOf
-      whole-refused r o z h k = rw k (ap (λ (y : Outcome Duration). ofWhole y m t i j) (rw z at h))
+      whole-refused r o z h k = rw k (ap (λ (y : Outcome WholeReport). ofWhole y m t p i j) (rw z at h))
 
   -- ---- a sheet
   module _ {codes : List ℕ} {l : List Float} (n sweeps : ℕ) (x : Reading) where
@@ -96,6 +98,14 @@ module _ (i j : ℕ) where
   unfolding ofListing
   list-said o h k = rw k (ap (λ (x : ListingOutcome). ofListing x i j) h)
 
+-- ---- a root
+module _ (old : Float) (exact : ℕ) {a : Answered (Float × Bool)} where
+  pub root-given : (y : Float) (flag : Bool) {k : ℕ} → given (y, flag) ≡ a → k ≡ flagByte flag → (0, y, k) ≡ ofRoot a old exact
+  root-given y flag e f = rw (← e, f)
+
+  pub root-refused : {k : ℕ} (r : Refusal) → refusedBy r ≡ a → k ≡ numberOf r → (k, old, exact) ≡ ofRoot a old exact
+  root-refused r e f = rw (← e, f)
+
 -- ---- a value
 module _ {A : Type 0} (old : A) {a : Answered A} where
   pub value-given : (x : A) → given x ≡ a → (0, x) ≡ numberAndValue a old
@@ -112,7 +122,7 @@ pub forecast-given : (old : Figures) {a : Answered Figures} (f : Figures) {ticks
 forecast-given old f e t v p = rw (t, v, p) (value-given old f e)
 
 -- ---- the parameters of a pair
-pub parameters-said : {P Q : Parameters} {x : Record} {k : ℕ} {t c s : Float} → P ≡ Q → x ≡ recordOf P → k ≡ turns P → t ≡ x .t → c ≡ x .c → s ≡ x .s
-    → (k, t, c, s) ≡ ofParameters Q
+pub parameters-said : {f g : Found} {x : Record} {k exact : ℕ} {t c s : Float} → f ≡ g → x ≡ recordOf f → k ≡ turns (f .parameters) → t ≡ x .t → c ≡ x .c
+    → s ≡ x .s → exact ≡ flagByte (f .exact) → (k, t, c, s, exact) ≡ ofParameters g
 unfolding ofParameters
-parameters-said p x k t c s = rw (t, c, s, k, x, p)
+parameters-said f x k t c s e = rw (t, c, s, k, e, x, f)

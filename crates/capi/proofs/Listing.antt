@@ -1,10 +1,10 @@
 -- The list of pairs and the records of a step, in lent lists. Assumes nothing.
 use Prim.Native.Nat.{ℕ, _+_, _*_, _/_, _%_, _≤_, _<_}
 use mathlib.Core.Path.{_≡_, refl, sym}
-use mathlib.Core.Bool.{Bool, true, false, not}
+use mathlib.Core.Bool.{Bool, true, false, cond, not}
 use mathlib.Core.List.{List}
 use native.Mathlib.Omega.{arith}
-use borrow.Author.Tests.{lt-ltb, le-ltb}
+use borrow.Author.Tests.{lt-ltb, le-ltb, ltb-true, ltb-false}
 use lib.Dec.{ltb}
 use lib.Ieee.{Float, nan}
 use lib.ListN.{length, getD, set}
@@ -17,6 +17,7 @@ use Rattle.refusal.specs.declared.Answer.the-variants.{Accepted, Refused}
 use Rattle.lists.proofs.Filled.{Filled, filled-all}
 use Rattle.lists.proofs.Replaced.{Replaced, replaced-next, replaced-over}
 use Rattle.ordering.specs.declared.PairList.{PairList}
+use Rattle.ordering.specs.declared.Registers.{Registers}
 use Rattle.sizes.specs.Sizes.{isOrder, processorsOf}
 use Rattle.ordering.specs.Pairs.{registersAt, Lists}
 use Rattle.step_records.specs.declared.Record.{Record}
@@ -24,7 +25,19 @@ use Rattle.step_records.specs.Records.{recordAt, beforeRecords}
 use Rattle.refusal.proofs.FirstRefusal.{refused-given}
 use Rattle.step_records.proofs.WrittenRows.{written-fits}
 use Rattle.capi.specs.CAnswers.{CAnswer, cAnswer, refusedAs, cAnswerOf, numberAnswered}
-use Rattle.capi.specs.Calls.{pairsTooShort, listedIn, pairsOf, recordField, recordFields, recordsLeft, ofRecords}
+use Rattle.capi.specs.Calls.{
+  pairsTooShort,
+  listedIn,
+  pairsOf,
+  flagByte,
+  recordsRoom,
+  recordField,
+  recordFields,
+  recordsLeft,
+  recordFlag,
+  flagsLeft,
+  ofRecords,
+}
 
 -- ---- the list of pairs
 module _ (n lefts rights : ℕ) where
@@ -58,6 +71,9 @@ module _ (n step : ℕ) (ls rs : List ℕ) where
 
 -- ---- the records
 module _ (n : ℕ) (l : List Float) (step : ℕ) where
+  pub record-of : (x : Record) (r : Registers) (k : ℕ) → r ≡ registersAt n step → x ≡ recordAt n l r k → x ≡ recordAt n l (registersAt n step) k
+  record-of x r k e h = rw (← e) h
+
   -- the field w of the record of processor k, at the index i
   pub field-at : (x : Record) (k i w : ℕ) → x ≡ recordAt n l (registersAt n step) k → i / 3 ≡ k → i % 3 ≡ w → recordField x w ≡ recordFields n l step i
   unfolding recordFields
@@ -80,6 +96,34 @@ module _ (n : ℕ) (l : List Float) (step : ℕ) where
       → v ≡ recordsLeft (given tt) n l step old
   records-put old v h room = replaced-over (processorsOf n * 3) v h room
 
+  -- ---- their flags
+  pub flag-put : (old v : List ℕ) (k b : ℕ) (x : Record) → x ≡ recordAt n l (registersAt n step) k → b ≡ flagByte (x .exact)
+      → Replaced 0 (recordFlag n l step) old k v → k < length old → Replaced 0 (recordFlag n l step) old (k + 1) (set v k b)
+  unfolding recordFlag
+  flag-put old v k b x e f h room = replaced-next k v b h room (rw (← e) f)
+
+  pub flags-put : (old v : List ℕ) → Replaced 0 (recordFlag n l step) old (processorsOf n) v → processorsOf n ≤ length old
+      → v ≡ flagsLeft (given tt) n l step old
+  flags-put old v h room = replaced-over (processorsOf n) v h room
+
+-- ---- the room for records
+module _ (values flags : ℕ) where
+  pub fewer-flags : flags < values / 3 → flags ≡ recordsRoom values flags
+  unfolding recordsRoom
+  fewer-flags h = rw (lt-ltb _ _ h)
+
+  pub fewer-values : values / 3 ≤ flags → values / 3 ≡ recordsRoom values flags
+  unfolding recordsRoom
+  fewer-values h = rw (le-ltb _ _ h)
+
+  room-fits : (m : ℕ) → m ≤ recordsRoom values flags → (m * 3 ≤ values) × (m ≤ flags)
+  unfolding recordsRoom
+  room-fits m h = go (ltb flags (values / 3)) refl h
+    where
+      go : (b : Bool) → ltb flags (values / 3) ≡ b → m ≤ cond b flags (values / 3) → (m * 3 ≤ values) × (m ≤ flags)
+      go true e o = let w : flags < values / 3 = ltb-true _ _ e in (omega arith, o)
+      go false e o = let w : values / 3 ≤ flags = ltb-false _ _ e in (omega arith, omega arith)
+
 -- ---- what a call for the records answers and leaves
 -- the first row of the table
 order-in : (b : Bool) (rest : Answered Unit) → orElse (row (not b) Order) rest ≡ given tt → b ≡ true
@@ -90,19 +134,20 @@ order-first : (n : ℕ) (l : List Float) (room : ℕ) → beforeRecords n l room
 unfolding beforeRecords
 order-first n l room z = order-in (isOrder n) _ z
 
-pub records-fit : (n : ℕ) (l : List Float) (room : ℕ) (a : Answer) → a ≡ Accepted → answered a ≡ beforeRecords n l room
-    → (isOrder n ≡ true) × (processorsOf n ≤ room)
-records-fit n l room a e h =
+pub records-fit : (n : ℕ) (l : List Float) (values flags : ℕ) {room : ℕ} (a : Answer) → room ≡ recordsRoom values flags → a ≡ Accepted
+    → answered a ≡ beforeRecords n l room → (isOrder n ≡ true) × (processorsOf n * 3 ≤ values) × (processorsOf n ≤ flags)
+records-fit n l values flags {room = room} a f e h =
     let z : beforeRecords n l room ≡ given tt = sym (rw e at h) in
-    (order-first n l room z, rw z at (written-fits n l room))
+    let w = room-fits values flags (processorsOf n) (rw f at (rw z at (written-fits n l room))) in
+    (order-first n l room z, w .0, w .1)
 
-module _ (i j n : ℕ) (l : List Float) (step : ℕ) (row : List Float) (a : Answer) where
-  pub records-given : {v : List Float} → a ≡ Accepted → answered a ≡ beforeRecords n l (length row / 3) → v ≡ recordsLeft (given tt) n l step row
-      → (cAnswer 0 i j, v) ≡ ofRecords n l step row i j
+module _ (i j n : ℕ) (l : List Float) (step : ℕ) (row : List Float) (flags : List ℕ) {room : ℕ} (a : Answer) where
+  pub records-given : {v : List Float} {w : List ℕ} → room ≡ recordsRoom (length row) (length flags) → a ≡ Accepted → answered a ≡ beforeRecords n l room
+      → (v ≡ recordsLeft (given tt) n l step row) × (w ≡ flagsLeft (given tt) n l step flags) → (cAnswer 0 i j, v, w) ≡ ofRecords n l step row flags i j
   unfolding ofRecords cAnswerOf
-  records-given e h z = rw (← h, e, z)
+  records-given f e h z = rw (← f, ← h, e, z .0, z .1)
 
-  pub records-refused : {s : CAnswer} (r : Refusal) → a ≡ Refused r → answered a ≡ beforeRecords n l (length row / 3)
-      → s ≡ refusedAs (numberOf r) (valuesOf r) i j → (s, row) ≡ ofRecords n l step row i j
+  pub records-refused : {s : CAnswer} (r : Refusal) → room ≡ recordsRoom (length row) (length flags) → a ≡ Refused r → answered a ≡ beforeRecords n l room
+      → s ≡ refusedAs (numberOf r) (valuesOf r) i j → (s, row, flags) ≡ ofRecords n l step row flags i j
   unfolding ofRecords cAnswerOf
-  records-refused r e h z = rw (← h, e, z)
+  records-refused r f e h z = rw (← f, ← h, e, z)

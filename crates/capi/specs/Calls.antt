@@ -11,24 +11,34 @@ use Rattle.refusal.specs.declared.Refusal.the-variants.{Length, TooShort}
 use Rattle.lists.specs.Tabulate.{tabulate}
 use Rattle.rotation.specs.declared.Parameters.{Parameters}
 use Rattle.rotation.specs.declared.Parameters.the-variants.{Still, Turn}
+use Rattle.rotation.specs.declared.Found.{Found}
 use Rattle.sizes.specs.Sizes.{isOrder, processorsOf, orderRow}
 use Rattle.forecast.specs.declared.Figures.{Figures}
 use Rattle.ordering.specs.Pairs.{orNone, registersAt}
-use Rattle.runs.specs.Outcome.{Outcome, beforeRun}
+use Rattle.runs.specs.Outcome.{Outcome, Report, report, beforeRun}
 use Rattle.step_records.specs.declared.Record.{Record}
 use Rattle.step_records.specs.Records.{recordOf, recordAt, beforeRecords}
 use Rattle.tile_schedule.specs.Answers.{Tick, made, stopped, progressOf}
 use Rattle.array.specs.declared.Array.{Array}
 use Rattle.array.specs.Arrays.{arrayOf}
 use Rattle.array.specs.Runs.{startAnswer, startedOf}
-use Rattle.array_run.specs.Results.{Duration, lasting}
+use Rattle.array_run.specs.Results.{WholeReport, reporting}
 use Rattle.array_words.specs.Words.{arrayWords, wordsOf, arrayIn}
 use Rattle.sheet_reader.specs.Reader.{ReadOutcome}
 use Rattle.sheet_writer.specs.Writer.{WriteOutcome}
 use Rattle.listing.specs.Listing.{ListingOutcome}
 use Rattle.capi.specs.CAnswers.{CAnswer, cAnswerOf, numberAnswered}
 
--- ---- a root, a forecast: the number, and what is lent for the value
+-- What a lent byte holds for a flag.
+abbrev pub flagByte : Bool → ℕ
+flagByte b = cond b 1 0
+
+-- ---- a root: the number, and what is lent for the root and for its flag
+abbrev pub ofRoot : Answered (Float × Bool) → Float → ℕ → ℕ × Float × ℕ
+ofRoot (given y) x exact = (0, y .0, flagByte (y .1))
+ofRoot (refused k values) x exact = (k, x, exact)
+
+-- ---- a forecast: the number, and what is lent for the value
 unfoldable pub numberAndValue : {A : Type 0} → Answered A → A → ℕ × A
 numberAndValue a y = (numberAnswered a, valueOr a y)
 
@@ -36,13 +46,13 @@ numberAndValue a y = (numberAnswered a, valueOr a y)
 abbrev pub figures : ℕ → ℕ → ℕ → Figures
 figures ticks values parameters = record { ticks = ticks; values = values; parameters = parameters }
 
--- ---- parameters: 1 for a turn and 0 for still, and the record
+-- ---- parameters: 1 for a turn and 0 for still, the record, and its flag
 abbrev pub turns : Parameters → ℕ
 turns Still = 0
 turns (Turn t c s) = 1
 
-unfoldable pub ofParameters : Parameters → ℕ × Float × Float × Float
-ofParameters P = (turns P, recordOf P .t, recordOf P .c, recordOf P .s)
+unfoldable pub ofParameters : Found → ℕ × Float × Float × Float × ℕ
+ofParameters f = (turns (f .parameters), recordOf f .t, recordOf f .c, recordOf f .s, flagByte (f .exact))
 
 -- ---- the list of pairs, in two lists: zeros above the last processor
 unfoldable pub pairsTooShort : ℕ → ℕ → ℕ → Bool
@@ -57,7 +67,11 @@ pairsOf n step ls rs =
     cond (pairsTooShort n (length ls) (length rs)) (numberOf TooShort, ls, rs)
     (numberAnswered (table (orderRow n ∷ [])), listedIn (R .left) ls, listedIn (R .right) rs)
 
--- ---- the records of a step: t, c and s of one processor after the other
+-- ---- the records of a step: t, c and s of one processor after the other, and their flags in another list
+-- How many records there is room for.
+unfoldable pub recordsRoom : ℕ → ℕ → ℕ
+recordsRoom values flags = cond (ltb flags (values / 3)) flags (values / 3)
+
 unfoldable pub recordField : Record → ℕ → Float
 recordField x k = cond (eqb k 0) (x .t) (cond (eqb k 1) (x .c) (x .s))
 
@@ -68,17 +82,26 @@ abbrev pub recordsLeft : Answered Unit → ℕ → List Float → ℕ → List F
 recordsLeft (given x) n l step row = tabulate (processorsOf n * 3) (recordFields n l step) ++ drop (processorsOf n * 3) row
 recordsLeft (refused k values) n l step row = row
 
-unfoldable pub ofRecords : ℕ → List Float → ℕ → List Float → ℕ → ℕ → CAnswer × List Float
-ofRecords n l step row i j =
-    let a = beforeRecords n l (length row / 3) in (cAnswerOf a i j, recordsLeft a n l step row)
+unfoldable pub recordFlag : ℕ → List Float → ℕ → ℕ → ℕ
+recordFlag n l step k = flagByte (recordAt n l (registersAt n step) k .exact)
 
--- ---- a run: the sweeps made, for the array's run the ticks too, and two results
-unfoldable pub ofRun : Outcome ℕ → ℕ → ℕ → ℕ → CAnswer × ℕ × List Float × List Float
-ofRun o sweeps i j = (cAnswerOf (o .answer) i j, valueOr (o .answer) sweeps, o .result, o .vectors)
+abbrev pub flagsLeft : Answered Unit → ℕ → List Float → ℕ → List ℕ → List ℕ
+flagsLeft (given x) n l step flags = tabulate (processorsOf n) (recordFlag n l step) ++ drop (processorsOf n) flags
+flagsLeft (refused k values) n l step flags = flags
 
-unfoldable pub ofWhole : Outcome Duration → ℕ → ℕ → ℕ → ℕ → CAnswer × ℕ × ℕ × List Float × List Float
-ofWhole o sweeps ticks i j =
-    let d = valueOr (o .answer) (lasting sweeps ticks) in (cAnswerOf (o .answer) i j, d .sweeps, d .ticks, o .result, o .vectors)
+unfoldable pub ofRecords : ℕ → List Float → ℕ → List Float → List ℕ → ℕ → ℕ → CAnswer × List Float × List ℕ
+ofRecords n l step row flags i j =
+    let a = beforeRecords n l (recordsRoom (length row) (length flags)) in (cAnswerOf a i j, recordsLeft a n l step row, flagsLeft a n l step flags)
+
+-- ---- a run: the sweeps made, for the array's run the ticks, the pairs with a rounded root, and two results
+unfoldable pub ofRun : Outcome Report → ℕ → ℕ → ℕ → ℕ → CAnswer × ℕ × ℕ × List Float × List Float
+ofRun o sweeps rounded i j =
+    let r = valueOr (o .answer) (report sweeps rounded) in (cAnswerOf (o .answer) i j, r .sweeps, r .rounded, o .result, o .vectors)
+
+unfoldable pub ofWhole : Outcome WholeReport → ℕ → ℕ → ℕ → ℕ → ℕ → CAnswer × ℕ × ℕ × ℕ × List Float × List Float
+ofWhole o sweeps ticks rounded i j =
+    let r = valueOr (o .answer) (reporting (report sweeps rounded) ticks) in
+    (cAnswerOf (o .answer) i j, r .report .sweeps, r .ticks, r .report .rounded, o .result, o .vectors)
 
 -- ---- a sheet: the order and the sweeps, the codes and the matrix; how many bytes are written, and the bytes
 unfoldable pub ofReading : ReadOutcome → ℕ → ℕ → ℕ → ℕ → CAnswer × (ℕ × ℕ) × List ℕ × List Float

@@ -3,6 +3,7 @@ ghost use mathlib.Core.Path.{_≡_};
 ghost use Rattle.refusal.specs.Refusal.{numberOf, valuesOf};
 ghost use Rattle.refusal.specs.Answers.{answered};
 ghost use Rattle.capi.specs.CAnswers.{cAnswer, placeOr, refusedAs, cAnswerOf, numberAnswered};
+ghost use Rattle.capi.specs.Calls.{flagByte};
 use refusal::Answer;
 use refusal::Place;
 use refusal::Refusal;
@@ -46,6 +47,16 @@ fn set_place(refused: Refusal, row: &mut usize, column: &mut usize)
         }
         Place::Nowhere => {}
     }
+}
+
+// 1 for true, 0 for false.
+pub fn flag_byte(flag: bool) -> u8
+    ensures { λ r. ⌜ r ≡ flagByte flag ⌝ }
+{
+    if flag {
+        return 1;
+    }
+    0
 }
 
 // The same value. A NaN that an operation gave may have any pattern in memory; what callers in C see is that of one function.

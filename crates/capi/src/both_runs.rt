@@ -15,16 +15,18 @@ pub extern "C" fn weimrukas_plain_run(
     result: &mut [f64],
     vectors: &mut [f64],
     sweeps_made: &mut usize,
+    rounded: &mut usize,
     row: &mut usize,
     column: &mut usize,
 ) -> u8
-    ensures { λ r. ⌜ (cAnswer r (now (row .exit)) (now (column .exit)), now («sweeps_made» .exit), now (result .exit), now (vectors .exit))
-        ≡ ofRun (answeredRunOf n sweeps (now (matrix .entry)) (now (result .entry)) (now (vectors .entry))) (now («sweeps_made» .entry)) (now (row .entry))
-        (now (column .entry)) ⌝ }
+    ensures { λ r. ⌜ (cAnswer r (now (row .exit)) (now (column .exit)), now («sweeps_made» .exit), now (rounded .exit), now (result .exit), now (vectors .exit))
+        ≡ ofRun (answeredRunOf n sweeps (now (matrix .entry)) (now (result .entry)) (now (vectors .entry))) (now («sweeps_made» .entry))
+        (now (rounded .entry)) (now (row .entry)) (now (column .entry)) ⌝ }
 {
     match plain_run::run(n, sweeps, matrix, result, vectors) {
-        Ran::Made(made) => {
+        Ran::Made(made, counted) => {
             *sweeps_made = made;
+            *rounded = counted;
             0
         }
         Ran::Refused(refused) => crate::answers::refuse(refused, row, column),
@@ -40,17 +42,26 @@ pub extern "C" fn weimrukas_array_run(
     vectors: &mut [f64],
     sweeps_made: &mut usize,
     ticks: &mut usize,
+    rounded: &mut usize,
     row: &mut usize,
     column: &mut usize,
 ) -> u8
-    ensures { λ r. ⌜ (cAnswer r (now (row .exit)) (now (column .exit)), now («sweeps_made» .exit), now (ticks .exit), now (result .exit), now (vectors .exit))
+    ensures { λ r. ⌜ (
+      cAnswer r (now (row .exit)) (now (column .exit)),
+      now («sweeps_made» .exit),
+      now (ticks .exit),
+      now (rounded .exit),
+      now (result .exit),
+      now (vectors .exit),
+    )
         ≡ ofWhole (wholeOf n sweeps (now (matrix .entry)) (now (result .entry)) (now (vectors .entry))) (now («sweeps_made» .entry)) (now (ticks .entry))
-        (now (row .entry)) (now (column .entry)) ⌝ }
+        (now (rounded .entry)) (now (row .entry)) (now (column .entry)) ⌝ }
 {
     match array_run::run(n, sweeps, matrix, result, vectors) {
-        Completion::Completed(swept, ticked) => {
+        Completion::Completed(swept, ticked, counted) => {
             *sweeps_made = swept;
             *ticks = ticked;
+            *rounded = counted;
             0
         }
         Completion::Refused(refused) => crate::answers::refuse(refused, row, column),

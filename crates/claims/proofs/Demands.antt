@@ -10,6 +10,7 @@ use Rattle.claims.proofs.Tiles.{tiles-as-printed}
 use Rattle.claims.proofs.Listings.{listings-as-stated}
 use Rattle.claims.proofs.Histories.{one-history}
 use Rattle.claims.proofs.QuietRuns.{quiet-sweeps-as-stated}
+use Rattle.claims.proofs.ExactRoots.{exact-roots-as-stated}
 use Rattle.claims.proofs.Forecasts.{forecasts-as-stated}
 use Rattle.claims.proofs.Examples.{examples-hold}
 
@@ -26,6 +27,7 @@ demands-met =
       demand-2-listings = listings-as-stated;
       demand-3 = one-history;
       quiet-sweeps = quiet-sweeps-as-stated;
+      exact-roots = exact-roots-as-stated;
       forecasts = forecasts-as-stated;
       examples-hold = examples-hold;
     }

@@ -25,12 +25,12 @@ use Rattle.forecast.proofs.Counted.{values-counted, parameters-counted}
 use Rattle.runs.specs.State.{State, startOf}
 use Rattle.runs.specs.Cells.{setting}
 use Rattle.plain_run.specs.Quiet.{quiet, sweepsMade}
-use Rattle.plain_run.proofs.SweepsMade.{Ends, with-all, when-quiet, made-ends, made-within}
+use Rattle.plain_run.proofs.SweepsMade.{Ends, with-all, when-quiet, made-ends, made-within, report-sweeps}
 use Rattle.tile.specs.Tiles.{operations}
 use Rattle.array.specs.declared.Started.{Started}
 use Rattle.array.specs.declared.Ticked.{Ticked}
 use Rattle.array.proofs.MadeTicks.{made-tile}
-use Rattle.array_run.specs.Results.{Duration}
+use Rattle.array_run.specs.Results.{WholeReport}
 use Rattle.array_agreement.specs.Hand.{ByHand, madeWhere}
 use Rattle.array_agreement.proofs.QuietRuns.{whole-given}
 use Rattle.array_agreement.proofs.HandCounts.{made-where, all-made-where}
@@ -73,7 +73,8 @@ module _ (n sweeps : ℕ) where
   whole-run l r v fit reported e =
       let X = startOf n l in
       let made = sweepsMade n sweeps X in
-      let ticks : reported .ticks ≡ ticksOf n made = ap (λ (d : Duration). d .ticks) (whole-given n sweeps l r v fit reported e .1) in
+      let ticks : reported .ticks ≡ ticksOf n made =
+      ap (λ (d : WholeReport). d .ticks) (whole-given n sweeps l r v fit reported e .1) ∙ ap (ticksOf n) (report-sweeps n sweeps X) in
       let fewer : stepsOf n made ≤ stepsOf n sweeps = mul-le-mul-right (sweepSteps n) (made-within n X sweeps) in
       (omega (arith, ticks, fewer), λ f. ticks ∙ ap (ticksOf n) (all-made X f (made-ends n X sweeps)))
 

@@ -16,16 +16,16 @@ use Rattle.sizes.specs.Sizes.{isOrder, ticksOf}
 use Rattle.matrix.proofs.AcceptedEntries.{accepted-long, accepted-if}
 use Rattle.matrix.proofs.SameEntries.{flat-same}
 use Rattle.runs.specs.State.{startOf}
-use Rattle.runs.specs.Outcome.{Outcome, outcome}
+use Rattle.runs.specs.Outcome.{Outcome, Report, outcome}
 use Rattle.runs.proofs.Verdicts.{Begins, begun}
 use Rattle.plain_run.specs.Run.{runOf}
-use Rattle.plain_run.specs.Quiet.{sweepsMade, answeredRunOf}
+use Rattle.plain_run.specs.Quiet.{reportOf, answeredRunOf}
 use Rattle.plain_run.proofs.SweepsMade.{answered-given}
 use Rattle.plain_run.proofs.RunResults.{last-matrices, accepted-run, run-accepted}
 use Rattle.array.specs.declared.Started.{Started}
 use Rattle.array.specs.declared.Ticked.{Ticked}
 use Rattle.array.specs.Runs.{startAnswer}
-use Rattle.array_run.specs.Results.{Duration, lasting}
+use Rattle.array_run.specs.Results.{WholeReport, reporting}
 use Rattle.array_agreement.specs.Hand.{ClaimedByHand, AcceptedByHand, firstMade}
 use Rattle.array_agreement.proofs.QuietRuns as quiet-runs
 use Rattle.array_agreement.proofs.Hand as hand
@@ -36,18 +36,18 @@ use Rattle.claims.specs.Histories.{WholeRunIsThePlainRun, TicksReported,
 whole-run : WholeRunIsThePlainRun
 unfolding answeredRunOf
 whole-run n sweeps l r v fit =
-    let made = sweepsMade n sweeps (startOf n l) in
     quiet-runs.whole-agrees n sweeps l r v fit
-    ∙ ap (λ (a : Answered Duration). outcome a (runOf n sweeps l r v .result) (runOf n sweeps l r v .vectors)) (go made (runOf n sweeps l r v .answer))
+    ∙ ap (λ (a : Answered WholeReport). outcome a (runOf n sweeps l r v .result) (runOf n sweeps l r v .vectors))
+    (go (reportOf n sweeps (startOf n l)) (runOf n sweeps l r v .answer))
   where
-    go : (made : ℕ) (a : Answered Unit) → giving (lasting made (ticksOf n made)) a ≡ answerTimed n (giving made a)
-    go made (given x) = refl
-    go made (refused k values) = refl
+    go : (t : Report) (a : Answered Unit) → giving (reporting t (ticksOf n (t .sweeps))) a ≡ answerTimed n (giving t a)
+    go t (given x) = refl
+    go t (refused k values) = refl
 
 ticks : TicksReported
 ticks n sweeps l r v fit reported e =
     let w = quiet-runs.whole-given n sweeps l r v fit reported e .1 in
-    ap (λ (d : Duration). d .ticks) w ∙ sym (ap (λ (d : Duration). ticksOf n (d .sweeps)) w)
+    ap (λ (d : WholeReport). d .ticks) w ∙ sym (ap (λ (d : WholeReport). ticksOf n (d .report .sweeps)) w)
 
 -- ---- equal lists differ in no bit
 itself : (x : Float) → differing x x ≡ 0
@@ -72,13 +72,14 @@ no-bit-differs n sweeps l r v r′ v′ order few matrix hr hv hr′ hv′ stays
     let plain = run-accepted n sweeps l r v (begins n sweeps l _ _ order few matrix hr hv) stays in
     let again = run-accepted n sweeps l r′ v′ (begins n sweeps l _ _ order few matrix hr′ hv′) stays in
     let whole = quiet-runs.whole-agrees n sweeps l r′ v′ (matrix .of-binary64) in
-    let made = sweepsMade n sweeps (startOf n l) in
     let a = last-matrices n sweeps l r v plain in
     let b = last-matrices n sweeps l r′ v′ again in (
-      same-bits (n * n) (ap (λ (o : Outcome Duration). o .result) whole ∙ b .0 ∙ sym (a .0)),
-      same-bits (n * n) (ap (λ (o : Outcome Duration). o .vectors) whole ∙ b .1 ∙ sym (a .1)),
-      ap (λ (o : Outcome Duration). o .answer) whole ∙ ap (giving (lasting made (ticksOf n made))) again,
-      ap (giving made) plain,
+      same-bits (n * n) (ap (λ (o : Outcome WholeReport). o .result) whole ∙ b .0 ∙ sym (a .0)),
+      same-bits (n * n) (ap (λ (o : Outcome WholeReport). o .vectors) whole ∙ b .1 ∙ sym (a .1)),
+      (
+        ap (λ (o : Outcome WholeReport). o .answer) whole ∙ ap (giving (quiet-runs.wholeReport n sweeps l)) again,
+        ap (giving (reportOf n sweeps (startOf n l))) plain,
+      ),
     )
 
 -- ---- by hand
@@ -114,8 +115,8 @@ starts-run n sweeps l lr lv b long =
 
 no-bit-differs-by-hand : NoBitDiffersByHand
 unfolding answeredRunOf
-no-bit-differs-by-hand n sweeps l r v s rs made fit h all answers =
-    let plain = answered-given n sweeps l r v made answers .0 in
+no-bit-differs-by-hand n sweeps l r v s rs reported fit h all answers =
+    let plain = answered-given n sweeps l r v reported answers .0 in
     let w = accepted-run n sweeps l r v plain in
     let long = accepted-long n l fit (w .0 .entries) in
     let begun = starts-run n sweeps l _ _ (w .0) long in

@@ -8,8 +8,10 @@ pub mod Report
 pub mod Quotients
 pub mod Sheets
 pub mod Histories
+pub mod MetPairs
 pub mod QuietSweeps
 pub mod QuietRuns
+pub mod ExactRoots
 pub mod Forecasts
 pub mod Tiles
 pub mod Demands

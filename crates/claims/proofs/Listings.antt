@@ -7,9 +7,9 @@ use native.Mathlib.Omega.{arith}
 use borrow.Author.Tests.{le-ltb}
 use lib.Dec.{T, ltb}
 use lib.ListN.{length, drop}
-use lib.Ieee.{Float, binary64, fits, ofBits, toBits, add, sub, mul, div, lt, neg}
+use lib.Ieee.{Float, binary64, fits, ofBits, toBits, add, sub, mul, div, lt, neg, isNan}
 use lib.Ieee.Bits.{ofBits-fits}
-use Rattle.refusal.specs.Answers.{Answered, given, refused, giving, valueOr, unlessRefused, row, table}
+use Rattle.refusal.specs.Answers.{Answered, given, refused, giving, unlessRefused, row, table}
 use Rattle.refusal.specs.declared.Refusal.the-variants.{TooShort}
 use Rattle.refusal.proofs.FirstRefusal.{refused-given}
 use Rattle.refusal.proofs.RefusedOutcomes.{giving-was}
@@ -20,25 +20,29 @@ use Rattle.matrix.proofs.Flat.{flat-length, flat-fits}
 use Rattle.runs.specs.State.{zeros}
 use Rattle.runs.specs.Outcome.{Outcome, answering}
 use Rattle.plain_run.specs.Run.{runOf}
-use Rattle.plain_run.specs.Quiet.{sweepsMade}
+use Rattle.plain_run.specs.Met.{pairMet, roundedIn, pairsBy}
+use Rattle.plain_run.specs.Quiet.{sweepsMade, reportOf}
 use Rattle.plain_run.proofs.RunResults.{last-matrices}
-use Rattle.plain_run.proofs.SweepsMade.{made-within}
-use Rattle.array_run.specs.Results.{Duration, lasting}
-use Rattle.array_agreement.proofs.QuietRuns.{whole-agrees}
+use Rattle.plain_run.proofs.SweepsMade.{made-within, report-sweeps}
+use Rattle.array_run.specs.Results.{WholeReport, reporting}
+use Rattle.array_agreement.proofs.QuietRuns.{wholeReport, whole-agrees}
 use Rattle.sheet.specs.Format.{orderIn, sweepsIn, codesIn, patternIn, entryIn}
 use Rattle.sheet_reader.specs.Reader.{sheetAnswer}
 use Rattle.sheet_reader.proofs.SheetContents.{codes-count}
 use Rattle.sheet_reader.proofs.Tables.{lent-right, readable}
 use Rattle.listing_text.specs.Printed.{Printing, printing, printOf, refusalOf, headOf, textLineOf, textLinesOf, printedOf, roomFor}
 use Rattle.listing_text.proofs.PrintedTexts.{all-printed}
+use Rattle.array_run.specs.Whole.{ticksAnswered}
 use Rattle.listing.specs.Listing.{listed, listedUnless, listOf}
 use Rattle.claims.specs.Examples.{values}
 use Rattle.claims.specs.Listings.{exampleSheet, longSheet}
 use Rattle.float64.specs.Values.{finite}
-use Rattle.root.specs.Sqrt.{sqrtOf}
+use Rattle.root.specs.Sqrt.{rootUnits, sqrtOf}
+use Rattle.root.specs.Exact.{exactUnits, exactRoot}
+use Rattle.rotation.specs.Exact.{exactPair}
 use Rattle.lists.specs.Tabulate.{tabulate}
 use Rattle.systolic.specs.Slots.{slot, cameFrom, intoLast, prior, lineAt, inOrderAt, inOrder}
-use Rattle.lists.specs.Bounded.{any}
+use Rattle.lists.specs.Bounded.{any, count, total}
 use Rattle.ordering.specs.Registers.{column, registersOf}
 use Rattle.ordering.specs.Pairs.{registersAt}
 use Rattle.rotation.specs.Rotation.{tangentOfPair, tangentOf, cosineOf, quotient, signum, rootOf, ofAngle, ofTangent, ofPair}
@@ -46,11 +50,11 @@ use Rattle.refusal.specs.Answers.{first}
 use Rattle.matrix.specs.Entries.{notFiniteAt, notMirroredAt, finiteRow, mirrorRow}
 use Rattle.matrix_turns.specs.Turns.{turnedAt, rowTurn, columnTurn, columnTurnAll}
 use Rattle.systolic.specs.Sequential.{place, pairBlock}
-use Rattle.runs.specs.Blocks.{ruled, matrixBlock}
+use Rattle.runs.specs.Blocks.{ruled, ruledExact, matrixBlock}
 use Rattle.plain_pair.specs.Pair.{pairTurned, pairRotated}
 use Rattle.runs.specs.State.{identity, bordered, startOf}
 use Rattle.plain_run.specs.State.{pairsRotated, after, notFiniteFrom, notFinite, spoiled}
-use Rattle.runs.specs.Outcome.{beforeRun, outcome}
+use Rattle.runs.specs.Outcome.{beforeRun, outcome, report}
 use Rattle.plain_run.specs.Run.{ranOf}
 use Rattle.sheet.specs.Format.{wordFrom, entryNumber, entriesTo, widthIn, codeIn}
 use Rattle.sheet.specs.Codes.{badCodes, badCode, longCodes}
@@ -80,7 +84,7 @@ unfolding listOf listedUnless
 leaves b t k values e =
     let n = orderIn b in
     left-alone (table (sheetAnswer b ∷ row (ltb (length t) (roomFor n)) TooShort ∷ giving tt (runIn b .answer) ∷ []))
-    (printOf n (sweepsIn b) (valueOr (runIn b .answer) (lasting 0 0) .ticks) (codesIn b) (runIn b .result) (runIn b .vectors) t) t k values e
+    (printOf n (sweepsIn b) (ticksAnswered (runIn b .answer)) (codesIn b) (runIn b .result) (runIn b .vectors) t) t k values e
 
 -- ---- what is printed
 codes-same : (n : ℕ) (codes : List ℕ) (A E : ℕ → ℕ → Float) (k : ℕ) → textLinesOf n codes A E k ≡ codesPrinted n codes A E k
@@ -103,34 +107,37 @@ module _ (b : List ℕ) where
   abbrev plain : Outcome Unit
   plain = runOf n (sweepsIn b) (flat n (entryIn b)) (zeros n) (zeros n)
 
-  -- the sweeps that it makes
   abbrev made : ℕ
   made = sweepsMade n (sweepsIn b) (startOf n (flat n (entryIn b)))
 
+  -- what it reports
+  abbrev told : WholeReport
+  told = wholeReport n (sweepsIn b) (flat n (entryIn b))
+
   -- the array's run is the plain run
-  agrees : runIn b ≡ answering (lasting made (ticksOf n made)) plain
+  agrees : runIn b ≡ answering told plain
   agrees = whole-agrees n (sweepsIn b) (flat n (entryIn b)) (zeros n) (zeros n) (flat-fits n (entryIn b) (entry-fits b))
 
-  module _ (t : List ℕ) (d : Duration) (accepted : sheetAnswer b ≡ given tt) (ran : runIn b .answer ≡ given d) (room : roomFor n ≤ length t) where
+  module _ (t : List ℕ) (d : WholeReport) (accepted : sheetAnswer b ≡ given tt) (ran : runIn b .answer ≡ given d) (room : roomFor n ≤ length t) where
     abbrev ticks : ℕ
     ticks = d .ticks
 
-    ran-so : (plain .answer ≡ given tt) × (d ≡ lasting made (ticksOf n made))
-    ran-so = giving-was (lasting made (ticksOf n made)) d (plain .answer) (sym (ap (λ (o : Outcome Duration). o .answer) agrees) ∙ ran)
+    ran-so : (plain .answer ≡ given tt) × (d ≡ told)
+    ran-so = giving-was told d (plain .answer) (sym (ap (λ (o : Outcome WholeReport). o .answer) agrees) ∙ ran)
 
     plain-ran : plain .answer ≡ given tt
     plain-ran = ran-so .0
 
     ticks-are : ticks ≡ ticksOf n made
-    ticks-are = ap (λ (d : Duration). d .ticks) (ran-so .1)
+    ticks-are = ap (λ (d : WholeReport). d .ticks) (ran-so .1) ∙ ap (ticksOf n) (report-sweeps n (sweepsIn b) _)
 
     result-long : length (runIn b .result) ≡ n * n
     result-long =
-        ap (λ (o : Outcome Duration). length (o .result)) agrees ∙ ap length (last-matrices n (sweepsIn b) _ _ _ plain-ran .0) ∙ flat-length n _
+        ap (λ (o : Outcome WholeReport). length (o .result)) agrees ∙ ap length (last-matrices n (sweepsIn b) _ _ _ plain-ran .0) ∙ flat-length n _
 
     vectors-long : length (runIn b .vectors) ≡ n * n
     vectors-long =
-        ap (λ (o : Outcome Duration). length (o .vectors)) agrees ∙ ap length (last-matrices n (sweepsIn b) _ _ _ plain-ran .1) ∙ flat-length n _
+        ap (λ (o : Outcome WholeReport). length (o .vectors)) agrees ∙ ap length (last-matrices n (sweepsIn b) _ _ _ plain-ran .1) ∙ flat-length n _
 
     -- the printer is lent what it asks for
     printer : printOf n (sweepsIn b) ticks (codesIn b) (runIn b .result) (runIn b .vectors) t
@@ -152,16 +159,17 @@ module _ (b : List ℕ) where
     printed = rw (accepted, le-ltb (length t) (roomFor n) room, ran) (ap (listed (given tt)) printer)
 
 -- ---- document 01's example, and the same with long codes
-abbrev exampleOutcome : Outcome Duration
+abbrev exampleOutcome : Outcome WholeReport
 exampleOutcome =
-    outcome (given (lasting 1 4)) (values (0 ∷ 0 ∷ 0 ∷ 0x4000_0000_0000_0000 ∷ []))
+    outcome (given (reporting (report 1 1) 4)) (values (0 ∷ 0 ∷ 0 ∷ 0x4000_0000_0000_0000 ∷ []))
     (values (0x3fe6_a09e_667f_3bcc ∷ 0x3fe6_a09e_667f_3bcc ∷ 0xbfe6_a09e_667f_3bcc ∷ 0x3fe6_a09e_667f_3bcc ∷ []))
 
 example-ran : runIn exampleSheet ≡ exampleOutcome
 unfolding sqrtOf ofBits toBits finite tabulate any slot cameFrom intoLast prior lineAt inOrderAt inOrder column registersOf registersAt isOrder at
     flat first notFiniteAt notMirroredAt finiteRow mirrorRow turnedAt rowTurn columnTurn columnTurnAll ofAngle ofTangent tangentOfPair tangentOf
     cosineOf quotient signum rootOf ofPair identity bordered ruled place pairBlock matrixBlock pairTurned pairRotated pairsRotated after notFiniteFrom
-    notFinite spoiled beforeRun startOf ranOf runOf sweepsMade zeros patternIn entryIn widthIn orderIn wordFrom entryNumber entriesTo add sub mul div lt neg
+    notFinite spoiled beforeRun startOf ranOf runOf sweepsMade rootUnits exactUnits exactRoot exactPair isNan ruledExact pairMet roundedIn count total
+    pairsBy reportOf zeros patternIn entryIn widthIn orderIn wordFrom entryNumber entriesTo add sub mul div lt neg
 example-ran = agrees exampleSheet ∙ refl
 
 -- the same matrix
@@ -173,12 +181,12 @@ module _ (t : List ℕ) (room : roomFor 2 ≤ length t) where
   short-printed : listOf exampleSheet t ≡ listedAs (examplePrint (0x37 ∷ []) (0x39 ∷ [])) t
   unfolding ofBits toBits finite tabulate any isOrder at flat first zeros patternIn entryIn widthIn orderIn codeIn codesIn wordFrom entryNumber
       entriesTo sheetAnswer badCodes badCode longCodes longInVain storedRow notFiniteIn codesPrinted valueField columnOf decimalOf shownFrom hexOf
-  short-printed = printed exampleSheet t (lasting 1 4) refl (ap (λ (o : Outcome Duration). o .answer) example-ran) room ∙ rw example-ran
+  short-printed = printed exampleSheet t (reporting (report 1 1) 4) refl (ap (λ (o : Outcome WholeReport). o .answer) example-ran) room ∙ rw example-ran
 
   long-printed : listOf longSheet t ≡ listedAs (examplePrint (0x33 ∷ 0x30 ∷ 0x30 ∷ []) (0x37 ∷ [])) t
   unfolding ofBits toBits finite tabulate any isOrder at flat first zeros patternIn entryIn widthIn orderIn codeIn codesIn wordFrom entryNumber
       entriesTo sheetAnswer badCodes badCode longCodes longInVain storedRow notFiniteIn codesPrinted valueField columnOf decimalOf shownFrom hexOf
-  long-printed = printed longSheet t (lasting 1 4) refl (ap (λ (o : Outcome Duration). o .answer) long-ran) room ∙ rw long-ran
+  long-printed = printed longSheet t (reporting (report 1 1) 4) refl (ap (λ (o : Outcome WholeReport). o .answer) long-ran) room ∙ rw long-ran
 
   examples : ExamplesPrinted t
   examples = record { short = short-printed; long = long-printed }

@@ -10,6 +10,7 @@ use lib.Ieee.{Float}
 use Rattle.float64.specs.Values.{plusZero, finite}
 use Rattle.rotation.specs.declared.Parameters.{Parameters}
 use Rattle.rotation.specs.declared.Parameters.the-variants.{Still, Turn}
+use Rattle.rotation.specs.declared.Found.{Found}
 use Rattle.ordering.specs.declared.Registers.{Registers}
 use Rattle.ordering.specs.declared.PairList.{PairList}
 use Rattle.ordering.specs.Pairs.{registersAt}
@@ -18,16 +19,17 @@ use Rattle.sizes.specs.Sizes.{isOrder, processorsOf, firstLine}
 use Rattle.matrix.specs.Matrix.{at}
 use Rattle.matrix.proofs.SameEntries.{read-again}
 use Rattle.matrix.proofs.AcceptedEntries.{accepted-if}
-use Rattle.matrix_turns.specs.Turns.{parametersOf}
+use Rattle.matrix_turns.specs.Turns.{foundAt}
 use Rattle.runs.specs.State.{State, bordered, startOf, identity}
-use Rattle.runs.specs.Blocks.{ruled}
-use Rattle.runs.proofs.LineZero.{bordered-real, row-0, column-0, always-still, not-still}
+use Rattle.runs.specs.Blocks.{ruledFound}
+use Rattle.runs.proofs.LineZero.{bordered-real, row-0, column-0, always-found, own-found}
 use Rattle.plain_run.specs.State.{pairsRotated, after, spoiled}
 use Rattle.plain_run.specs.Quiet.{answeredRunOf}
 use Rattle.plain_run.proofs.SweepsMade.{answered-given}
 use Rattle.plain_run.proofs.ProcessorPairs.{one-pair-more}
 use Rattle.plain_run.proofs.RunResults.{last-matrices, spoiled-by, BadEntry, bad-entry, bad-real-entry}
-use Rattle.step_records.specs.Records.{recordOf}
+use Rattle.step_records.specs.declared.Record.{Record}
+use Rattle.step_records.specs.Records.{recordWith}
 use Rattle.step_records.proofs.FoundRecords.{accepted-call, record-found, answer-given}
 use Rattle.claims.specs.PlainRuns.{processorsTurned, PlainSteps, RunLeavesLastStep, NotFiniteIn, NotFiniteAfter}
 use Rattle.claims.specs.PlainRuns.{recorded, RecordsFound, PlainRunsAsStated}
@@ -60,8 +62,8 @@ steps n order list lists =
 
 last-step : RunLeavesLastStep
 unfolding answeredRunOf
-last-step n sweeps l r v made e i j h =
-    let w = last-matrices n sweeps l r v (answered-given n sweeps l r v made e .0) in
+last-step n sweeps l r v reported e i j h =
+    let w = last-matrices n sweeps l r v (answered-given n sweeps l r v reported e .0) in
     (rw (w .0) (read-again n _ i j (h .0, h .1) (h .2, h .3)), rw (w .1) (read-again n _ i j (h .0, h .1) (h .2, h .3)))
 
 -- a test of both, one way and the other
@@ -112,20 +114,26 @@ real-line : (n step : ℕ) (l : List Float) → isOrder n ≡ true → Covarianc
 real-line n step l order m w =
     from-law (bad-real-entry n l order (m .of-binary64) (accepted-if n l (m .long) (m .all-finite) (m .mirrored)) step (to-law w))
 
-same-record : (P : Parameters) → recordOf P ≡ recorded P
-same-record Still = refl
-same-record (Turn t c s) = refl
+same-record : (P : Parameters) (exact : Bool) → recordWith P exact ≡ recorded P exact
+same-record Still exact = refl
+same-record (Turn t c s) exact = refl
 
--- what a processor turns by, in a matrix as lent
-abbrev foundBy : ℕ → List Float → ℕ → Registers → Parameters
-foundBy n l k r = parametersOf (getD (r .left) (k - 1) 0) (getD (r .right) (k - 1) 0) (at n l)
+-- what is found of a processor's pair, in a matrix as lent
+abbrev foundBy : ℕ → List Float → ℕ → Registers → Found
+foundBy n l k r = foundAt (getD (r .left) (k - 1) 0) (getD (r .right) (k - 1) 0) (at n l)
+
+abbrev recordedAs : Found → Record
+recordedAs f = recorded (f .parameters) (f .exact)
 
 records : RecordsFound
 records n l step ys other list e lists k a b =
     let order = accepted-call n l _ (answer-given n l step ys e) .order in
-    let found = record-found n l step ys other e (k - 1) (omega arith) ∙ same-record (ruled n (k - 1) (foundBy n l k (registersAt n step)))
-    ∙ ap (λ (r : Registers). recorded (ruled n (k - 1) (foundBy n l k r))) (sym (of-order n order (lists .lists))) in
-    (λ f. found ∙ ap recorded (sym (not-still n (k - 1) _ (not-first n k a f))), λ f. found ∙ ap recorded (sym (always-still n (k - 1) _ (is-first n k f))))
+    let lent = ruledFound n (k - 1) (foundBy n l k (registersAt n step)) in
+    let found = record-found n l step ys other e (k - 1) (omega arith) ∙ same-record (lent .parameters) (lent .exact)
+    ∙ ap (λ (r : Registers). recordedAs (ruledFound n (k - 1) (foundBy n l k r))) (sym (of-order n order (lists .lists))) in (
+      λ f. found ∙ ap recordedAs (sym (own-found n (k - 1) _ (not-first n k a f))),
+      λ f. found ∙ ap recordedAs (sym (always-found n (k - 1) _ (is-first n k f))),
+    )
 
 pub plain-runs-as-stated : PlainRunsAsStated
 plain-runs-as-stated =

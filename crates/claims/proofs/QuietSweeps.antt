@@ -1,63 +1,36 @@
 -- Quiet sweeps and the end of a run, each part by the law that proves it. Assumes nothing.
-use Prim.Native.Nat.{ℕ, zero, suc, _+_, _-_, _*_, _%_}
+use Prim.Native.Nat.{ℕ, suc, _+_, _-_, _*_}
 use mathlib.Core.Path.{_≡_, refl, sym, ap, _∙_}
-use mathlib.Core.Bool.{true, false, cond, _&&_}
+use mathlib.Core.Bool.{true, false}
 use native.Mathlib.Omega.{arith}
-use borrow.Author.Tests.{ne-eqb}
-use lib.Dec.{eqb}
-use lib.ListN.{getD}
-use Rattle.rotation.specs.declared.Parameters.{Parameters}
 use Rattle.rotation.specs.declared.Parameters.the-variants.{Still}
-use Rattle.ordering.specs.declared.Registers.{Registers}
 use Rattle.ordering.specs.declared.PairList.{PairList}
 use Rattle.ordering.specs.Pairs.{Lists}
-use Rattle.ordering.proofs.OrderRegisters.{of-order}
-use Rattle.sizes.specs.Sizes.{isOrder, sweepSteps}
-use Rattle.matrix_turns.specs.Turns.{parametersOf}
+use Rattle.sizes.specs.Sizes.{isOrder, sweepSteps, stepsOf}
 use Rattle.runs.specs.State.{State, startOf}
-use Rattle.runs.specs.Blocks.{ruled}
 use Rattle.runs.specs.Counts.{isTurn}
-use Rattle.runs.specs.Outcome.{answering}
-use Rattle.plain_run.specs.State.{pairsRotated, after}
+use Rattle.runs.specs.Outcome.{Report, report, answering}
+use Rattle.plain_run.specs.State.{after}
 use Rattle.plain_run.specs.Run.{runOf}
-use Rattle.plain_run.specs.Quiet.{parametersAt, turnsIn, quiet, sweepsMade, answeredRunOf}
+use Rattle.plain_run.specs.Met.{pairMet, turnsIn, roundedBy}
+use Rattle.plain_run.specs.Quiet.{quiet, sweepsMade, reportOf, answeredRunOf}
 use Rattle.plain_run.proofs.RunResults.{accepted-run}
 use Rattle.plain_run.proofs.StillPairs.{no-turn}
 use Rattle.plain_run.proofs.QuietSweeps.{quiet-still, still-quiet, quiet-diagonal, settled}
-use Rattle.plain_run.proofs.SweepsMade.{Ends, with-all, when-quiet, made-ends, made-is, run-same, answered-given}
-use Rattle.claims.specs.PlainRuns.{processorsTurned}
-use Rattle.claims.specs.Report.{leftRegister, rightRegister}
+use Rattle.plain_run.proofs.SweepsMade.{Ends, with-all, when-quiet, made-ends, made-is, run-same, report-sweeps, answered-given}
 use Rattle.claims.specs.QuietSweeps.{atItsTurn, EveryPairStill, QuietMeans, FirstQuiet, the-first, none-is, SweepsAnswered, SameAsAllSweeps}
 use Rattle.claims.specs.QuietSweeps.{QuietSettles}
-use Rattle.claims.proofs.FirstProcessor.{ruled-first}
-use Rattle.claims.proofs.PlainRuns.{in-order}
+use Rattle.claims.proofs.MetPairs.{at-its-turn}
 
--- ---- what a processor turns by, in the words of the page
+-- ---- a quiet sweep, in the words of the page
 module _ (n : ℕ) (order : isOrder n ≡ true) (list : ℕ → PairList) (lists : (step : ℕ) → Lists n step (list step)) (X : State) where
-  pub at-its-turn : (step i : ℕ) → atItsTurn n (list step) (i + 1) (after n step X) ≡ parametersAt n step i X
-  unfolding parametersAt
-  at-its-turn step i =
-      let Y = after n step X in
-      let e : i + 1 - 1 ≡ i = omega arith in
-      same-test i (parametersOf (leftRegister (list step) (i + 1)) (rightRegister (list step) (i + 1)) (processorsTurned n (list step) (i + 1 - 1) Y .matrix))
-      ∙ sym (ruled-first n i _)
-      ∙ rw e
-      (ap (λ (Z : State). ruled n i (parametersOf (getD (list step .registers .left) i 0) (getD (list step .registers .right) i 0) (Z .matrix)))
-      (sym (in-order n (list step) i Y))
-      ∙ ap (λ (r : Registers). ruled n i (parametersOf (getD (r .left) i 0) (getD (r .right) i 0) (pairsRotated n (r .left) (r .right) i Y .matrix)))
-      (of-order n order (lists step .lists)))
-    where
-      same-test : (i : ℕ) (P : Parameters) → cond (eqb (n % 2) 1 && eqb (i + 1) 1) Still P ≡ cond (eqb (n % 2) 1 && eqb i 0) Still P
-      same-test zero P = refl
-      same-test (suc i) P = rw (ne-eqb (suc i + 1) 1 (λ z. omega arith), ne-eqb (suc i) 0 (λ z. omega arith))
-
   still-then : (step i : ℕ) → atItsTurn n (list step) (i + 1) (after n step X) ≡ Still → turnsIn n step i X ≡ false
   unfolding turnsIn
-  still-then step i e = ap isTurn (sym (at-its-turn step i) ∙ e)
+  still-then step i e = ap isTurn (sym (at-its-turn n order list lists X step i) ∙ e)
 
   then-still : (step i : ℕ) → turnsIn n step i X ≡ false → atItsTurn n (list step) (i + 1) (after n step X) ≡ Still
   unfolding turnsIn
-  then-still step i e = at-its-turn step i ∙ no-turn (parametersAt n step i X) e
+  then-still step i e = at-its-turn n order list lists X step i ∙ no-turn (pairMet n step i X .parameters) e
 
   quiet-is : (m : ℕ) → (EveryPairStill n list m X → quiet n m X ≡ true) × (quiet n m X ≡ true → EveryPairStill n list m X)
   quiet-is m = (
@@ -79,23 +52,32 @@ first-quiet n S X (when-quiet j h none q e) =
 
 pub sweeps-answered : SweepsAnswered
 sweeps-answered n sweeps l r v reported e =
-    let w = answered-given n sweeps l r v reported e .1 in rw w (first-quiet n sweeps (startOf n l) (made-ends n (startOf n l) sweeps))
+    let X = startOf n l in
+    let made : reported .sweeps ≡ sweepsMade n sweeps X =
+    ap (λ (t : Report). t .sweeps) (answered-given n sweeps l r v reported e .1) ∙ report-sweeps n sweeps X in
+    rw made (first-quiet n sweeps X (made-ends n X sweeps))
 
 -- the sweeps made of a run of as many sweeps are all of them
 again : (n S : ℕ) (X : State) {made : ℕ} → Ends n S X made → Ends n made X made
 again n S X (with-all none e) = with-all (λ j h. none j (omega arith)) refl
 again n S X (when-quiet j h none q e) = when-quiet j (omega arith) none q e
 
+same-report : (n S T : ℕ) (X : State) → sweepsMade n S X ≡ sweepsMade n T X → reportOf n S X ≡ reportOf n T X
+unfolding reportOf
+same-report n S T X e = ap (λ (k : ℕ). report k (roundedBy n (stepsOf n k) X)) e
+
 pub same-sweeps : SameAsAllSweeps
 unfolding answeredRunOf
 same-sweeps n sweeps l r v reported e =
     let w = answered-given n sweeps l r v reported e in
     let X = startOf n l in
+    let m = reported .sweeps in
     let few = accepted-run n sweeps l r v (w .0) .0 .few in
-    let made : reported ≡ sweepsMade n sweeps X = w .1 in
-    let ends : Ends n reported X reported = again n sweeps X (rw made (made-ends n X sweeps)) in
-    let same : runOf n reported l r v ≡ runOf n sweeps l r v = ap (λ (k : ℕ). runOf n k l r v) made ∙ sym (run-same n sweeps l few r v) in
-    ap (λ (k : ℕ). answering k (runOf n reported l r v)) (sym (made-is n X ends) ∙ made) ∙ ap (answering (sweepsMade n sweeps X)) same
+    let made : m ≡ sweepsMade n sweeps X = ap (λ (t : Report). t .sweeps) (w .1) ∙ report-sweeps n sweeps X in
+    let ends : Ends n m X m = again n sweeps X (rw made (made-ends n X sweeps)) in
+    let told : reportOf n m X ≡ reportOf n sweeps X = same-report n m sweeps X (sym (made-is n X ends) ∙ made) in
+    let same : runOf n m l r v ≡ runOf n sweeps l r v = ap (λ (k : ℕ). runOf n k l r v) made ∙ sym (run-same n sweeps l few r v) in
+    ap (λ (t : Report). answering t (runOf n m l r v)) told ∙ ap (answering (reportOf n sweeps X)) same
 
 pub settles : QuietSettles
 settles n m X order some q =

@@ -2,22 +2,23 @@
 use Prim.Native.Nat.{ℕ}
 use mathlib.Core.Path.{refl, ap, _∙_}
 use mathlib.Core.List.{List}
-use lib.Ieee.{Float}
+use lib.Ieee.{Float, nan}
 use Rattle.refusal.specs.Answers.{giving}
 use Rattle.refusal.proofs.RefusedOutcomes.{giving-refused}
+use Rattle.root.specs.Exact.{exactRoot, flagged}
 use Rattle.root.proofs.AnsweredRoots as root
-use Rattle.sizes.specs.Sizes.{ticksOf, sizesAnswer}
+use Rattle.sizes.specs.Sizes.{sizesAnswer}
 use Rattle.runs.specs.State.{startOf}
 use Rattle.runs.specs.Outcome.{beforeRun, Outcome, answering}
 use Rattle.plain_run.specs.Run.{runOf}
-use Rattle.plain_run.specs.Quiet.{sweepsMade, answeredRunOf}
+use Rattle.plain_run.specs.Quiet.{reportOf, answeredRunOf}
 use Rattle.plain_run.proofs.RefusedRuns.{run-answers, run-kept, run-zeroed}
 use Rattle.step_records.specs.Records.{beforeRecords}
 use Rattle.step_records.proofs.LeftRows.{records-answer, row-kept, row-tail}
 use Rattle.tile_schedule.specs.Answers.{progressOf}
 use Rattle.array.proofs.RefusedRecords.{start-none, tick-back}
-use Rattle.array_run.specs.Results.{Duration, lasting}
-use Rattle.array_agreement.proofs.QuietRuns.{whole-agrees}
+use Rattle.array_run.specs.Results.{WholeReport}
+use Rattle.array_agreement.proofs.QuietRuns.{wholeReport, whole-agrees}
 use Rattle.sheet_reader.specs.Reader.{longInVain, sheetAnswer, readAnswer}
 use Rattle.sheet_reader.proofs.SheetContents.{read-answers, lent-kept}
 use Rattle.sheet_reader.proofs.Tables.{lent-right}
@@ -43,13 +44,12 @@ numbers =
 -- ---- runs
 plain-run : PlainRunAnswers
 unfolding beforeRun answeredRunOf
-plain-run n sweeps l r v = ap (giving (sweepsMade n sweeps (startOf n l))) (run-answers n sweeps l r v)
+plain-run n sweeps l r v = ap (giving (reportOf n sweeps (startOf n l))) (run-answers n sweeps l r v)
 
 whole-run : WholeRunAnswers
 unfolding beforeRun
 whole-run n sweeps l r v fit =
-    let made = sweepsMade n sweeps (startOf n l) in
-    ap (λ (o : Outcome Duration). o .answer) (whole-agrees n sweeps l r v fit) ∙ ap (giving (lasting made (ticksOf n made))) (run-answers n sweeps l r v)
+    ap (λ (o : Outcome WholeReport). o .answer) (whole-agrees n sweeps l r v fit) ∙ ap (giving (wholeReport n sweeps l)) (run-answers n sweeps l r v)
 
 -- whatever value stands in the answer
 answering-leaves : {B : Type 0} (n sweeps : ℕ) (l r v : List Float) (x : B) → LeavesResults n (answering x (runOf n sweeps l r v)) r v
@@ -71,7 +71,12 @@ refused-as-tabled =
     record {
       numbers-as-tabled = numbers;
       entries-are-tested = entries-tested;
-      root-answers = record { not-a-number = root.root-of-nan; below-zero = root.root-below; others = root.root-other };
+      root-answers =
+          record {
+            not-a-number = ap (flagged (exactRoot nan)) root.root-of-nan;
+            below-zero = λ x h. ap (flagged (exactRoot x)) (root.root-below x h);
+            others = λ x h k. let w = root.root-other x h k in ((w .0, exactRoot x), ap (flagged (exactRoot x)) (w .1));
+          };
       pairs-answer = λ n step r h. (h .answers, λ e. h .lists ∙ rw e);
       plain-run-answers = plain-run;
       whole-run-answers = whole-run;

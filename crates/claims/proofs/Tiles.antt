@@ -1,7 +1,7 @@
 -- What a start and a tick leave in each tile, each part by the law that proves it. Assumes nothing.
 use Prim.Native.Nat.{ℕ, _+_, _-_, _*_, _%_, _≤_, _<_}
 use mathlib.Core.Path.{_≡_, refl, sym, ap, _∙_}
-use mathlib.Core.Bool.{Bool, true, false, cond, _||_, true≢false}
+use mathlib.Core.Bool.{Bool, true, false, not, cond, _||_, true≢false}
 use mathlib.Core.List.{List}
 use native.Mathlib.Omega.{arith}
 use borrow.Author.Tests.{eqb-true, eq-eqb, ne-eqb}
@@ -26,8 +26,9 @@ use Rattle.rotation.specs.Rotation.{sent}
 use Rattle.matrix.specs.Matrix.{at}
 use Rattle.runs.specs.State.{identity, bordered, startOf}
 use Rattle.runs.specs.Blocks.{blockParameters}
-use Rattle.runs.specs.Counts.{turnCounted, beginsSweep, turnsAfter}
-use Rattle.runs.specs.Cells.{Cell, cell, cellOf, blockEntries, Setting, setting, ruledBlock}
+use Rattle.runs.specs.declared.Counts.{Counts}
+use Rattle.runs.specs.Counts.{isTurn, counted, beginsSweep, turnsAfter, roundedAfter, countsAfter}
+use Rattle.runs.specs.Cells.{Cell, cell, cellOf, blockEntries, Setting, setting, ruledBlock, foundBlock}
 use Rattle.runs.proofs.BlockTurns.{rows-turned, columns-turned}
 use Rattle.tile_schedule.specs.Answers.{made, progressAnswered}
 use Rattle.tile.specs.Tiles.{operations}
@@ -39,14 +40,21 @@ use Rattle.array.specs.Arrays.{Ticks}
 use Rattle.array.specs.Runs.{startArray, Starts}
 use Rattle.array.proofs.MadeTicks.{made-array, made-tile, started-array, started-tile, begun}
 use Rattle.claims.specs.Tiles.{OneTile, tileIn, diagonalParameters, cellsRotated, CellsTicked, ParametersTicked, Sets, WiresTicked, TileTicked}
-use Rattle.claims.specs.Tiles.{countedOn, TurnsTicked, TickMade, cellAtFirst, TileStarted, StartMade, TilesAsPrinted}
-use Rattle.claims.proofs.FirstProcessor.{ruled-first}
+use Rattle.claims.specs.Tiles.{isTurned, diagonalExact, countedOn, CountsTicked, TickMade, cellAtFirst, TileStarted, StartMade, TilesAsPrinted}
+use Rattle.claims.proofs.FirstProcessor.{ruled-first, ruled-exact-first}
 
--- ---- the count, by the page's words
-counted-as : (n k : ℕ) (P : Parameters) (d : ℕ) → turnsAfter n k P d ≡ countedOn P (cond (eqb (k % sweepSteps n) 0) 0 d)
-unfolding turnsAfter turnCounted beginsSweep
-counted-as n k Still d = refl
-counted-as n k (Turn t c s) d = refl
+-- ---- the counts, by the page's words
+pub turn-as : (P : Parameters) → isTurn P ≡ isTurned P
+turn-as Still = refl
+turn-as (Turn t c s) = refl
+
+turns-as : (n k : ℕ) (P : Parameters) (d : ℕ) → turnsAfter n k P d ≡ countedOn (isTurned P) (cond (eqb (k % sweepSteps n) 0) 0 d)
+unfolding turnsAfter counted beginsSweep
+turns-as n k P d = rw (turn-as P)
+
+rounded-as : (exact : Bool) (d : ℕ) → roundedAfter exact d ≡ countedOn (not exact) d
+unfolding roundedAfter counted
+rounded-as exact d = refl
 
 -- ---- one tile in tick T, among tiles A
 module _ (n last K T : ℕ) (A : ℕ → ℕ → OneTile) (i j : ℕ) where
@@ -94,15 +102,24 @@ module _ (n last K T : ℕ) (A : ℕ → ℕ → OneTile) (i j : ℕ) where
         else-keeps = ticks.parameters-kept (operations s) last K T A i j;
       }
 
-  turns-ticked : TurnsTicked n K T i j (A i j) new brought
-  turns-ticked =
+  kept-as : (k : ℕ) → k < K → T ≡ 3 * k → i ≡ j → new .kept ≡ countsAfter n k (foundBlock s i (cond (eqb k 0) (A i j .cells) brought)) (A i j .kept)
+  kept-as k l e d =
+      ticks.kept-rotated (operations s) last K T A i j k l (omega arith)
+      ∙ rw (eq-eqb i j d) (tile-keeps s k i (cond (eqb k 0) (A i j .cells) brought) (A i j .kept))
+
+  counts-ticked : CountsTicked n K T i j (A i j) new brought
+  counts-ticked =
       record {
-        counts = λ k l e d.
+        turns-counted = λ k l e d.
             let b = cond (eqb k 0) (A i j .cells) brought in
-            ticks.kept-rotated (operations s) last K T A i j k l (omega arith)
-            ∙ rw (eq-eqb i j d) (tile-keeps s k i b (A i j .kept))
-            ∙ ap (λ (P : Parameters). turnsAfter n k P (A i j .kept)) (ruled-as b)
-            ∙ counted-as n k (diagonalParameters n i b) (A i j .kept);
+            ap (λ (x : Counts). x .turns) (kept-as k l e d)
+            ∙ ap (λ (P : Parameters). turnsAfter n k P (A i j .kept .turns)) (ruled-as b)
+            ∙ turns-as n k (diagonalParameters n i b) (A i j .kept .turns);
+        rounded-counted = λ k l e d.
+            let b = cond (eqb k 0) (A i j .cells) brought in
+            ap (λ (x : Counts). x .rounded) (kept-as k l e d)
+            ∙ ap (λ (exact : Bool). roundedAfter exact (A i j .kept .rounded)) (ruled-exact-first n i _)
+            ∙ rounded-as (diagonalExact n i b) (A i j .kept .rounded);
         else-keeps = λ f. still-kept (eqb i j) refl f;
       }
     where
@@ -139,7 +156,7 @@ module _ (n last K T : ℕ) (A : ℕ → ℕ → OneTile) (i j : ℕ) where
         parameters = parameters-ticked;
         wires = wires-ticked p q;
         mark = ticks.mark-set (operations s) last K T A i j ∙ ap (λ (b : Bool). A i j .mark || b) (tile-fails s (new .cells));
-        turns = turns-ticked;
+        counts = counts-ticked;
       }
 
 -- ---- the record
@@ -166,7 +183,7 @@ first-cell n l r c = go (eqb r 0 || eqb c 0)
 
 begun-started : (n : ℕ) (l : List Float) (i j : ℕ) → TileStarted n l i j (begun n l i j)
 unfolding blockAt inOrder inOrderAt slot tab cellOf startOf
-begun-started n l i j = record { cells = simp (first-cell n l); wires = refl; parameters = (refl, refl); mark = refl; turns = refl }
+begun-started n l i j = record { cells = simp (first-cell n l); wires = refl; parameters = (refl, refl); mark = refl; counts = (refl, refl) }
 
 start-made : (n sweeps : ℕ) (l : List Float) (s : Started) → Starts n sweeps l s → answered (s .answer) ≡ given tt → StartMade n sweeps l s
 start-made n sweeps l s p m =

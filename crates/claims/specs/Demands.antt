@@ -11,6 +11,7 @@ use Rattle.claims.specs.Tiles.{TilesAsPrinted}
 use Rattle.claims.specs.Listings.{ListingsAsStated}
 use Rattle.claims.specs.Histories.{OneHistory}
 use Rattle.claims.specs.QuietSweeps.{QuietSweepsAsStated}
+use Rattle.claims.specs.ExactRoots.{ExactRootsAsStated}
 use Rattle.claims.specs.Forecasts.{ForecastsAsStated}
 use Rattle.claims.specs.Examples.{All, examples}
 
@@ -25,5 +26,6 @@ pub record Demands : Type 0 where
   pub demand-2-listings : ListingsAsStated
   pub demand-3 : OneHistory
   pub quiet-sweeps : QuietSweepsAsStated
+  pub exact-roots : ExactRootsAsStated
   pub forecasts : ForecastsAsStated
   pub examples-hold : All examples

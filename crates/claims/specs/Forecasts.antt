@@ -25,7 +25,7 @@ use Rattle.array.specs.declared.Array.{Array}
 use Rattle.array.specs.declared.Started.{Started}
 use Rattle.array.specs.declared.Ticked.{Ticked}
 use Rattle.array.specs.Arrays.{tileAt, Ticks}
-use Rattle.array_run.specs.Results.{Duration}
+use Rattle.array_run.specs.Results.{WholeReport}
 use Rattle.array_run.specs.Whole.{wholeOf}
 use Rattle.array_agreement.specs.Hand.{ByHand, madeWhere}
 use Rattle.array_agreement.specs.Neighbours.{AgreeWhere}
@@ -131,7 +131,7 @@ RunsCounted n sweeps f =
 -- The most that a whole run can need: it reports no more ticks, and these if no sweep before the last is quiet.
 abbrev pub TicksOfWholeRun : ℕ → ℕ → Figures → Type 0
 TicksOfWholeRun n sweeps f =
-    (l r v : List Float) → Binary64 l → (reported : Duration) → wholeOf n sweeps l r v .answer ≡ given reported
+    (l r v : List Float) → Binary64 l → (reported : WholeReport) → wholeOf n sweeps l r v .answer ≡ given reported
     → (reported .ticks ≤ f .ticks)
     × (((m : ℕ) → 1 ≤ m → m < sweeps → quiet n m (startOf n l) ≡ false) → reported .ticks ≡ f .ticks)
 

@@ -1,5 +1,5 @@
--- Demand 3 (document 00; document 01, "The array", "Neighbourhood", "Runs by hand"; document 02 (ii) and (vi)), one
--- statement for each of its parts. Definitions only.
+-- Demand 3 (document 00; document 01, "The array", "Neighbourhood", "Runs by hand"; document 02 (ii), (vi) and (vii)),
+-- one statement for each of its parts. Definitions only.
 use Prim.Native.Nat.{ℕ, zero, suc, _+_, _-_, _*_, _/_, _%_, _^_, _≤_, _<_}
 use mathlib.Core.Path.{_≡_}
 use mathlib.Core.Bool.{true, false, not, cond}
@@ -15,16 +15,16 @@ use Rattle.sizes.specs.Sizes.{isOrder, processorsOf, sweepSteps, stepsOf, ticks
 use Rattle.ordering.specs.Pairs.{Lists, meetInList}
 use Rattle.matrix.specs.Matrix.{at, flat}
 use Rattle.runs.specs.State.{startOf}
-use Rattle.runs.specs.Outcome.{Outcome, outcome}
+use Rattle.runs.specs.Outcome.{Outcome, Report, outcome}
 use Rattle.plain_run.specs.State.{after, spoiled}
-use Rattle.plain_run.specs.Quiet.{sweepsMade, answeredRunOf}
+use Rattle.plain_run.specs.Quiet.{reportOf, answeredRunOf}
 use Rattle.tile_schedule.specs.Answers.{made, stopped}
 use Rattle.array.specs.declared.Array.{Array}
 use Rattle.array.specs.declared.Started.{Started}
 use Rattle.array.specs.declared.Ticked.{Ticked}
 use Rattle.array.specs.Arrays.{tileAt, Ticks}
 use Rattle.array.specs.Runs.{noArray}
-use Rattle.array_run.specs.Results.{Duration, lasting, matrixIn, vectorsIn, someMarked}
+use Rattle.array_run.specs.Results.{WholeReport, reporting, matrixIn, vectorsIn, someMarked}
 use Rattle.array_run.specs.Whole.{wholeOf}
 use Rattle.array_agreement.specs.Hand.{lastArray, ByHand, answersOf, counted}
 use Rattle.array_agreement.specs.Neighbours.{Agree}
@@ -34,17 +34,17 @@ abbrev pub Binary64 : List Float → Type 0
 Binary64 l = (k : ℕ) → T (fits binary64 (getD l k nan))
 
 -- ---- one call makes the run
--- What the plain run answers and leaves, and beside the sweeps that it made the ticks of so many.
-abbrev pub answerTimed : ℕ → Answered ℕ → Answered Duration
-answerTimed n (given sweeps) = given (lasting sweeps (ticksOf n sweeps))
+-- What the plain run answers and leaves, and beside what it reports the ticks of as many sweeps.
+abbrev pub answerTimed : ℕ → Answered Report → Answered WholeReport
+answerTimed n (given r) = given (reporting r (ticksOf n (r .sweeps)))
 answerTimed n (refused k values) = refused k values
 
-abbrev pub timed : ℕ → Outcome ℕ → Outcome Duration
+abbrev pub timed : ℕ → Outcome Report → Outcome WholeReport
 timed n o = outcome (answerTimed n (o .answer)) (o .result) (o .vectors)
 
 -- Lent alike, the whole run leaves in both results what the plain run leaves, refuses what it refuses by the same
--- number and place, 8 included, and where it is not refused reports the same sweeps, and 3 K + N ticks for them. This
--- is for every order, every number of sweeps and every matrix.
+-- number and place, 8 included, and where it is not refused reports the same sweeps and the same number of pairs with a
+-- rounded root, and 3 K + N ticks. This is for every order, every number of sweeps and every matrix.
 abbrev pub WholeRunIsThePlainRun : Type 0
 WholeRunIsThePlainRun =
     (n sweeps : ℕ) (l r v : List Float) → Binary64 l
@@ -54,8 +54,8 @@ WholeRunIsThePlainRun =
 abbrev pub TicksReported : Type 0
 TicksReported =
     (n sweeps : ℕ) (l r v : List Float) → Binary64 l
-    → (reported : Duration) → wholeOf n sweeps l r v .answer ≡ given reported
-    → reported .ticks ≡ ticksOf n (reported .sweeps)
+    → (reported : WholeReport) → wholeOf n sweeps l r v .answer ≡ given reported
+    → reported .ticks ≡ ticksOf n (reported .report .sweeps)
 
 -- Bit k of a value, from 0, and the number of bits in which two values differ, and the first m values of two lists.
 abbrev pub bitOf : ℕ → Float → ℕ
@@ -88,9 +88,9 @@ NoBitDiffers =
     → spoiled n (stepsOf n sweeps) (startOf n l) ≡ false
     → (differingIn (n * n) (wholeOf n sweeps l r′ v′ .result) (answeredRunOf n sweeps l r v .result) ≡ 0)
     × (differingIn (n * n) (wholeOf n sweeps l r′ v′ .vectors) (answeredRunOf n sweeps l r v .vectors) ≡ 0)
-    × (wholeOf n sweeps l r′ v′ .answer
-    ≡ given (lasting (sweepsMade n sweeps (startOf n l)) (ticksOf n (sweepsMade n sweeps (startOf n l)))))
-    × (answeredRunOf n sweeps l r v .answer ≡ given (sweepsMade n sweeps (startOf n l)))
+    × (let report = reportOf n sweeps (startOf n l) in
+    (wholeOf n sweeps l r′ v′ .answer ≡ given (reporting report (ticksOf n (report .sweeps))))
+    × (answeredRunOf n sweeps l r v .answer ≡ given report))
 
 -- ---- a start and then any list of ticks
 -- The ticks are listed with the last first. `lastArray` is the record that the last call gave, `answersOf` what the
@@ -129,11 +129,11 @@ EveryRunByHand =
 -- The same in bits: the matrices in the cells and the plain run's.
 abbrev pub NoBitDiffersByHand : Type 0
 NoBitDiffersByHand =
-    (n sweeps : ℕ) (l r v : List Float) (s : Started) (rs : List Ticked) (made : ℕ)
+    (n sweeps : ℕ) (l r v : List Float) (s : Started) (rs : List Ticked) (reported : Report)
     → Binary64 l
     → ByHand n sweeps l s rs
     → ticksOf n sweeps ≤ length rs
-    → answeredRunOf n sweeps l r v .answer ≡ given made
+    → answeredRunOf n sweeps l r v .answer ≡ given reported
     → (differingIn (n * n) (flat n (matrixIn n (lastArray s rs .tiles))) (answeredRunOf n sweeps l r v .result) ≡ 0)
     × (differingIn (n * n) (flat n (vectorsIn n (lastArray s rs .tiles))) (answeredRunOf n sweeps l r v .vectors) ≡ 0)
 

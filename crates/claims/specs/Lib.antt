@@ -8,6 +8,7 @@ pub mod PlainRuns
 pub mod Tiles
 pub mod Histories
 pub mod QuietSweeps
+pub mod ExactRoots
 pub mod Forecasts
 pub mod Listings
 pub mod Examples

@@ -10,7 +10,7 @@ use Rattle.refusal.specs.Answers.{given, refused, giving, table}
 use Rattle.matrix.specs.Matrix.{at, flat}
 use Rattle.runs.specs.State.{zeros}
 use Rattle.runs.specs.Outcome.{Outcome}
-use Rattle.array_run.specs.Results.{Duration}
+use Rattle.array_run.specs.Results.{WholeReport}
 use Rattle.array_run.specs.Whole.{wholeOf}
 use Rattle.sheet.specs.Format.{orderIn, sweepsIn, codesIn, entryIn}
 use Rattle.sheet_reader.specs.Reader.{sheetAnswer}
@@ -20,7 +20,7 @@ use Rattle.listing.specs.Listing.{ListingOutcome, listOf}
 use Rattle.claims.specs.Refusals.{when}
 
 -- The array's run on what the sheet b holds; its results hold zeros before it.
-abbrev pub runIn : List ℕ → Outcome Duration
+abbrev pub runIn : List ℕ → Outcome WholeReport
 runIn b = wholeOf (orderIn b) (sweepsIn b) (flat (orderIn b) (entryIn b)) (zeros (orderIn b)) (zeros (orderIn b))
 
 -- Refusals of the sheet come first, then 7 for a text that may be too short, then those of the run.
@@ -69,7 +69,7 @@ listedAs s t = record { answer = given tt; count = length s; bytes = s ++ drop (
 -- The print of an accepted sheet whose run is not refused, and after it the rest of the lent text.
 abbrev pub ListingPrints : Type 0
 ListingPrints =
-    (b t : List ℕ) (reported : Duration)
+    (b t : List ℕ) (reported : WholeReport)
     → sheetAnswer b ≡ given tt
     → runIn b .answer ≡ given reported
     → roomFor (orderIn b) ≤ length t

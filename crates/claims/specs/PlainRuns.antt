@@ -1,7 +1,7 @@
--- Document 01, "Plain run" and the call for a whole step, and document 02 (ii) and (vi). Definitions only.
+-- Document 01, "Plain run" and the call for a whole step, and document 02 (ii), (vi) and (vii). Definitions only.
 use Prim.Native.Nat.{ℕ, zero, suc, _-_, _≤_}
 use mathlib.Core.Path.{_≡_}
-use mathlib.Core.Bool.{true, false, cond, _&&_}
+use mathlib.Core.Bool.{Bool, true, false, cond, _&&_}
 use mathlib.Core.List.{List}
 use mathlib.Core.Logic.{_⊎_}
 use lib.Dec.{eqb}
@@ -15,8 +15,9 @@ use Rattle.ordering.specs.declared.PairList.{PairList}
 use Rattle.sizes.specs.Sizes.{isOrder, processorsOf, firstLine, stepsOf}
 use Rattle.ordering.specs.Pairs.{Lists}
 use Rattle.matrix.specs.Matrix.{at}
-use Rattle.matrix_turns.specs.Turns.{parametersOf}
+use Rattle.matrix_turns.specs.Turns.{parametersOf, exactOf}
 use Rattle.runs.specs.State.{State, startOf}
+use Rattle.runs.specs.Outcome.{Report}
 use Rattle.plain_pair.specs.Pair.{pairRotated}
 use Rattle.plain_run.specs.State.{after, spoiled}
 use Rattle.plain_run.specs.Quiet.{answeredRunOf}
@@ -52,7 +53,7 @@ PlainSteps = (n : ℕ) → isOrder n ≡ true → (list : ℕ → PairList) → 
 -- lines 1 to n of them.
 abbrev pub RunLeavesLastStep : Type 0
 RunLeavesLastStep =
-    (n sweeps : ℕ) (l r v : List Float) (made : ℕ) → answeredRunOf n sweeps l r v .answer ≡ given made
+    (n sweeps : ℕ) (l r v : List Float) (reported : Report) → answeredRunOf n sweeps l r v .answer ≡ given reported
     → (i j : ℕ) → InSquare n i j
     → (at n (answeredRunOf n sweeps l r v .result) i j ≡ after n (stepsOf n sweeps) (startOf n l) .matrix i j)
     × (at n (answeredRunOf n sweeps l r v .vectors) i j ≡ after n (stepsOf n sweeps) (startOf n l) .vectors i j)
@@ -81,20 +82,22 @@ pub record SpoiledMeans : Type 0 where
       → NotFiniteIn 1 n (after n step (startOf n l))
 
 -- ---- the records of a step
--- Still is recorded as +0, 1, +0.
-abbrev pub recorded : Parameters → Record
-recorded Still = record { t = plusZero; c = one; s = plusZero }
-recorded (Turn t c s) = record { t = t; c = c; s = s }
+-- Still is recorded as +0, 1, +0. A record says besides whether both roots of the pair were exact.
+abbrev pub recorded : Parameters → Bool → Record
+recorded Still exact = record { t = plusZero; c = one; s = plusZero; exact = exact }
+recorded (Turn t c s) exact = record { t = t; c = c; s = s; exact = exact }
 
--- Record k is processor k's, found from the matrix as lent, and record 1 of an odd order is still. other is what stands
--- where there is no record.
+-- Record k is processor k's, found from the matrix as lent, and record 1 of an odd order is still and exact. other is
+-- what stands where there is no record.
 abbrev pub RecordsFound : Type 0
 RecordsFound =
     (n : ℕ) (l : List Float) (step : ℕ) (ys : List Record) (other : Record) (list : PairList)
     → recordsOf n l step ys .answer ≡ given tt → Lists n step list → (k : ℕ) → 1 ≤ k → k ≤ processorsOf n
     → (let found = getD (recordsOf n l step ys .row) (k - 1) other in
-    (¬ FirstOfOdd n k → found ≡ recorded (parametersOf (leftRegister list k) (rightRegister list k) (at n l)))
-    × (FirstOfOdd n k → found ≡ recorded Still))
+    let p = leftRegister list k in
+    let q = rightRegister list k in
+    (¬ FirstOfOdd n k → found ≡ recorded (parametersOf p q (at n l)) (exactOf p q (at n l)))
+    × (FirstOfOdd n k → found ≡ recorded Still true))
 
 pub record PlainRunsAsStated : Type 0 where
   pub plain-steps : PlainSteps

@@ -11,7 +11,7 @@ use lib.ListN.{length}
 use lib.Ieee.{Float}
 use Rattle.float64.specs.Values.{plusZero}
 use Rattle.refusal.specs.Answers.{given, answered}
-use Rattle.lists.specs.Bounded.{count}
+use Rattle.lists.specs.Bounded.{count, total}
 use Rattle.rotation.specs.declared.Parameters.{Parameters}
 use Rattle.rotation.specs.declared.Parameters.the-variants.{Still}
 use Rattle.ordering.specs.declared.PairList.{PairList}
@@ -20,6 +20,7 @@ use Rattle.sizes.specs.Sizes.{isOrder, processorsOf, sweepSteps, firstLine, ste
 use Rattle.matrix.specs.Matrix.{flat}
 use Rattle.matrix_turns.specs.Turns.{parametersOf}
 use Rattle.runs.specs.State.{State, startOf}
+use Rattle.runs.specs.Outcome.{Report}
 use Rattle.plain_run.specs.State.{after}
 use Rattle.plain_run.specs.Quiet.{quiet, answeredRunOf}
 use Rattle.tile_schedule.specs.Answers.{made, stopped, progressAnswered, progressOf}
@@ -27,7 +28,7 @@ use Rattle.array.specs.declared.Array.{Array}
 use Rattle.array.specs.declared.Started.{Started}
 use Rattle.array.specs.declared.Ticked.{Ticked}
 use Rattle.array.specs.Arrays.{Ticks}
-use Rattle.array_run.specs.Results.{Duration, matrixIn, vectorsIn}
+use Rattle.array_run.specs.Results.{WholeReport, matrixIn, vectorsIn}
 use Rattle.array_run.specs.Advance.{withSweeps, advanced, advancedBy}
 use Rattle.array_run.specs.Whole.{wholeOf}
 use Rattle.array_agreement.specs.Hand.{lastArray, ByHand}
@@ -63,14 +64,14 @@ pub data FirstQuiet (n S : ℕ) (X : State) (made : ℕ) : Type 0 where
 
 abbrev pub SweepsAnswered : Type 0
 SweepsAnswered =
-    (n sweeps : ℕ) (l r v : List Float) (reported : ℕ) → answeredRunOf n sweeps l r v .answer ≡ given reported
-    → FirstQuiet n sweeps (startOf n l) reported
+    (n sweeps : ℕ) (l r v : List Float) (reported : Report) → answeredRunOf n sweeps l r v .answer ≡ given reported
+    → FirstQuiet n sweeps (startOf n l) (reported .sweeps)
 
 -- A run of as many sweeps as it made leaves the same: the matrix and the eigenvectors of all S sweeps, bit for bit.
 abbrev pub SameAsAllSweeps : Type 0
 SameAsAllSweeps =
-    (n sweeps : ℕ) (l r v : List Float) (reported : ℕ) → answeredRunOf n sweeps l r v .answer ≡ given reported
-    → answeredRunOf n reported l r v ≡ answeredRunOf n sweeps l r v
+    (n sweeps : ℕ) (l r v : List Float) (reported : Report) → answeredRunOf n sweeps l r v .answer ≡ given reported
+    → answeredRunOf n (reported .sweeps) l r v ≡ answeredRunOf n sweeps l r v
 
 -- After a quiet sweep every entry off the diagonal is +0, line 0 of an odd order too, and no later step changes a bit,
 -- whatever the entries are.
@@ -93,7 +94,7 @@ TilesCountTurns =
     → (j s i : ℕ) → i < processorsOf n → s < sweepSteps n
     → (let z = suc (j * sweepSteps n + s) in
     z ≤ stepsOf n sweeps → 3 * z < length rs + 3 → (z < stepsOf n sweeps → length rs ≤ 3 * z)
-    → tileIn (lastArray t rs) i i .kept
+    → tileIn (lastArray t rs) i i .kept .turns
     ≡ count (λ k. (let step = j * sweepSteps n + k in
     isTurned (atItsTurn n (list step) (i + 1) (after n step (startOf n l))))) (suc s))
 
@@ -103,10 +104,10 @@ TilesCountTurns =
 pub record AdvanceIs (x : Array) (r : Ticked) : Type 0 where
   pub lowers : progressAnswered (r .answer) ≡ given made
       → (m : ℕ) → 1 ≤ m → m ≤ x .sweeps → x .tick + 3 ≡ 3 * (m * sweepSteps (x .n))
-      → ((i : ℕ) → i < processorsOf (x .n) → tileIn (r .array) i i .kept ≡ 0)
+      → ((i : ℕ) → i < processorsOf (x .n) → tileIn (r .array) i i .kept .turns ≡ 0)
       → advanced x ≡ withSweeps m (r .array)
   pub not-after-a-turn : progressAnswered (r .answer) ≡ given made
-      → (i : ℕ) → i < processorsOf (x .n) → ¬ (tileIn (r .array) i i .kept ≡ 0)
+      → (i : ℕ) → i < processorsOf (x .n) → ¬ (tileIn (r .array) i i .kept .turns ≡ 0)
       → advanced x ≡ r .array
   pub not-at-another-tick : progressAnswered (r .answer) ≡ given made
       → ((m : ℕ) → 1 ≤ m → m ≤ x .sweeps → ¬ (x .tick + 3 ≡ 3 * (m * sweepSteps (x .n))))
@@ -114,17 +115,19 @@ pub record AdvanceIs (x : Array) (r : Ticked) : Type 0 where
   pub not-made : ¬ (progressAnswered (r .answer) ≡ given made) → advanced x ≡ x
 
 -- The whole run is a start and then such ticks, until the array has stopped; it reports the S and the number of ticks
--- of the record at the end, and leaves its cells. `advancedBy k` makes k of them.
-pub record AtTheEnd (n : ℕ) (x : Array) (reported : Duration) (result vectors : List Float) : Type 0 where
+-- of the record at the end and the sum of the rounded pairs that the tiles on the diagonal count, and leaves its cells.
+-- `advancedBy k` makes k of them.
+pub record AtTheEnd (n : ℕ) (x : Array) (reported : WholeReport) (result vectors : List Float) : Type 0 where
   pub has-stopped : progressOf (x .n) (x .sweeps) (x .tick) ≡ given stopped
-  pub sweeps-made : reported .sweeps ≡ x .sweeps
+  pub sweeps-made : reported .report .sweeps ≡ x .sweeps
+  pub rounded-counted : reported .report .rounded ≡ total (processorsOf n) (λ i. tileIn x i i .kept .rounded)
   pub ticks-made : reported .ticks ≡ x .tick
   pub result-is : result ≡ flat n (matrixIn n (x .tiles))
   pub vectors-are : vectors ≡ flat n (vectorsIn n (x .tiles))
 
 abbrev pub WholeRunAdvances : Type 0
 WholeRunAdvances =
-    (n sweeps : ℕ) (l r v : List Float) (s : Started) (rs : List Ticked) (reported : Duration)
+    (n sweeps : ℕ) (l r v : List Float) (s : Started) (rs : List Ticked) (reported : WholeReport)
     → Binary64 l → ByHand n sweeps l s rs → wholeOf n sweeps l r v .answer ≡ given reported
     → AtTheEnd n (advancedBy (ticksOf n sweeps) (s .array)) reported (wholeOf n sweeps l r v .result)
     (wholeOf n sweeps l r v .vectors)

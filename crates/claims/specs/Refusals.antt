@@ -13,7 +13,7 @@ use Rattle.float64.specs.Values.{plusZero, finite, sameBits}
 use Rattle.refusal.specs.declared.Refusal.the-variants.{Order, Sweeps, Length, Code, NotFinite, NotMirrored}
 use Rattle.refusal.specs.declared.Refusal.the-variants.{TooShort, Spoiled, NoRoot}
 use Rattle.refusal.specs.Answers.{Answered, given, refused, refusedBy, answered, giving, table}
-use Rattle.root.specs.Sqrt.{sqrtOf}
+use Rattle.root.specs.Exact.{sqrtAnswer}
 use Rattle.sizes.specs.Sizes.{isOrder, processorsOf, stepsOf, ticksOf}
 use Rattle.ordering.specs.declared.PairList.{PairList}
 use Rattle.ordering.specs.Pairs.{noRegisters, Lists}
@@ -22,7 +22,7 @@ use Rattle.matrix.specs.Entries.{finiteRow, mirrorRow}
 use Rattle.runs.specs.State.{startOf, zeros}
 use Rattle.runs.specs.Outcome.{Outcome}
 use Rattle.plain_run.specs.State.{spoiled}
-use Rattle.plain_run.specs.Quiet.{sweepsMade, answeredRunOf}
+use Rattle.plain_run.specs.Quiet.{reportOf, answeredRunOf}
 use Rattle.step_records.specs.declared.Record.{Record}
 use Rattle.step_records.specs.Records.{recordsOf}
 use Rattle.array.specs.declared.Array.{Array}
@@ -31,7 +31,7 @@ use Rattle.array.specs.declared.Ticked.{Ticked}
 use Rattle.array.specs.Arrays.{Ticks}
 use Rattle.tile_schedule.specs.Answers.{made, stopped, progressAnswered}
 use Rattle.array.specs.Runs.{noArray, Starts}
-use Rattle.array_run.specs.Results.{lasting}
+use Rattle.array_run.specs.Results.{reporting}
 use Rattle.array_run.specs.Whole.{wholeOf}
 use Rattle.sheet.specs.Format.{sheetLength, widthIn, orderIn, sweepsIn, codesIn, patternIn}
 use Rattle.sheet.specs.Codes.{badCodes, longCodes, widthFor}
@@ -96,11 +96,12 @@ pub record EntriesAreTested : Type 0 where
       → Tested (InTriangle (orderIn b)) (λ r c. finite (ofBits binary64 (patternIn b r c))) 5 (storedRow b)
 
 -- ---- square root
--- Refused by 9: not a number, or below zero. Every other value has a root.
+-- Refused by 9: not a number, or below zero. Every other value has a root, and a flag that says whether it is exact. A
+-- refused root says nothing of exactness.
 pub record RootAnswers : Type 0 where
-  pub not-a-number : sqrtOf nan ≡ refused 9 []
-  pub below-zero : (x : Float) → lt x plusZero ≡ true → sqrtOf x ≡ refused 9 []
-  pub others : (x : Float) → eq x x ≡ true → lt x plusZero ≡ false → (r : Float) × (sqrtOf x ≡ given r)
+  pub not-a-number : sqrtAnswer nan ≡ refused 9 []
+  pub below-zero : (x : Float) → lt x plusZero ≡ true → sqrtAnswer x ≡ refused 9 []
+  pub others : (x : Float) → eq x x ≡ true → lt x plusZero ≡ false → (r : Float × Bool) × (sqrtAnswer x ≡ given r)
 
 -- ---- list of pairs
 abbrev pub PairsAnswer : Type 0
@@ -126,14 +127,15 @@ abbrev pub PlainRunAnswers : Type 0
 PlainRunAnswers =
     (n sweeps : ℕ) (l r v : List Float)
     → answeredRunOf n sweeps l r v .answer
-    ≡ giving (sweepsMade n sweeps (startOf n l)) (runTable n sweeps l (length r) (length v))
+    ≡ giving (reportOf n sweeps (startOf n l)) (runTable n sweeps l (length r) (length v))
 
--- The array's run is refused as the plain run is, by 8 too. A refusal carries neither sweeps nor ticks.
+-- The array's run is refused as the plain run is, by 8 too. A refusal carries neither sweeps, ticks nor rounded pairs.
 abbrev pub WholeRunAnswers : Type 0
 WholeRunAnswers =
     (n sweeps : ℕ) (l r v : List Float) → Binary64 l
-    → (let made = sweepsMade n sweeps (startOf n l) in
-    wholeOf n sweeps l r v .answer ≡ giving (lasting made (ticksOf n made)) (runTable n sweeps l (length r) (length v)))
+    → (let report = reportOf n sweeps (startOf n l) in
+    wholeOf n sweeps l r v .answer
+    ≡ giving (reporting report (ticksOf n (report .sweeps))) (runTable n sweeps l (length r) (length v)))
 
 -- A refused run leaves both results as they were, but 8 fills them with +0.
 pub record LeavesResults {A : Type 0} (n : ℕ) (o : Outcome A) (r v : List Float) : Type 0 where

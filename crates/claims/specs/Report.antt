@@ -1,5 +1,5 @@
 -- Demand 2 on numbers (document 00; document 01, "Square root", "One rotation", "Pairs and their movement"; document 02
--- (ii), (iv) and (v)). Definitions only.
+-- (ii), (iv), (v) and (vii)). Definitions only.
 use Prim.Native.Nat.{ℕ, suc, _+_, _-_, _*_, _%_, _^_, _≤_, _<_}
 use mathlib.Core.Path.{_≡_}
 use mathlib.Core.Bool.{true, false, cond}
@@ -9,7 +9,7 @@ use lib.Ieee.{Float, nan, inf, binary64, fits, neg, add, sub, mul, div, lt, ofBi
 use Rattle.float64.specs.Values.{plusZero, one, two, finite, isZero, magnitude}
 use Rattle.float64.specs.Units.{unitsOf}
 use Rattle.refusal.specs.Answers.{given}
-use Rattle.root.specs.Sqrt.{sqrtOf}
+use Rattle.root.specs.Exact.{exactRoot, sqrtAnswer}
 use Rattle.rotation.specs.declared.Parameters.{Parameters}
 use Rattle.rotation.specs.declared.Parameters.the-variants.{Still, Turn}
 use Rattle.rotation.specs.Rotation.{rootOf, signum, ofPair}
@@ -24,8 +24,9 @@ use Rattle.ordering.specs.Pairs.{standsIn, Lists}
 abbrev pub minusZero : Float
 minusZero = ofBits binary64 0x8000_0000_0000_0000
 
+-- A root is answered beside a flag that says whether it is exact.
 abbrev pub GivesItself : Float → Type 0
-GivesItself x = sqrtOf x ≡ given x
+GivesItself x = sqrtAnswer x ≡ given (x, true)
 
 -- Counted in units of 2 ^ -1074 the exact root of x is the root of the whole number unitsOf x * 2 ^ 1074. Whatever
 -- other f64 y is taken, the middle of r and y lies beyond that root, on the side of y: so r is nearer to it, and there
@@ -36,15 +37,16 @@ Nearest x r =
     → (unitsOf r < unitsOf y → 4 * (unitsOf x * 2 ^ 1074) < (unitsOf r + unitsOf y) * (unitsOf r + unitsOf y))
     × (unitsOf y < unitsOf r → (unitsOf r + unitsOf y) * (unitsOf r + unitsOf y) < 4 * (unitsOf x * 2 ^ 1074))
 
--- r is the answer for x: a finite f64 that is not negative, nearest to the exact root.
+-- r is the answer for x: a finite f64 that is not negative, nearest to the exact root. What the flag beside it says is
+-- on the page `ExactRoots`.
 pub record CorrectlyRounded (x r : Float) : Type 0 where
-  pub answer : sqrtOf x ≡ given r
+  pub answer : sqrtAnswer x ≡ given (r, exactRoot x)
   pub is-finite : T (finite r)
   pub not-negative : lt r plusZero ≡ false
   pub of-binary64 : T (fits binary64 r)
   pub nearest : Nearest x r
 
--- The zeros and +infinity give themselves; every other f64 that has a root gives the correctly rounded one.
+-- The zeros and +infinity give themselves, exactly; every other f64 that has a root gives the correctly rounded one.
 pub record RootRoundsCorrectly : Type 0 where
   pub plus-zero : GivesItself plusZero
   pub minus-zero : GivesItself minusZero

@@ -1,6 +1,6 @@
--- Document 01, "The array", and document 02 (ii) and (vi): what a start and a tick that is made leave in each tile of
--- the record, whatever it held. Tiles are counted from 0 here, so document 01's P_ij stands in row i - 1 and column
--- j - 1. Definitions only.
+-- Document 01, "The array", and document 02 (ii), (vi) and (vii): what a start and a tick that is made leave in each
+-- tile of the record, whatever it held. Tiles are counted from 0 here, so document 01's P_ij stands in row i - 1 and
+-- column j - 1. Definitions only.
 use Prim.Native.Nat.{ℕ, _+_, _-_, _*_, _%_, _≤_, _<_}
 use mathlib.Core.Path.{_≡_}
 use mathlib.Core.Bool.{Bool, true, false, not, cond, _||_, _&&_}
@@ -18,8 +18,10 @@ use Rattle.sizes.specs.Sizes.{processorsOf, sweepSteps, firstLine, stepsOf}
 use Rattle.rotation.specs.declared.Parameters.{Parameters}
 use Rattle.rotation.specs.declared.Parameters.the-variants.{Still, Turn}
 use Rattle.rotation.specs.Rotation.{ofPair, ofTangent, turnOf, sent}
+use Rattle.rotation.specs.Exact.{exactPair}
 use Rattle.matrix.specs.Matrix.{at}
 use Rattle.runs.specs.State.{identity}
+use Rattle.runs.specs.declared.Counts.{Counts}
 use Rattle.runs.specs.Cells.{Cell, cell, blockTurned}
 use Rattle.tile_schedule.specs.Answers.{made, progressAnswered}
 use Rattle.array.specs.declared.Array.{Array}
@@ -29,10 +31,10 @@ use Rattle.array.specs.Arrays.{theArray, Ticks}
 use Rattle.array.specs.Runs.{Starts}
 
 -- A tile of a record: four cells and four outgoing wires by its corners α β / γ δ, each an entry of the matrix and one
--- of the eigenvectors; the wires along its row and along its column, which carry tangents; its mark; and the count that
--- it has kept.
+-- of the eigenvectors; the wires along its row and along its column, which carry tangents; its mark; and the two counts
+-- that it has kept, of turns and of rounded pairs.
 abbrev pub OneTile : Type 0
-OneTile = Tile Cell Float Float ℕ
+OneTile = Tile Cell Float Float Counts
 
 abbrev pub tileIn : Array → ℕ → ℕ → OneTile
 tileIn x = theArray (x .tiles)
@@ -43,6 +45,10 @@ tileIn x = theArray (x .tiles)
 abbrev pub diagonalParameters : ℕ → ℕ → Block Cell → Parameters
 diagonalParameters n i b =
     cond (eqb (n % 2) 1 && eqb i 0) Still (ofPair (b .α .entry) (b .δ .entry) (b .β .entry))
+
+-- Whether its pair counts as exact; the page `ExactRoots` has what `exactPair` means.
+abbrev pub diagonalExact : ℕ → ℕ → Block Cell → Bool
+diagonalExact n i b = (eqb (n % 2) 1 && eqb i 0) || exactPair (b .α .entry) (b .δ .entry) (b .β .entry)
 
 -- The tangent that it sends, +0 when still, and its cells; β and γ become +0, still or not.
 abbrev pub tangentSent : ℕ → ℕ → Block Cell → Float
@@ -127,20 +133,23 @@ cellNotFinite x = not (finite (x .entry)) || not (finite (x .vector))
 abbrev pub someCellNotFinite : Block Cell → Bool
 someCellNotFinite b = cellNotFinite (b .α) || cellNotFinite (b .β) || cellNotFinite (b .γ) || cellNotFinite (b .δ)
 
--- A tile on the diagonal counts its turns in the current sweep: the rotation of a sweep's first step sets the count
--- anew, and at 65,535 it stays. Any other tile keeps its count.
+-- A tile on the diagonal counts its turns in the current sweep and its pairs with a rounded root: the rotation of a
+-- sweep's first step sets the first count anew, and at 65,535 either stays. Any other tile keeps its counts.
 abbrev pub isTurned : Parameters → Bool
 isTurned Still = false
 isTurned (Turn t c s) = true
 
-abbrev pub countedOn : Parameters → ℕ → ℕ
-countedOn P d = cond (isTurned P && ltb d 65535) (d + 1) d
+abbrev pub countedOn : Bool → ℕ → ℕ
+countedOn more d = cond (more && ltb d 65535) (d + 1) d
 
-pub record TurnsTicked (n K T i j : ℕ) (old new : OneTile) (brought : Block Cell) : Type 0 where
-  pub counts : (k : ℕ) → k < K → T ≡ 3 * k → i ≡ j
-      → new .kept
-      ≡ countedOn (diagonalParameters n i (cond (eqb k 0) (old .cells) brought))
-      (cond (eqb (k % sweepSteps n) 0) 0 (old .kept))
+pub record CountsTicked (n K T i j : ℕ) (old new : OneTile) (brought : Block Cell) : Type 0 where
+  pub turns-counted : (k : ℕ) → k < K → T ≡ 3 * k → i ≡ j
+      → new .kept .turns
+      ≡ countedOn (isTurned (diagonalParameters n i (cond (eqb k 0) (old .cells) brought)))
+      (cond (eqb (k % sweepSteps n) 0) 0 (old .kept .turns))
+  pub rounded-counted : (k : ℕ) → k < K → T ≡ 3 * k → i ≡ j
+      → new .kept .rounded
+      ≡ countedOn (not (diagonalExact n i (cond (eqb k 0) (old .cells) brought))) (old .kept .rounded)
   pub else-keeps : (i ≡ j → (k : ℕ) → k < K → ¬ (T ≡ 3 * k)) → new .kept ≡ old .kept
 
 -- A tile is marked, for good, once one of its cells isn't finite at the end of a tick.
@@ -149,7 +158,7 @@ pub record TileTicked (n last K T i j : ℕ) (old new : OneTile) (brought : Bloc
   pub parameters : ParametersTicked n K T i j old new brought h v
   pub wires : WiresTicked last K T i j old new
   pub mark : new .mark ≡ (old .mark || someCellNotFinite (new .cells))
-  pub turns : TurnsTicked n K T i j old new brought
+  pub counts : CountsTicked n K T i j old new brought
 
 -- ---- the record
 -- All tiles read before any writes: what is brought comes from the record before the tick, along a row or column from
@@ -174,7 +183,7 @@ WiresLead = (x : Array) (r s : Side) (i j : ℕ) → i < processorsOf (x .n) →
     corner (to .down) (to .across) (incoming last (tileIn x) (to .row) (to .column)) ≡ corner r s (tileIn x i j .wires))
 
 -- Tile P_ij begins with the part of the matrix at row registers i and column registers j and a like part of the
--- identity, line 0 at +0 throughout both, all wires at +0, not marked, no turn counted. b is the first line.
+-- identity, line 0 at +0 throughout both, all wires at +0, not marked, nothing counted. b is the first line.
 abbrev pub cornersAt : ℕ → (ℕ → ℕ → Cell) → ℕ → ℕ → Block Cell
 cornersAt b f i j =
     record {
@@ -192,7 +201,7 @@ pub record TileStarted (n : ℕ) (l : List Float) (i j : ℕ) (new : OneTile) : 
   pub wires : new .wires ≡ cornersAt (firstLine n) (λ r c. cell plusZero plusZero) i j
   pub parameters : (new .rowWire ≡ plusZero) × (new .columnWire ≡ plusZero)
   pub mark : new .mark ≡ false
-  pub turns : new .kept ≡ 0
+  pub counts : (new .kept .turns ≡ 0) × (new .kept .rounded ≡ 0)
 
 pub record StartMade (n sweeps : ℕ) (l : List Float) (s : Started) : Type 0 where
   pub order : s .array .n ≡ n

@@ -20,8 +20,8 @@ use Rattle.runs.specs.Outcome.{Outcome, outcome, resultsKept, beforeRun}
 use Rattle.runs.specs.State.{zeros}
 use Rattle.array_run.specs.declared.Completion.{Completion}
 use Rattle.array_run.specs.declared.Completion.the-variants as completion
-use Rattle.array_run.specs.Results.{Duration, lasting}
-use Rattle.array_run.specs.Whole.{completionAnswered, wholeOf}
+use Rattle.array_run.specs.Results.{WholeReport}
+use Rattle.array_run.specs.Whole.{completionAnswered, ticksAnswered, wholeOf}
 use Rattle.sheet.specs.Format.{orderIn, sweepsIn, codesIn, entryIn}
 use Rattle.sheet_reader.specs.declared.Reading.{Reading}
 use Rattle.sheet_reader.specs.declared.Reading.the-variants as reading
@@ -50,17 +50,17 @@ module _ (b : List ℕ) where
   order-there e z = e ∙ sym (not-too-large refl (order-is (orderIn b) z .1))
 
 -- ---- the run
-module _ (n sweeps : ℕ) (codes t : List ℕ) (o : Outcome Duration) where
+module _ (n sweeps : ℕ) (codes t : List ℕ) (o : Outcome WholeReport) where
   pub no-room : {a : Answered Unit} {k : ℕ} → length t < roomFor n → a ≡ refusedBy TooShort → k ≡ 0
       → listed a (printing k t) ≡ listedUnless (given tt) n sweeps codes o t
   unfolding listedUnless
   no-room h e z = rw (lt-ltb _ _ h, e, z)
 
   module _ (room : roomFor n ≤ length t) (x : Completion) {l e : List Float} where
-    pub run-printed : (made ticks : ℕ) {p : Printing} → x ≡ completion.Completed made ticks → outcome (completionAnswered x) l e ≡ o
+    pub run-printed : (made ticks rounded : ℕ) {p : Printing} → x ≡ completion.Completed made ticks rounded → outcome (completionAnswered x) l e ≡ o
         → p ≡ printOf n sweeps ticks codes l e t → listed (given tt) p ≡ listedUnless (given tt) n sweeps codes o t
     unfolding listedUnless
-    run-printed made ticks z h k = rw (le-ltb _ _ room, k, ← h, z)
+    run-printed made ticks rounded z h k = rw (le-ltb _ _ room, k, ← h, z)
 
     pub run-not-printed : (r : Refusal) {a : Answered Unit} {k : ℕ} → x ≡ completion.Refused r → outcome (completionAnswered x) l e ≡ o
         → a ≡ refusedBy r → k ≡ 0 → listed a (printing k t) ≡ listedUnless (given tt) n sweeps codes o t
@@ -75,7 +75,7 @@ unseen-if-refused (refused j w) k values p q left = refl
 
 -- what the results hold before a run is not seen after it
 module _ (n sweeps : ℕ) (codes t : List ℕ) (l : List Float) where
-  unseen : (r v r′ v′ : List Float) (a : Answered Unit) (o : Outcome Duration)
+  unseen : (r v r′ v′ : List Float) (a : Answered Unit) (o : Outcome WholeReport)
       → listedUnless (given tt) n sweeps codes (unlessRefused a o (resultsKept r v)) t
       ≡ listedUnless (given tt) n sweeps codes (unlessRefused a o (resultsKept r′ v′)) t
   unfolding listedUnless
@@ -167,12 +167,12 @@ either-within : (a : Answered Unit) (p : Printing) (t : List ℕ) → Within p
 either-within (given x) p t h = h
 either-within (refused k values) p t h = omega arith
 
-unless-within : (a : Answered Unit) (n sweeps : ℕ) (codes : List ℕ) (o : Outcome Duration) (t : List ℕ)
+unless-within : (a : Answered Unit) (n sweeps : ℕ) (codes : List ℕ) (o : Outcome WholeReport) (t : List ℕ)
     → let y = listedUnless a n sweeps codes o t in y .count ≤ length (y .bytes)
 unfolding listedUnless
 unless-within a n sweeps codes o t =
     either-within (table (a ∷ row (ltb (length t) (roomFor n)) TooShort ∷ giving tt (o .answer) ∷ []))
-    (printOf n sweeps (valueOr (o .answer) (lasting 0 0) .ticks) codes (o .result) (o .vectors) t) t (print-within _ _ _ _ _ _ _)
+    (printOf n sweeps (ticksAnswered (o .answer)) codes (o .result) (o .vectors) t) t (print-within _ _ _ _ _ _ _)
 
 pub listing-within : (b t : List ℕ) → let o = listOf b t in o .count ≤ length (o .bytes)
 unfolding listOf

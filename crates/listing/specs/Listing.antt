@@ -3,13 +3,13 @@ use Prim.Native.Nat.{ℕ}
 use mathlib.Core.List.{List, [], _∷_}
 use lib.Dec.{ltb}
 use lib.ListN.{length}
-use Rattle.refusal.specs.Answers.{Answered, given, giving, valueOr, unlessRefused, row, table}
+use Rattle.refusal.specs.Answers.{Answered, given, giving, unlessRefused, row, table}
 use Rattle.refusal.specs.declared.Refusal.the-variants.{TooShort}
 use Rattle.matrix.specs.Matrix.{flat}
 use Rattle.runs.specs.Outcome.{Outcome}
 use Rattle.runs.specs.State.{zeros}
-use Rattle.array_run.specs.Results.{Duration, lasting}
-use Rattle.array_run.specs.Whole.{wholeOf}
+use Rattle.array_run.specs.Results.{WholeReport}
+use Rattle.array_run.specs.Whole.{ticksAnswered, wholeOf}
 use Rattle.sheet.specs.Format.{orderIn, sweepsIn, codesIn, entryIn}
 use Rattle.sheet_reader.specs.Reader.{sheetAnswer}
 use Rattle.listing_text.specs.Printed.{Printing, printing, printOf, roomFor}
@@ -25,10 +25,10 @@ listed a p = record { answer = a; count = p .count; bytes = p .bytes }
 
 -- A sheet whose own refusals answer a, and whose run has the outcome o, printed into the lent bytes t: the sweeps that it asks for, the ticks that
 -- were made. After its refusals come refusal 7 and those of the run. A refusal of any number prints nothing and leaves the bytes.
-unfoldable pub listedUnless : Answered Unit → ℕ → ℕ → List ℕ → Outcome Duration → List ℕ → ListingOutcome
+unfoldable pub listedUnless : Answered Unit → ℕ → ℕ → List ℕ → Outcome WholeReport → List ℕ → ListingOutcome
 listedUnless a n sweeps codes o t =
     unlessRefused (table (a ∷ row (ltb (length t) (roomFor n)) TooShort ∷ giving tt (o .answer) ∷ []))
-    (listed (given tt) (printOf n sweeps (valueOr (o .answer) (lasting 0 0) .ticks) codes (o .result) (o .vectors) t))
+    (listed (given tt) (printOf n sweeps (ticksAnswered (o .answer)) codes (o .result) (o .vectors) t))
     (λ (x : Answered Unit). listed x (printing 0 t))
 
 -- The listing of the sheet b in the lent bytes t. The results of the run hold zeros before it.

@@ -95,7 +95,7 @@ fn run(
         return refuse(Refusal::TooShort);
     }
     match array_run::run(n, sweeps, matrix, result, vectors) {
-        Completion::Completed(_, ticks) => Listing {
+        Completion::Completed(_, ticks, _) => Listing {
             answer: Answer::Accepted,
             count: listing_text::print(n, sweeps, ticks, codes, result, vectors, text),
         },

@@ -8,11 +8,10 @@ use borrow.Author.Tests.{eqb-false, eq-eqb, ne-eqb}
 use lib.Dec.{eqb}
 use lib.ListN.{length}
 use lib.Ieee.{Float}
-use Rattle.rotation.specs.Rotation.{ofPair}
 use Rattle.matrix.specs.Matrix.{at, flat, isPlace, entryOf}
 use Rattle.matrix.proofs.EntryPlaces.{are-place, place-is, entry-at}
 use Rattle.matrix.proofs.SameEntries.{Line}
-use Rattle.matrix_turns.specs.Turns.{parametersOf, twoLines, onLines}
+use Rattle.matrix_turns.specs.Turns.{twoLines, onLines}
 
 pub record Two (n p q d : ℕ) : Type 0 where
   pub first-above : 1 ≤ p
@@ -93,9 +92,6 @@ pair-entries n p q l e =
 -- what is found from three entries
 pub from-three : {X : Type 0} (f : Float → Float → Float → X) {a a′ d d′ b b′ : Float} → a ≡ a′ → d ≡ d′ → b ≡ b′ → f a d b ≡ f a′ d′ b′
 from-three f e g h = rw (e, g, h)
-
-pub pair-parameters : (n p q : ℕ) (l : List Float) → twoLines n p q (length l) ≡ true → parametersOf p q (entryOf n l) ≡ parametersOf p q (at n l)
-pair-parameters n p q l e = let t = pair-entries n p q l e in from-three ofPair (t .0) (t .1) (t .2)
 
 -- ---- what a turn leaves
 module _ (n p q : ℕ) (turn : (ℕ → ℕ → Float) → ℕ → ℕ → Float) (l : List Float) where

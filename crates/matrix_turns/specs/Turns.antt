@@ -1,4 +1,5 @@
--- Document 01, "One rotation": the parameters, the row turn and the column turn of the lines p and q of a matrix. Definitions only.
+-- Document 01, "One rotation", and document 02 (vii): what is found of the pair of the lines p and q of a matrix, their row turn and their column turn.
+-- Definitions only.
 use Prim.Native.Nat.{ℕ, zero, suc}
 use mathlib.Core.Bool.{Bool, not, cond, _||_, _&&_}
 use mathlib.Core.List.{List}
@@ -6,15 +7,24 @@ use lib.Dec.{eqb}
 use lib.ListN.{length, getD, set}
 use lib.Ieee.{Float, nan}
 use Rattle.rotation.specs.declared.Parameters.{Parameters}
-use Rattle.rotation.specs.Rotation.{tangentOfPair, ofPair, turnOf}
+use Rattle.rotation.specs.declared.Rooted.{Rooted}
+use Rattle.rotation.specs.declared.Found.{Found}
+use Rattle.rotation.specs.Rotation.{ofPair, turnOf}
+use Rattle.rotation.specs.Exact.{exactPair, tangentFound}
 use Rattle.matrix.specs.Matrix.{at, flat, isPlace}
 
--- The tangent of the pair of the lines p and q, and its parameters.
-abbrev pub tangentAt : ℕ → ℕ → (ℕ → ℕ → Float) → Float
-tangentAt p q A = tangentOfPair (A p p) (A q q) (A p q)
+-- The tangent of the pair of the lines p and q and whether its root is exact, its parameters, and whether both of its roots are exact.
+abbrev pub tangentAt : ℕ → ℕ → (ℕ → ℕ → Float) → Rooted
+tangentAt p q A = tangentFound (A p p) (A q q) (A p q)
 
 abbrev pub parametersOf : ℕ → ℕ → (ℕ → ℕ → Float) → Parameters
 parametersOf p q A = ofPair (A p p) (A q q) (A p q)
+
+abbrev pub exactOf : ℕ → ℕ → (ℕ → ℕ → Float) → Bool
+exactOf p q A = exactPair (A p p) (A q q) (A p q)
+
+abbrev pub foundAt : ℕ → ℕ → (ℕ → ℕ → Float) → Found
+foundAt p q A = record { parameters = parametersOf p q A; exact = exactOf p q A }
 
 -- Place i of a line of which the places p and q are turned: x stood at p, y at q and z at i.
 unfoldable pub turnedAt : Parameters → ℕ → ℕ → ℕ → Float → Float → Float → Float

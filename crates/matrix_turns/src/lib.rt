@@ -1,14 +1,15 @@
-// Two lines of a lent matrix turned, and the parameters of their pair (document 01, "One rotation").
+// Two lines of a lent matrix turned, and what is found of their pair (document 01, "One rotation").
 ghost use mathlib.Core.Path.{_≡_};
 ghost use Prim.Native.Nat.{ℕ, _+_, _*_, _<_};
 ghost use lib.ListN.{length};
 ghost use Rattle.matrix.specs.Matrix.{entryOf};
-ghost use Rattle.matrix_turns.specs.Turns.{parametersOf, twoLines, onLines, rowTurnAll, columnTurnAll, placesTurned, turnLines};
+ghost use Rattle.matrix_turns.specs.Turns.{foundAt, twoLines, onLines, rowTurnAll, columnTurnAll, placesTurned, turnLines};
+use rotation::Found;
 use rotation::Parameters;
 
-// The parameters of the pair of the lines p and q, of NaNs where there is no such line.
-pub fn parameters(n: usize, p: usize, q: usize, a: &[f64]) -> Parameters
-    ensures { λ r. ⌜ r ≡ parametersOf p q (entryOf n (now (a .entry))) ⌝ }
+// What is found of the pair of the lines p and q, of NaNs where there is no such line.
+pub fn found(n: usize, p: usize, q: usize, a: &[f64]) -> Found
+    ensures { λ r. ⌜ r ≡ foundAt p q (entryOf n (now (a .entry))) ⌝ }
 {
     rotation::of_pair(
         matrix::entry(n, p, p, a),

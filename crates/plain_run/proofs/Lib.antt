@@ -4,7 +4,8 @@ pub mod HeldStates
 pub mod StillPairs
 pub mod QuietSweeps
 pub mod SweepsMade
-pub mod CountedTurns
+pub mod CountedPairs
+pub mod CountedSteps
 pub mod StepParameters
 pub mod RunEnd
 pub mod MirrorEntries
@@ -14,6 +15,7 @@ pub mod VanishingLine
 pub mod RunStart
 pub mod Outcomes
 pub mod Sequence
-pub mod KeptTurns
+pub mod KeptCounts
+pub mod RoundedPairs
 pub mod RunResults
 pub mod RefusedRuns

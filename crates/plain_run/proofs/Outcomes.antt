@@ -24,16 +24,16 @@ use Rattle.runs.specs.State.{State, identity, startOf}
 use Rattle.plain_pair.specs.Pair.{stateOf, Held}
 use Rattle.plain_pair.proofs.AlikeStates.{held-alike}
 use Rattle.plain_run.specs.State.{after, notFiniteFrom, spoiled}
-use Rattle.runs.specs.Outcome.{beforeRun, Outcome, outcome, answering}
+use Rattle.runs.specs.Outcome.{beforeRun, Outcome, outcome, Report, report, answering}
 use Rattle.plain_run.specs.Run.{someNotFinite, finishOf, ranOf, runOf}
-use Rattle.plain_run.specs.Quiet.{sweepsMade, answeredRunOf}
+use Rattle.plain_run.specs.Quiet.{sweepsMade, reportOf, answeredRunOf}
 use Rattle.runs.proofs.Verdicts.{Begins}
 use Rattle.plain_run.proofs.HeldStates.{after-alike}
 use Rattle.plain_run.proofs.FiniteLines.{finite-state, state-finite}
 use Rattle.plain_run.proofs.VanishingLine.{spoiled-at-end}
 use Rattle.plain_run.proofs.RunStart.{real-entries, start-vanishes, start-alike, start-finite, start-mirrored}
-use Rattle.plain_run.proofs.SweepsMade.{ran-made}
-use Rattle.plain_run.proofs.CountedTurns.{made-alike}
+use Rattle.plain_run.proofs.SweepsMade.{ran-made, report-sweeps}
+use Rattle.plain_run.proofs.CountedPairs.{report-alike}
 
 -- ---- the two lists at the end
 module _ (n : ℕ) where
@@ -96,14 +96,15 @@ module _ (n sweeps : ℕ) (l : List Float) (fitting : (k : ℕ) → T (fits bina
       rw (← s, ← (held .matrix-held), ← columns)
 
   -- the sweeps made leave what all sweeps leave
-  pub run-made : {o : Outcome ℕ} (made : ℕ) (l₀ e₀ l₁ e₁ e₂ : List Float) → l₀ ≡ l → e₀ ≡ flat n identity
-      → (made ≡ sweepsMade n sweeps (stateOf n l₀ e₀)) × Held n l₁ e₁ (after n (stepsOf n made) (stateOf n l₀ e₀))
-      → e₂ ≡ transposedIn n e₁ → o ≡ answering made (finishOf n l₁ e₂) → o ≡ answering (sweepsMade n sweeps (startOf n l)) (ranOf n sweeps l)
-  run-made made l₀ e₀ l₁ e₁ e₂ z y h t f =
-      let m : made ≡ sweepsMade n sweeps (startOf n l) =
-      h .0 ∙ ap (λ (k : List Float). sweepsMade n sweeps (stateOf n k e₀)) z ∙ made-alike n (b .order) _ _ (start-alike n l e₀ y) sweeps in
-      f ∙ ap (answering made) (ran-of made l₀ e₀ l₁ e₁ e₂ z y (h .1) t ∙ ap (λ (k : ℕ). ranOf n k l) m ∙ sym (ran-made n sweeps l (b .order)))
-      ∙ ap (λ (k : ℕ). answering k (ranOf n sweeps l)) m
+  pub run-made : {o : Outcome Report} (made rounded : ℕ) (l₀ e₀ l₁ e₁ e₂ : List Float) → l₀ ≡ l → e₀ ≡ flat n identity
+      → (report made rounded ≡ reportOf n sweeps (stateOf n l₀ e₀)) × Held n l₁ e₁ (after n (stepsOf n made) (stateOf n l₀ e₀))
+      → e₂ ≡ transposedIn n e₁ → o ≡ answering (report made rounded) (finishOf n l₁ e₂) → o ≡ answering (reportOf n sweeps (startOf n l)) (ranOf n sweeps l)
+  run-made made rounded l₀ e₀ l₁ e₁ e₂ z y h t f =
+      let told : report made rounded ≡ reportOf n sweeps (startOf n l) =
+      h .0 ∙ ap (λ (k : List Float). reportOf n sweeps (stateOf n k e₀)) z ∙ report-alike n (b .order) _ _ (start-alike n l e₀ y) sweeps in
+      let m : made ≡ sweepsMade n sweeps (startOf n l) = ap (λ (r : Report). r .sweeps) told ∙ report-sweeps n sweeps (startOf n l) in
+      f ∙ ap (answering (report made rounded)) (ran-of made l₀ e₀ l₁ e₁ e₂ z y (h .1) t ∙ ap (λ (k : ℕ). ranOf n k l) m ∙ sym (ran-made n sweeps l (b .order)))
+      ∙ ap (λ (r : Report). answering r (ranOf n sweeps l)) told
 
 -- no sweeps: the matrix as lent, and the identity
 pub no-sweeps : (n : ℕ) (l : List Float) → length l ≡ n * n → ranOf n 0 l ≡ outcome (given tt) l (flat n identity)
@@ -119,7 +120,7 @@ module _ (n sweeps : ℕ) (l r v : List Float) where
   unfolding answeredRunOf runOf
   run-refused e = rw (← e)
 
-  pub run-accepted-as : {o : Outcome ℕ} → given tt ≡ beforeRun n sweeps l (length r) (length v)
-      → o ≡ answering (sweepsMade n sweeps (startOf n l)) (ranOf n sweeps l) → o ≡ answeredRunOf n sweeps l r v
+  pub run-accepted-as : {o : Outcome Report} → given tt ≡ beforeRun n sweeps l (length r) (length v)
+      → o ≡ answering (reportOf n sweeps (startOf n l)) (ranOf n sweeps l) → o ≡ answeredRunOf n sweeps l r v
   unfolding answeredRunOf runOf
   run-accepted-as e f = rw (← e) f

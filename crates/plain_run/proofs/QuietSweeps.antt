@@ -21,7 +21,8 @@ use Rattle.ordering.specs.Pairs.{registersAt}
 use Rattle.ordering.proofs.RegisterLines.{left-stands, right-stands, line-within}
 use Rattle.runs.specs.State.{State}
 use Rattle.plain_run.specs.State.{pairsRotated, after, notFinite, spoiled}
-use Rattle.plain_run.specs.Quiet.{parametersAt, turnsIn, quiet}
+use Rattle.plain_run.specs.Met.{pairMet, turnsIn}
+use Rattle.plain_run.specs.Quiet.{quiet}
 use Rattle.plain_run.proofs.ProcessorPairs.{registers-paired, differ}
 use Rattle.plain_run.proofs.StillPairs.{no-turn, pair-unchanged, step-clears, step-keeps-zero}
 
@@ -42,7 +43,7 @@ module _ (n m : ℕ) (X : State) where
 module _ (n : ℕ) (order : isOrder n ≡ true) (X : State) (z L : ℕ) (none : NoTurns n z L X) where
   -- +0 before some of them is +0 after d more
   steps-keep-zero : (r c s d : ℕ) → s + d ≤ L → after n (z + s) X .matrix r c ≡ plusZero → after n (z + (s + d)) X .matrix r c ≡ plusZero
-  unfolding after turnsIn parametersAt
+  unfolding after turnsIn pairMet
   steps-keep-zero r c s zero h e = rw add-zero e
   steps-keep-zero r c s (suc d) h e =
       rw (add-suc, add-suc)
@@ -60,7 +61,7 @@ module _ (n : ℕ) (order : isOrder n ≡ true) (X : State) (z L : ℕ) (none : 
   -- the entries of processor i in step z + s
   pair-cleared : (s i p q : ℕ) → s < L → i < processorsOf n → getD (registersAt n (z + s) .left) i 0 ≡ p → getD (registersAt n (z + s) .right) i 0 ≡ q
       → (after n (z + L) X .matrix p q ≡ plusZero) × (after n (z + L) X .matrix q p ≡ plusZero)
-  unfolding turnsIn parametersAt
+  unfolding turnsIn pairMet
   pair-cleared s i p q h o e f =
       let w =
       step-clears n _ _ (processorsOf n) (registers-paired n order (z + s)) (after n (z + s) X) (λ i o. no-turn _ (none s h i o)) i o in
@@ -115,15 +116,23 @@ module _ (n : ℕ) (order : isOrder n ≡ true) (X : State) where
 
 -- ---- where all entries off the diagonal are +0, a step leaves both matrices as they are
 module _ (n : ℕ) (order : isOrder n ≡ true) where
-  pairs-unchanged : (s k : ℕ) → k ≤ processorsOf n → (X : State) → Diagonal n (X .matrix)
+  -- the two entries of a pair in registers
+  pub pair-blank : (s i : ℕ) → i < processorsOf n → (A : ℕ → ℕ → Float) → Diagonal n A → let r = registersAt n s in
+      let p = getD (r .left) i 0 in let q = getD (r .right) i 0 in (A p q ≡ plusZero) × (A q p ≡ plusZero)
+  pair-blank s i l A d =
+      let pq = differ n i _ _ (registers-paired n order s i l) in
+      let hp = rw (← (left-stands n order s i l)) at (line-within n order s i l left) in
+      let hq = rw (← (right-stands n order s i l)) at (line-within n order s i l right) in
+      (d _ _ hp hq pq, d _ _ hq hp (λ e. pq (sym e)))
+
+  pub pairs-unchanged : (s k : ℕ) → k ≤ processorsOf n → (X : State) → Diagonal n (X .matrix)
       → pairsRotated n (registersAt n s .left) (registersAt n s .right) k X ≡ X
   unfolding pairsRotated
   pairs-unchanged s zero h X d = refl
   pairs-unchanged s (suc k) h X d =
       let pq = differ n k _ _ (registers-paired n order s k (omega arith)) in
-      let hp = rw (← (left-stands n order s k (omega arith))) at (line-within n order s k (omega arith) left) in
-      let hq = rw (← (right-stands n order s k (omega arith))) at (line-within n order s k (omega arith) right) in
-      rw (pairs-unchanged s k (omega arith) X d) (pair-unchanged n k _ _ pq X (d _ _ hp hq pq) (d _ _ hq hp (λ e. pq (sym e))))
+      let z = pair-blank s k (omega arith) (X .matrix) d in
+      rw (pairs-unchanged s k (omega arith) X d) (pair-unchanged n k _ _ pq X (z .0) (z .1))
 
   module _ (X : State) (K : ℕ) (d : Diagonal n (after n K X .matrix)) where
     stays-settled : (i : ℕ) → after n (K + i) X ≡ after n K X

@@ -10,7 +10,7 @@ use Rattle.refusal.specs.declared.Refusal.the-variants.{Spoiled}
 use Rattle.float64.specs.Values.{finite}
 use Rattle.lists.specs.Bounded.{any}
 use Rattle.lists.proofs.Bounded.{any-hit}
-use Rattle.runs.specs.Outcome.{Outcome, outcome, answering}
+use Rattle.runs.specs.Outcome.{Outcome, outcome, Report, answering}
 use Rattle.runs.specs.State.{zeros}
 use Rattle.plain_run.specs.Run.{someNotFinite, finishOf}
 
@@ -40,12 +40,12 @@ module _ (l e : List Float) where
   pub by-second : {b : Bool} → someNotFinite l ≡ false → b ≡ not (someNotFinite e) → b ≡ not (someNotFinite l || someNotFinite e)
   by-second f z = rw f z
 
-module _ (n made : ℕ) (l e : List Float) where
-  pub spoils : {o : Outcome ℕ} → (someNotFinite l || someNotFinite e) ≡ true → o ≡ outcome (refusedBy Spoiled) (zeros n) (zeros n)
-      → o ≡ answering made (finishOf n l e)
+module _ (n : ℕ) (told : Report) (l e : List Float) where
+  pub spoils : {o : Outcome Report} → (someNotFinite l || someNotFinite e) ≡ true → o ≡ outcome (refusedBy Spoiled) (zeros n) (zeros n)
+      → o ≡ answering told (finishOf n l e)
   unfolding finishOf
   spoils f z = rw f z
 
-  pub stays : (someNotFinite l || someNotFinite e) ≡ false → outcome (given made) l e ≡ answering made (finishOf n l e)
+  pub stays : (someNotFinite l || someNotFinite e) ≡ false → outcome (given told) l e ≡ answering told (finishOf n l e)
   unfolding finishOf
   stays f = rw f

@@ -23,9 +23,9 @@ use Rattle.ordering.proofs.RegisterLines.{left-stands, right-stands, lines-diff
 use Rattle.runs.specs.State.{State}
 use Rattle.plain_pair.specs.Pair.{pairTurned, pairRotated}
 use Rattle.plain_run.specs.State.{pairsRotated, after, notFiniteFrom, notFinite, spoiled}
-use Rattle.plain_run.specs.Quiet.{parametersAt}
+use Rattle.plain_run.specs.Met.{pairMet}
 use Rattle.runs.specs.Blocks.{ruled, matrixBlock, columnsBlock}
-use Rattle.runs.specs.Cells.{Cell, cellOf, sideOf, sides, blockTurned, Setting, ruledBlock, rules}
+use Rattle.runs.specs.Cells.{Cell, cellOf, sideOf, sides, blockTurned, Setting, foundBlock, rules}
 use Rattle.runs.proofs.LineZero.{received-ruled}
 use Rattle.plain_pair.proofs.TurnedEntries.{Spot, first, second, neither, spot, all-first, all-second, all-other}
 use Rattle.plain_pair.proofs.TurnedEntries.{at-first-first, at-second-second, at-first-second, at-second-first}
@@ -139,13 +139,13 @@ module _ (S : Setting) (order : isOrder (S .order) ≡ true) (X : State) where
       ∙ pairs-cellwise S k (lineAt (inOrder (firstLine n)) (processorsOf n - 1) k) _ _ (processorsOf n)
       (λ i o. (left-stands n order k i o, right-stands n order k i o, lines-differ n order k i o)) (after n k X))
 
-  -- what a processor turns the block of its pair by
-  pub parameters-are : (k i : ℕ) → i < processorsOf n
-      → ruledBlock S i (blockAtTurn (rules S) (inOrder (firstLine n)) (processorsOf n - 1) (cellOf X) k i) ≡ parametersAt n k i X
-  unfolding blockAtTurn parametersAt
-  parameters-are k i l =
+  -- what a processor finds of the block of its pair
+  pub found-are : (k i : ℕ) → i < processorsOf n
+      → foundBlock S i (blockAtTurn (rules S) (inOrder (firstLine n)) (processorsOf n - 1) (cellOf X) k i) ≡ pairMet n k i X
+  unfolding blockAtTurn pairMet
+  found-are k i l =
       let L = lineAt (inOrder (firstLine n)) (processorsOf n - 1) k in
-      ap (λ (M : ℕ → ℕ → Cell). ruledBlock S i (pairBlock (L (slot i left)) (L (slot i right)) M))
+      ap (λ (M : ℕ → ℕ → Cell). foundBlock S i (pairBlock (L (slot i left)) (L (slot i right)) M))
       (ap (theory.pairsStep (rules S) k L i) (plain-sequential k)
       ∙ pairs-cellwise S k L (registersAt n k .left) (registersAt n k .right) i
       (λ j o. (left-stands n order k j (omega arith), right-stands n order k j (omega arith), lines-differ n order k j (omega arith))) (after n k X))

@@ -15,10 +15,11 @@ use Rattle.lists.proofs.Bounded.{up-to, any-to, any-from}
 use Rattle.sizes.specs.Sizes.{mostSweeps, isOrder, sweepSteps, stepsOf}
 use Rattle.sizes.proofs.Orders.{order-is}
 use Rattle.runs.specs.State.{State, startOf}
-use Rattle.runs.specs.Outcome.{beforeRun}
+use Rattle.runs.specs.Outcome.{beforeRun, Report, report}
 use Rattle.plain_run.specs.State.{after, spoiled}
 use Rattle.plain_run.specs.Run.{ranOf, runOf}
-use Rattle.plain_run.specs.Quiet.{quiet, sweepsMade, answeredRunOf}
+use Rattle.plain_run.specs.Met.{roundedBy}
+use Rattle.plain_run.specs.Quiet.{quiet, sweepsMade, reportOf, answeredRunOf}
 use Rattle.plain_run.proofs.QuietSweeps.{Diagonal, quiet-diagonal, settled, settled-spoiled}
 
 -- ---- the two ways in which a run of S sweeps ends
@@ -115,8 +116,22 @@ module _ (n S : ℕ) (l : List Float) where
           let w : sweepsMade n S (startOf n l) ≤ S = made-within n (startOf n l) S in
           unfold runOf beforeRun in (rw (e, le-ltb mostSweeps S few, le-ltb mostSweeps (sweepsMade n S (startOf n l)) (omega arith), ran-made e))
 
--- ---- the answer of a run that is not refused
-pub answered-given : (n S : ℕ) (l r v : List Float) (made : ℕ) → answeredRunOf n S l r v .answer ≡ given made
-    → (runOf n S l r v .answer ≡ given tt) × (made ≡ sweepsMade n S (startOf n l))
+-- ---- what is reported
+module _ (n S : ℕ) (X : State) where
+  pub report-sweeps : reportOf n S X .sweeps ≡ sweepsMade n S X
+  unfolding reportOf
+  report-sweeps = refl
+
+  pub report-rounded : reportOf n S X .rounded ≡ roundedBy n (stepsOf n (sweepsMade n S X)) X
+  unfolding reportOf
+  report-rounded = refl
+
+  pub reported : {made rounded : ℕ} → made ≡ sweepsMade n S X → rounded ≡ roundedBy n (stepsOf n made) X → report made rounded ≡ reportOf n S X
+  unfolding reportOf
+  reported e f = rw (f, e)
+
+-- the answer of a run that is not refused
+pub answered-given : (n S : ℕ) (l r v : List Float) (told : Report) → answeredRunOf n S l r v .answer ≡ given told
+    → (runOf n S l r v .answer ≡ given tt) × (told ≡ reportOf n S (startOf n l))
 unfolding answeredRunOf
-answered-given n S l r v made e = giving-was (sweepsMade n S (startOf n l)) made (runOf n S l r v .answer) e
+answered-given n S l r v told e = giving-was (reportOf n S (startOf n l)) told (runOf n S l r v .answer) e

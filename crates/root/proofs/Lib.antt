@@ -5,6 +5,8 @@ pub mod Remainders
 pub mod Scales
 pub mod RootCases
 pub mod RootUnits
+pub mod ExactDigits
 pub mod CorrectRounding
+pub mod ExactRoots
 pub mod AnsweredRoots
 pub mod RootBounds

@@ -182,3 +182,10 @@ rooted-at n t =
       q-lt = d .1;
       w-ge = omega arith;
     }
+
+-- they are exact exactly where their square is the scaled value
+pub exact-at : (n : ℕ) (t : Top n)
+    → let q = digitsOf (t .m) (t .z) in let w = kOf (t .m) (t .z) * 2 ^ 52 in let R = q * 2 ^ (484 + (t .z + 1) / 2) in
+    (q * q ≡ w → R * R ≡ n * 2 ^ 1074) × (R * R ≡ n * 2 ^ 1074 → q * q ≡ w)
+unfolding rooted-at
+exact-at n t = exact-digits n (digitsOf (t .m) (t .z) * 2 ^ (484 + (t .z + 1) / 2)) (rooted-at n t)

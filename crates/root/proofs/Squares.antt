@@ -32,6 +32,12 @@ square-lt a b h = lt-of-le-of-lt (mul-le-mul-left a (le-of-lt h)) (mul-lt-mul-of
     above : (a b : ℕ) → a < b → 0 < b
     above a b h = omega arith
 
+pub square-unique : (a b : ℕ) → a * a ≡ b * b → a ≡ b
+square-unique a b e = unless (λ (h : a < b). let l = square-lt a b h in omega arith) (λ (h : b < a). let l = square-lt b a h in omega arith)
+  where
+    unless : (a < b → ⊥) → (b < a → ⊥) → a ≡ b
+    unless f g = omega arith
+
 -- ---- by halves of 27 digits
 square-of : (a b : ℕ) → (a * 2 ^ 27 + b) * (a * 2 ^ 27 + b) ≡ a * a * 2 ^ 54 + a * b * 2 ^ 28 + b * b
 square-of a b =
@@ -49,7 +55,7 @@ split-square q = ap (λ (x : ℕ). x * x) (whole q) ∙ square-of (q / 2 ^ 27) (
     whole : (q : ℕ) → q ≡ q / 2 ^ 27 * 2 ^ 27 + q % 2 ^ 27
     whole q = omega arith
 
-product-le : (a b : ℕ) → a < 2 ^ 27 → b < 2 ^ 27 → a * b ≤ 2 ^ 54
+pub product-le : (a b : ℕ) → a < 2 ^ 27 → b < 2 ^ 27 → a * b ≤ 2 ^ 54
 product-le a b h k = mul-le-mul {n₂ = 2 ^ 27} {m₂ = 2 ^ 27} (le-of-lt h) (le-of-lt k)
 
 pub split-le : (q : ℕ) → q < 2 ^ 53 → (q / 2 ^ 27 * (q / 2 ^ 27) ≤ 2 ^ 54) × (q / 2 ^ 27 * (q % 2 ^ 27) ≤ 2 ^ 54) × (q % 2 ^ 27 * (q % 2 ^ 27) ≤ 2 ^ 54)

@@ -4,10 +4,8 @@ use mathlib.Core.Bool.{true, false, cond}
 use mathlib.Core.List.{[]}
 use lib.Dec.{leb, ltb}
 use lib.Ieee.{Float, nan, inf, fin, size, odd}
-use Rattle.refusal.specs.Answers.{Answered, given, refused, refusedBy}
+use Rattle.refusal.specs.Answers.{Answered, given, refused}
 use Rattle.float64.specs.Units.{unitsOf}
-use Rattle.root.specs.declared.Root.{Root}
-use Rattle.root.specs.declared.Root.the-variants.{Of, Refused}
 
 -- The whole part of the root of an n below 4 ^ k, a digit at a time.
 unfoldable pub wholeRoot : ℕ → ℕ → ℕ
@@ -34,8 +32,3 @@ sqrtOf (inf false) = given (inf false)
 sqrtOf (fin s zero e) = given (fin s zero e)
 sqrtOf (fin true (suc m) e) = refused 9 []
 sqrtOf (fin false (suc m) e) = given (rootUnits (unitsOf (fin false (suc m) e)))
-
--- An answer in the numbers of document 01.
-abbrev pub rootAnswered : Root → Answered Float
-rootAnswered (Of y) = given y
-rootAnswered (Refused r) = refusedBy r

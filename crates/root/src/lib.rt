@@ -1,41 +1,45 @@
-// The correctly rounded square root of an f64 (document 01, "Square root").
+// The correctly rounded square root of an f64 (document 01, "Square root"), and whether it is exact (document 02 (vii)).
 mod whole;
 
 ghost use mathlib.Core.Path.{_≡_};
 ghost use mathlib.Core.Bool.{false};
 ghost use Prim.Native.Nat.{_+_, _*_, _^_, _<_, _≤_};
+ghost use lib.Dec.{eqb};
 ghost use lib.Ieee.{binary64, odd, ofBits};
 ghost use Rattle.float64.specs.Units.{unitsOf};
-ghost use Rattle.root.specs.Sqrt.{nearestRoot, rootUnits, sqrtOf, rootAnswered};
+ghost use Rattle.root.specs.Sqrt.{nearestRoot, rootUnits};
+ghost use Rattle.root.specs.Exact.{exactUnits, sqrtAnswer, rootAnswered};
+ghost use Rattle.root.specs.declared.Root.the-variants.{Of};
 use refusal::Refusal;
 
+// A root and whether it is exact, or a refusal.
 pub enum Root {
-    Of(f64),
+    Of(f64, bool),
     Refused(Refusal),
 }
 
 // The square root of x.
 pub fn sqrt(x: f64) -> Root
-    ensures { λ r. ⌜ rootAnswered r ≡ sqrtOf x ⌝ }
+    ensures { λ r. ⌜ rootAnswered r ≡ sqrtAnswer x ⌝ }
 {
     if x > 0.0 {
         let b = f64::to_bits(x);
         if b < 0x7ff0_0000_0000_0000 {
-            return Root::Of(positive(b));
+            return positive(b);
         }
-        return Root::Of(x);
+        return Root::Of(x, true);
     }
     if x == 0.0 {
-        return Root::Of(x);
+        return Root::Of(x, true);
     }
     Root::Refused(Refusal::NoRoot)
 }
 
 // The root of the value with the pattern b, which is finite and above zero. The value is
 // m * 2^z / 2^53 units.
-fn positive(b: u64) -> f64
+fn positive(b: u64) -> Root
     requires { ⌜ (0 < b) × (b < 0x7ff0_0000_0000_0000) ⌝ }
-    ensures { λ r. ⌜ r ≡ rootUnits (unitsOf (ofBits binary64 b)) ⌝ }
+    ensures { λ r. ⌜ r ≡ Of (rootUnits (unitsOf (ofBits binary64 b))) (exactUnits (unitsOf (ofBits binary64 b))) ⌝ }
 {
     let field = b / 0x10_0000_0000_0000;
     if field == 0 {
@@ -47,9 +51,9 @@ fn positive(b: u64) -> f64
 }
 
 // The root of b units, below the smallest normal value: the digits are brought to the top first.
-fn subnormal(b: u64) -> f64
+fn subnormal(b: u64) -> Root
     requires { ⌜ (0 < b) × (b < 2 ^ 52) ⌝ }
-    ensures { λ r. ⌜ r ≡ rootUnits b ⌝ }
+    ensures { λ r. ⌜ r ≡ Of (rootUnits b) (exactUnits b) ⌝ }
 {
     let mut m = b;
     let mut z: u64 = 53;
@@ -65,11 +69,15 @@ fn subnormal(b: u64) -> f64
 }
 
 // The nearest root of k * 2^52, times 2^(484 + h) units. It is looked for near g.
-fn scaled(k: u64, h: u64, g: u64) -> f64
+fn scaled(k: u64, h: u64, g: u64) -> Root
     requires { ⌜ (2 ^ 52 ≤ k) × (k + 2 ≤ 2 ^ 54) × (h ≤ 1049) × (2 ^ 52 ≤ g) × (g < 2 ^ 53) ⌝ }
-    ensures { λ r. ⌜ r ≡ odd 53 false (nearestRoot (k * 2 ^ 52)) (484 + h) 1074 ⌝ }
+    ensures { λ r. ⌜ r ≡ Of (odd 53 false (nearestRoot (k * 2 ^ 52)) (484 + h) 1074)
+        (eqb (nearestRoot (k * 2 ^ 52) * nearestRoot (k * 2 ^ 52)) (k * 2 ^ 52)) ⌝ }
 {
-    f64::from_bits((484 + h) * 0x10_0000_0000_0000 + whole::nearest_root(k, g))
+    let q = whole::nearest_root(k, g);
+    let exact = whole::is_exact(k, q);
+    let root = f64::from_bits((484 + h) * 0x10_0000_0000_0000 + q);
+    Root::Of(root, exact)
 }
 
 // A number of 53 digits near those of the root of the value x with the pattern b: two steps of

@@ -1,6 +1,7 @@
 // Square roots of whole numbers: of w = k * 2^52, which has 105 or 106 binary digits.
 ghost use mathlib.Core.Path.{_≡_};
 ghost use Prim.Native.Nat.{_+_, _*_, _^_, _<_, _≤_};
+ghost use lib.Dec.{eqb};
 ghost use Rattle.root.specs.Sqrt.{nearestRoot};
 use std::num::wrapping_sub_u64;
 
@@ -15,6 +16,16 @@ pub fn nearest_root(k: u64, g: u64) -> u64
         return q;
     }
     (digits(k) + 1) / 2
+}
+
+// Whether the whole number q nearest to the root of k * 2^52 is that root. Then q ends in 26 zeros, and k is the square
+// of the digits before them.
+pub fn is_exact(k: u64, q: u64) -> bool
+    requires { ⌜ (2 ^ 52 ≤ k) × (k < 2 ^ 54) × (q < 2 ^ 53) × (q ≡ nearestRoot (k * 2 ^ 52)) ⌝ }
+    ensures { λ r. ⌜ r ≡ eqb (q * q) (k * 2 ^ 52) ⌝ }
+{
+    let a = q / 0x400_0000;
+    a * a == k
 }
 
 // The nearest whole number to the root of k * 2^52 if it is q or beside q, and otherwise 0.

@@ -30,11 +30,11 @@ zeros-turned (Turn t c s) x y u v e f g =
     (difference-of-zeros _ _ (product-zero c u fc f) (product-zero s v fs g), sum-of-zeros _ _ (product-zero s u fs f) (product-zero c v fc g))
 
 -- ---- a pair is still only if b is finite
-abbrev isStill : Parameters → Bool
+abbrev pub isStill : Parameters → Bool
 isStill Still = true
 isStill (Turn t c s) = false
 
-turns : (t : Float) → isZero t ≡ false → isStill (ofTangent t) ≡ false
+pub turns : (t : Float) → isZero t ≡ false → isStill (ofTangent t) ≡ false
 unfolding ofTangent ofAngle
 turns t e = rw e
 

@@ -6,21 +6,23 @@ use native.Mathlib.Nat.{le-refl}
 use lib.Dec.{T, lit<, lit≤}
 use lib.Ieee.{Float, nan, binary64, fits, neg, add, mul, div, sub, lt, ofBits}
 use lib.Ieee.Fits.{add-fits}
-use Rattle.refusal.specs.Answers.{Answered, valueOr}
+use Rattle.refusal.specs.Answers.{Answered, given, valueOr}
 use Rattle.float64.specs.Values.{plusZero, one, two, finite, isZero, magnitude}
 use Rattle.float64.proofs.Grid.{power-grid}
 use Rattle.float64.proofs.Bounds.{AtMost, AtLeast, Number, bounded-finite, bounded-number, add-at-least, mul-at-most, div-at-most, square-at-least, div-number}
 use Rattle.float64.proofs.HalfDifferences.{half-difference}
+use Rattle.root.specs.Sqrt.{sqrtOf}
 use Rattle.root.proofs.RootBounds.{root-at-least}
 use Rattle.rotation.specs.declared.Parameters.{Parameters}
 use Rattle.rotation.specs.declared.Parameters.the-variants.{Still, Turn}
 use Rattle.rotation.specs.Rotation.{rootOf, signum, tangentOf, cosineOf, quotient, tangentOfPair, ofAngle, ofTangent, ofPair}
+use Rattle.rotation.specs.Exact.{underRoot}
 
 -- at most 1, which is 2 ^ 1074 units, and at least 1
 abbrev pub UpToOne : Float → Type 0
 UpToOne x = AtMost (2 ^ 1074) x
 
-abbrev FromOne : Float → Type 0
+abbrev pub FromOne : Float → Type 0
 FromOne x = AtLeast (2 ^ 1074) x
 
 one-up-to : UpToOne one
@@ -39,14 +41,19 @@ signum-up-to ξ = go (lt ξ plusZero)
     go true = lit≤ tt
     go false = lit≤ tt
 
--- the root of 1 + x * x
-secant-from : (x : Float) → Number x → FromOne (rootOf (add binary64 one (mul binary64 x x)))
+-- 1 + x * x, and its root
+pub under-root-from : (x : Float) → Number x → FromOne (underRoot x)
+under-root-from x h = add-at-least (2 ^ 1074) 0 (power-grid 1074) (lit< tt) one (mul binary64 x x) one-from (square-at-least x h)
+
+pub given-root : (x r : Float) → sqrtOf x ≡ given r → r ≡ rootOf x
 unfolding rootOf
+given-root x r e = sym (ap (λ (y : Answered Float). valueOr y nan) e)
+
+secant-from : (x : Float) → Number x → FromOne (rootOf (underRoot x))
 secant-from x h =
-    let square = mul binary64 x x in
-    let w = root-at-least (2 ^ 1074) (2 ^ 1074) (power-grid 1074) (lit< tt) (le-refl _) (add binary64 one square) (add-fits binary64 one square)
-    (add-at-least (2 ^ 1074) 0 (power-grid 1074) (lit< tt) one square one-from (square-at-least x h)) in
-    subst FromOne (sym (ap (λ (y : Answered Float). valueOr y nan) (w .1))) (w .2)
+    let w = root-at-least (2 ^ 1074) (2 ^ 1074) (power-grid 1074) (lit< tt) (le-refl _) (underRoot x) (add-fits binary64 one (mul binary64 x x))
+    (under-root-from x h) in
+    subst FromOne (given-root (underRoot x) (w .0) (w .1)) (w .2)
 
 -- a value up to 1 by one from 1 on
 by-one : (x y : Float) → UpToOne x → FromOne y → UpToOne (div binary64 x y)

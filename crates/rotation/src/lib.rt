@@ -1,13 +1,25 @@
-// One rotation of a pair of lines (document 01, "One rotation"; document 02 (v); document 003, (5.1)).
+// One rotation of a pair of lines (document 01, "One rotation"; document 02 (v) and (vii); document 003, (5.1)).
 ghost use mathlib.Core.Path.{_≡_};
-ghost use Rattle.rotation.specs.Rotation.{rootOf, signum, tangentOf, cosineOf, angleOf, ofAngle, tangentOfPair, ofTangent, ofPair};
-ghost use Rattle.rotation.specs.Rotation.{sent, diagonalOf, turnOf};
+ghost use Rattle.rotation.specs.Rotation.{signum, angleOf, ofAngle, sent, diagonalOf, turnOf};
+ghost use Rattle.rotation.specs.Exact.{foundOf, rootedOf, tangentRooted, cosineRooted, tangentFound};
 use root::Root;
 
 // Still, or a turn with the tangent, the cosine and the sine of its angle.
 pub enum Parameters {
     Still,
     Turn(f64, f64, f64),
+}
+
+// A value that is found by a root, and whether the root is exact.
+pub struct Rooted {
+    pub value: f64,
+    pub exact: bool,
+}
+
+// The parameters of a pair, and whether both of its roots are exact.
+pub struct Found {
+    pub parameters: Parameters,
+    pub exact: bool,
 }
 
 // The tangent of an angle and its cosine.
@@ -24,48 +36,50 @@ pub struct Sides {
 
 // The parameters of a pair, from a = a_pp, d = a_qq and b = a_pq, in the steps of document 003, (5.1), where the quotient is ξ. Document 02 (v) has ξ by
 // halves, and no double. Document 01 completes the steps: a pair is still where b is zero, and where t is; the sign of zero is 1 (`sign`); and where ξ isn't
-// a number, t, c and s aren't either (`root_or_nan`), which finite entries never make.
-pub fn of_pair(a: f64, d: f64, b: f64) -> Parameters
-    ensures { λ r. ⌜ r ≡ ofPair a d b ⌝ }
+// a number, t, c and s aren't either (`root_or_nan`), which finite entries never make. Where t is zero the root in the cosine would be that of 1.
+pub fn of_pair(a: f64, d: f64, b: f64) -> Found
+    ensures { λ r. ⌜ r ≡ foundOf a d b ⌝ }
 {
     if b == 0.0 {
-        return Parameters::Still;
+        return Found {
+            parameters: Parameters::Still,
+            exact: true,
+        };
     }
     let half_d = d / 2.0;
     let half_a = a / 2.0;
     let difference = half_d - half_a;
     let quotient = difference / b;
     let tangent = tangent_of(quotient);
-    if tangent == 0.0 {
-        return Parameters::Still;
+    if tangent.value == 0.0 {
+        return Found {
+            parameters: Parameters::Still,
+            exact: tangent.exact,
+        };
     }
-    let cosine = cosine_of(tangent);
-    let sine = tangent * cosine;
-    Parameters::Turn(tangent, cosine, sine)
+    let cosine = cosine_of(tangent.value);
+    let sine = tangent.value * cosine.value;
+    Found {
+        parameters: Parameters::Turn(tangent.value, cosine.value, sine),
+        exact: tangent.exact & cosine.exact,
+    }
 }
 
 // The tangent of a pair, +0 where b is zero: the steps of `of_pair` as far as the tangent, for a caller that finds many before any cosine.
-pub fn tangent_of_pair(a: f64, d: f64, b: f64) -> f64
-    ensures { λ r. ⌜ r ≡ tangentOfPair a d b ⌝ }
+pub fn tangent_of_pair(a: f64, d: f64, b: f64) -> Rooted
+    ensures { λ r. ⌜ r ≡ tangentFound a d b ⌝ }
 {
     if b == 0.0 {
-        return 0.0;
+        return Rooted {
+            value: 0.0,
+            exact: true,
+        };
     }
     let half_d = d / 2.0;
     let half_a = a / 2.0;
     let difference = half_d - half_a;
     let quotient = difference / b;
     tangent_of(quotient)
-}
-
-// The parameters of a pair whose tangent is t: the steps of `of_pair` from there on.
-pub fn of_tangent(t: f64) -> Parameters
-    ensures { λ r. ⌜ r ≡ ofTangent t ⌝ }
-{
-    if t == 0.0 {
-        return Parameters::Still;
-    }
-    of_angle(Angle::of_tangent(t))
 }
 
 // The parameters of a pair that is turned by an angle.
@@ -84,9 +98,10 @@ impl Angle {
     pub fn of_tangent(t: f64) -> Angle
         ensures { λ r. ⌜ r ≡ angleOf t ⌝ }
     {
+        let cosine = cosine_of(t);
         Angle {
             tangent: t,
-            cosine: cosine_of(t),
+            cosine: cosine.value,
         }
     }
 }
@@ -128,17 +143,31 @@ pub fn turn(p: Parameters, x: f64, y: f64) -> Sides
 }
 
 // t = sign(ξ) / (|ξ| + √(1 + ξ ξ))
-fn tangent_of(xi: f64) -> f64
-    ensures { λ r. ⌜ r ≡ tangentOf xi ⌝ }
+fn tangent_of(xi: f64) -> Rooted
+    ensures { λ r. ⌜ r ≡ tangentRooted xi ⌝ }
 {
-    sign(xi) / (float64::magnitude(xi) + root_or_nan(1.0 + xi * xi))
+    let root = root_or_nan(1.0 + xi * xi);
+    Rooted {
+        value: sign(xi) / (float64::magnitude(xi) + root.value),
+        exact: root.exact,
+    }
 }
 
-// cos θ = 1 / √(1 + t t)
-fn cosine_of(t: f64) -> f64
-    ensures { λ r. ⌜ r ≡ cosineOf t ⌝ }
+// cos θ = 1 / √(1 + t t), where t is zero without a root
+pub fn cosine_of(t: f64) -> Rooted
+    ensures { λ r. ⌜ r ≡ cosineRooted t ⌝ }
 {
-    1.0 / root_or_nan(1.0 + t * t)
+    if t == 0.0 {
+        return Rooted {
+            value: 1.0,
+            exact: true,
+        };
+    }
+    let root = root_or_nan(1.0 + t * t);
+    Rooted {
+        value: 1.0 / root.value,
+        exact: root.exact,
+    }
 }
 
 // -1 below zero and otherwise 1, for a zero of either sign too.
@@ -151,12 +180,18 @@ fn sign(xi: f64) -> f64
     1.0
 }
 
-// The root of x, or the NaN where x has none.
-fn root_or_nan(x: f64) -> f64
-    ensures { λ r. ⌜ r ≡ rootOf x ⌝ }
+// The root of x, or the NaN where x has none, which is not exact.
+fn root_or_nan(x: f64) -> Rooted
+    ensures { λ r. ⌜ r ≡ rootedOf x ⌝ }
 {
     match root::sqrt(x) {
-        Root::Of(y) => y,
-        Root::Refused(_) => float64::not_a_number(),
+        Root::Of(y, exact) => Rooted {
+            value: y,
+            exact: exact,
+        },
+        Root::Refused(_) => Rooted {
+            value: float64::not_a_number(),
+            exact: false,
+        },
     }
 }

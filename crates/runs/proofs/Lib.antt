@@ -3,4 +3,4 @@ pub mod Starts
 pub mod BlockTurns
 pub mod EarlyRefusals
 pub mod LineZero
-pub mod TurnCounts
+pub mod ProcessorCounts

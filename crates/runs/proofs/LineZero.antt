@@ -10,10 +10,11 @@ use Rattle.float64.specs.Values.{plusZero}
 use Rattle.sizes.specs.Sizes.{stillOf}
 use Rattle.rotation.specs.declared.Parameters.{Parameters}
 use Rattle.rotation.specs.declared.Parameters.the-variants.{Still}
+use Rattle.rotation.specs.declared.Found.{Found}
 use Rattle.rotation.specs.Rotation.{ofPair, ofTangent, sent}
 use Rattle.rotation.proofs.ParameterCases.{still-zero, received-pair}
 use Rattle.runs.specs.State.{bordered}
-use Rattle.runs.specs.Blocks.{ruled}
+use Rattle.runs.specs.Blocks.{ruled, ruledExact, ruledFound}
 
 -- ---- the matrices at the start
 module _ (A : ℕ → ℕ → Float) where
@@ -42,6 +43,22 @@ module _ (n i : ℕ) (P : Parameters) where
   pub not-still : stillOf n ≤ i → P ≡ ruled n i P
   unfolding ruled
   not-still h = rw (le-ltb i (stillOf n) h)
+
+module _ (n i : ℕ) (exact : Bool) where
+  pub always-exact : i < stillOf n → true ≡ ruledExact n i exact
+  unfolding ruledExact
+  always-exact h = rw (lt-ltb i (stillOf n) h)
+
+  pub own-exact : stillOf n ≤ i → exact ≡ ruledExact n i exact
+  unfolding ruledExact
+  own-exact h = rw (le-ltb i (stillOf n) h)
+
+module _ (n i : ℕ) (f : Found) where
+  pub always-found : i < stillOf n → record { parameters = Still; exact = true } ≡ ruledFound n i f
+  always-found h = rw (← always-still n i (f .parameters) h, ← always-exact n i (f .exact) h)
+
+  pub own-found : stillOf n ≤ i → f ≡ ruledFound n i f
+  own-found h = rw (← not-still n i (f .parameters) h, ← own-exact n i (f .exact) h)
 
 -- a tile that receives the tangent turns as its processor does
 pub received-ruled : (n i : ℕ) (a d b : Float) → ofTangent (sent (ruled n i (ofPair a d b))) ≡ ruled n i (ofPair a d b)

@@ -1,5 +1,5 @@
 -- What a pair of lines does, as rules of the theory: a cell is an entry of the matrix and one of the eigenvectors. The wires along rows and
--- columns carry the tangent, and a processor counts the turns of its pairs in the current sweep. Definitions only.
+-- columns carry the tangent, and a processor counts its turns and its rounded pairs. Definitions only.
 use Prim.Native.Nat.{ℕ}
 use mathlib.Core.Bool.{not, _||_}
 use lib.Ieee.{Float}
@@ -8,11 +8,13 @@ use Rattle.systolic.specs.Slots.{Side, left, right}
 use Rattle.systolic.specs.Blocks.{Block}
 use Rattle.systolic.specs.Sequential.{Rules}
 use Rattle.rotation.specs.declared.Parameters.{Parameters}
+use Rattle.rotation.specs.declared.Found.{Found}
 use Rattle.rotation.specs.declared.Sides.{Sides}
 use Rattle.rotation.specs.Rotation.{ofTangent, sent, turnOf}
 use Rattle.runs.specs.State.{State}
-use Rattle.runs.specs.Counts.{turnsAfter}
-use Rattle.runs.specs.Blocks.{blockParameters, ruled, matrixBlock, columnsBlock}
+use Rattle.runs.specs.declared.Counts.{Counts}
+use Rattle.runs.specs.Counts.{countsAfter}
+use Rattle.runs.specs.Blocks.{blockParameters, blockFound, ruled, ruledFound, matrixBlock, columnsBlock}
 
 pub record Cell : Type 0 where
   pub entry : Float
@@ -57,7 +59,11 @@ setting n = record { order = n }
 abbrev pub ruledBlock : Setting → ℕ → Block Cell → Parameters
 ruledBlock s i b = ruled (s .order) i (blockParameters (blockEntries b))
 
-unfoldable pub rules : Setting → Rules Cell Float Float ℕ
+-- And whether its pair counts as exact.
+abbrev pub foundBlock : Setting → ℕ → Block Cell → Found
+foundBlock s i b = ruledFound (s .order) i (blockFound (blockEntries b))
+
+unfoldable pub rules : Setting → Rules Cell Float Float Counts
 rules s =
     record {
       diagonal = λ k i b. blockTurned (ruledBlock s i b) b;
@@ -66,5 +72,5 @@ rules s =
       rowTurn = λ t s x y. cell (sideOf s (turnOf (ofTangent t) (x .entry) (y .entry))) (sideOf s (sides (x .vector) (y .vector)));
       columnTurn = λ t s x y. cell (sideOf s (turnOf (ofTangent t) (x .entry) (y .entry))) (sideOf s (turnOf (ofTangent t) (x .vector) (y .vector)));
       fails = λ x. not (finite (x .entry)) || not (finite (x .vector));
-      keeps = λ k i b d. turnsAfter (s .order) k (ruledBlock s i b) d;
+      keeps = λ k i b d. countsAfter (s .order) k (foundBlock s i b) d;
     }

@@ -1,4 +1,4 @@
--- Document 01: what any run is refused by before it, and what it answers and leaves. Definitions only.
+-- Document 01, and document 02 (vi) and (vii): what any run is refused by before it, and what it answers and leaves. Definitions only.
 use Prim.Native.Nat.{ℕ}
 use mathlib.Core.Bool.{not, _&&_}
 use mathlib.Core.List.{List, [], _∷_}
@@ -31,6 +31,14 @@ pub record Outcome (A : Type 0) : Type 0 where
 
 abbrev pub outcome : {A : Type 0} → Answered A → List Float → List Float → Outcome A
 outcome a l e = record { answer = a; result = l; vectors = e }
+
+-- What either run reports: the sweeps that it made, and how many pairs it met had a rounded root.
+pub record Report : Type 0 where
+  pub sweeps : ℕ
+  pub rounded : ℕ
+
+abbrev pub report : ℕ → ℕ → Report
+report sweeps rounded = record { sweeps = sweeps; rounded = rounded }
 
 -- The results as they were, beside a refusal.
 abbrev pub resultsKept : {A : Type 0} → List Float → List Float → Answered A → Outcome A

@@ -1,14 +1,21 @@
-// What the plain run and the array's run share: the refusals before a run, the identity, which processor is always still, which pair turns.
+// What the plain run and the array's run share: the refusals before a run, the identity, which processor is always still, what a processor counts.
 ghost use mathlib.Core.Path.{_≡_};
 ghost use Rattle.refusal.specs.Answers.{answered};
 ghost use Rattle.runs.specs.State.{identity};
-ghost use Rattle.runs.specs.Blocks.{ruled};
-ghost use Rattle.runs.specs.Counts.{isTurn, turnCounted, beginsSweep, turnsAfter};
+ghost use Rattle.runs.specs.Blocks.{ruledFound};
+ghost use Rattle.runs.specs.Counts.{isTurn, counted, beginsSweep, turnsAfter, countsAfter};
 ghost use Rattle.runs.specs.Outcome.{beforeRun, slicesAnswer};
 use refusal::Answer;
 use refusal::Refusal;
+use rotation::Found;
 use rotation::Parameters;
 use sizes::MOST_COUNTED;
+
+// What a processor counts: its turns in the current sweep, and its pairs with a rounded root in the whole run.
+pub struct Counts {
+    pub turns: u16,
+    pub rounded: u16,
+}
 
 // Refusals 1, 2, 3, 5 and 6 of a run whose two results have the lengths first and second.
 pub fn verdict(n: usize, sweeps: usize, matrix: &[f64], first: usize, second: usize) -> Answer
@@ -43,14 +50,17 @@ pub fn identity(r: usize, c: usize) -> f64
     0.0
 }
 
-// What processor i, from 0, turns by in a run of order n, where its pair has these parameters.
-pub fn ruled(n: usize, i: usize, parameters: Parameters) -> Parameters
-    ensures { λ r. ⌜ r ≡ ruled n i parameters ⌝ }
+// What processor i, from 0, turns by in a run of order n, and whether it counts as exact, where this is found of its pair.
+pub fn ruled(n: usize, i: usize, found: Found) -> Found
+    ensures { λ r. ⌜ r ≡ ruledFound n i found ⌝ }
 {
     if i < sizes::still_of(n) {
-        return Parameters::Still;
+        return Found {
+            parameters: Parameters::Still,
+            exact: true,
+        };
     }
-    parameters
+    found
 }
 
 // Whether a pair with these parameters is turned.
@@ -63,27 +73,39 @@ pub fn is_turn(parameters: Parameters) -> bool
     }
 }
 
-// The turns of a processor in the current sweep after a step in which its pair has these parameters, with `turns` before it.
-pub fn turns_after(n: usize, step: usize, parameters: Parameters, turns: u16) -> u16
-    ensures { λ r. ⌜ r ≡ turnsAfter n step parameters turns ⌝ }
+// The counts of a processor after a step in which this is found of its pair.
+pub fn counts_after(n: usize, step: usize, found: Found, before: Counts) -> Counts
+    ensures { λ r. ⌜ r ≡ countsAfter n step found before ⌝ }
 {
-    if begins_sweep(n, step) {
-        return turn_counted(parameters, 0);
+    let parameters = found.parameters;
+    Counts {
+        turns: turns_after(n, step, parameters, before.turns),
+        rounded: counted(!found.exact, before.rounded),
     }
-    turn_counted(parameters, turns)
 }
 
-// One more than `turns`, where a pair with these parameters is turned; at most the most.
-fn turn_counted(parameters: Parameters, turns: u16) -> u16
-    ensures { λ r. ⌜ r ≡ turnCounted parameters turns ⌝ }
+// The turns of a processor in the current sweep after a step in which its pair has these parameters, with `turns` before it.
+fn turns_after(n: usize, step: usize, parameters: Parameters, turns: u16) -> u16
+    ensures { λ r. ⌜ r ≡ turnsAfter n step parameters turns ⌝ }
 {
-    if !is_turn(parameters) {
-        return turns;
+    let turned = is_turn(parameters);
+    if begins_sweep(n, step) {
+        return counted(turned, 0);
     }
-    if turns < MOST_COUNTED {
-        return turns + 1;
+    counted(turned, turns)
+}
+
+// One more than the count, where `more` says so; at most the most.
+fn counted(more: bool, count: u16) -> u16
+    ensures { λ r. ⌜ r ≡ counted more count ⌝ }
+{
+    if !more {
+        return count;
     }
-    turns
+    if count < MOST_COUNTED {
+        return count + 1;
+    }
+    count
 }
 
 // Whether a step, from 0, is the first of a sweep. Order 0 has no steps in a sweep.

@@ -21,15 +21,15 @@ use Rattle.runs.specs.Blocks.{ruled}
 use Rattle.runs.proofs.LineZero.{always-still, not-still}
 use Rattle.matrix_turns.specs.Turns.{parametersOf}
 use Rattle.step_records.specs.declared.Record.{Record}
-use Rattle.step_records.specs.Records.{recordOf, recordsOf}
+use Rattle.step_records.specs.Records.{recordWith, recordsOf}
 use Rattle.step_records.proofs.FoundRecords.{accepted-call, answer-given, record-found}
 
 abbrev pub FiniteRecord : Record → Type 0
 FiniteRecord r = (finite (r .t) ≡ true) × (finite (r .c) ≡ true) × (finite (r .s) ≡ true)
 
-finite-record : (P : Parameters) → AllFinite P → FiniteRecord (recordOf P)
-finite-record Still h = unfold finite ofBits in (refl, refl, refl)
-finite-record (Turn t c s) h = h
+finite-record : (P : Parameters) (exact : Bool) → AllFinite P → FiniteRecord (recordWith P exact)
+finite-record Still exact h = unfold finite ofBits in (refl, refl, refl)
+finite-record (Turn t c s) exact h = h
 
 module _ (n : ℕ) (l : List Float) (step : ℕ) (ys : List Record) (other : Record) (fitting : (k : ℕ) → T (fits binary64 (getD l k nan))) where
   fits-at : (r c : ℕ) → T (fits binary64 (at n l r c))
@@ -37,7 +37,7 @@ module _ (n : ℕ) (l : List Float) (step : ℕ) (ys : List Record) (other : Rec
   fits-at r c = fitting _
 
   pub records-finite : recordsOf n l step ys .answer ≡ given tt → (k : ℕ) → k < processorsOf n → FiniteRecord (getD (recordsOf n l step ys .row) k other)
-  records-finite e k below = subst FiniteRecord (sym (record-found n l step ys other e k below)) (finite-record (ruled n k P) (go (ltb k (stillOf n)) refl))
+  records-finite e k below = subst FiniteRecord (sym (record-found n l step ys other e k below)) (finite-record (ruled n k P) _ (go (ltb k (stillOf n)) refl))
     where
       p : ℕ
       p = getD (registersAt n step .left) k 0

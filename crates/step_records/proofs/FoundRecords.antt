@@ -13,14 +13,15 @@ use Rattle.refusal.specs.declared.Refusal.the-variants.{Order, Length, TooShort
 use Rattle.refusal.proofs.FirstRefusal.{both-given, row-given}
 use Rattle.lists.proofs.Over.{getD-over}
 use Rattle.sizes.specs.Sizes.{isOrder, processorsOf, stillOf}
+use Rattle.rotation.specs.Exact.{foundOf}
 use Rattle.ordering.specs.Pairs.{registersAt}
 use Rattle.ordering.proofs.RegisterLines.{pair-real}
 use Rattle.matrix.specs.Matrix.{at, entryOf}
 use Rattle.matrix.specs.Entries.{isSquare, entriesOf, finiteRow, mirrorRow}
-use Rattle.runs.specs.Blocks.{ruled}
-use Rattle.runs.proofs.LineZero.{always-still}
-use Rattle.matrix_turns.specs.Turns.{parametersOf, twoLines}
-use Rattle.matrix_turns.proofs.LinePairs.{two-lines, pair-parameters}
+use Rattle.runs.specs.Blocks.{ruledFound}
+use Rattle.runs.proofs.LineZero.{always-found}
+use Rattle.matrix_turns.specs.Turns.{foundAt, twoLines}
+use Rattle.matrix_turns.proofs.LinePairs.{two-lines, pair-entries, from-three}
 use Rattle.step_records.specs.declared.Record.{Record}
 use Rattle.step_records.proofs.RecordRefusals.{by-parts}
 use Rattle.step_records.proofs.LeftRows.{records-answer}
@@ -55,22 +56,30 @@ accepted-call n l room e =
 pub answer-given : (n : ℕ) (l : List Float) (step : ℕ) (ys : List Record) → recordsOf n l step ys .answer ≡ given tt → beforeRecords n l (length ys) ≡ given tt
 answer-given n l step ys e = sym (records-answer n l step ys) ∙ e
 
--- what a processor turns by, from the list
-ruled-read : (n k p q : ℕ) (l : List Float) → (stillOf n ≤ k → twoLines n p q (length l) ≡ true)
-    → ruled n k (parametersOf p q (entryOf n l)) ≡ ruled n k (parametersOf p q (at n l))
-ruled-read n k p q l two = go (ltb k (stillOf n)) refl
+-- what a processor finds of its pair, from the list
+found-read : (n k p q : ℕ) (l : List Float) → (stillOf n ≤ k → twoLines n p q (length l) ≡ true)
+    → ruledFound n k (foundAt p q (entryOf n l)) ≡ ruledFound n k (foundAt p q (at n l))
+found-read n k p q l two = go (ltb k (stillOf n)) refl
   where
-    go : (b : Bool) → ltb k (stillOf n) ≡ b → ruled n k (parametersOf p q (entryOf n l)) ≡ ruled n k (parametersOf p q (at n l))
-    go true e = let h = ltb-true _ _ e in sym (always-still n k _ h) ∙ always-still n k _ h
-    go false e = ap (ruled n k) (pair-parameters n p q l (two (ltb-false _ _ e)))
+    go : (b : Bool) → ltb k (stillOf n) ≡ b → ruledFound n k (foundAt p q (entryOf n l)) ≡ ruledFound n k (foundAt p q (at n l))
+    go true e = let h = ltb-true _ _ e in sym (always-found n k (foundAt p q (entryOf n l)) h) ∙ always-found n k (foundAt p q (at n l)) h
+    go false e =
+        let t = pair-entries n p q l (two (ltb-false _ _ e)) in
+        from-three (λ (a d b : Float). ruledFound n k (foundOf a d b)) (t .0) (t .1) (t .2)
 
-pub record-found : (n : ℕ) (l : List Float) (step : ℕ) (ys : List Record) (other : Record) → recordsOf n l step ys .answer ≡ given tt
-    → (k : ℕ) → k < processorsOf n → getD (recordsOf n l step ys .row) k other
-    ≡ recordOf (ruled n k (parametersOf (getD (registersAt n step .left) k 0) (getD (registersAt n step .right) k 0) (at n l)))
-unfolding recordsOf recordAt
-record-found n l step ys other e k below =
-    let accepted = answer-given n l step ys e in
-    let w = accepted-call n l (length ys) accepted in
-    rw accepted
-    (getD-over (processorsOf n) _ ys k other below (omega (arith, w .enough))
-    ∙ ap recordOf (ruled-read n k _ _ l (λ h. two-lines n _ _ (length l) (pair-real n (w .order) step k below h) (w .long))))
+module _ (n : ℕ) (l : List Float) (step : ℕ) (ys : List Record) (other : Record) (accepted : recordsOf n l step ys .answer ≡ given tt) where
+  abbrev left : ℕ → ℕ
+  left k = getD (registersAt n step .left) k 0
+
+  abbrev right : ℕ → ℕ
+  right k = getD (registersAt n step .right) k 0
+
+  pub record-found : (k : ℕ) → k < processorsOf n
+      → getD (recordsOf n l step ys .row) k other ≡ recordOf (ruledFound n k (foundAt (left k) (right k) (at n l)))
+  unfolding recordsOf recordAt
+  record-found k below =
+      let before = answer-given n l step ys accepted in
+      let w = accepted-call n l (length ys) before in
+      rw before
+      (getD-over (processorsOf n) _ ys k other below (omega (arith, w .enough))
+      ∙ ap recordOf (found-read n k _ _ l (λ h. two-lines n _ _ (length l) (pair-real n (w .order) step k below h) (w .long))))

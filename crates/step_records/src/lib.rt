@@ -1,4 +1,4 @@
-// The records of a step (document 01, "One rotation", last paragraph).
+// The records of a step (document 01, "One rotation", last paragraph, and document 02 (ii) and (vii)).
 ghost use mathlib.Core.Path.{_≡_};
 ghost use mathlib.Core.Bool.{cond};
 ghost use lib.Dec.{ltb};
@@ -10,14 +10,16 @@ ghost use Rattle.sizes.specs.Sizes.{processorsOf};
 use ordering::Registers;
 use refusal::Answer;
 use refusal::Refusal;
+use rotation::Found;
 use rotation::Parameters;
 use sizes::MOST_PROCESSORS;
 
-// Tangent, cosine and sine of a pair.
+// Tangent, cosine and sine of a pair, and whether both of its roots are exact.
 pub struct Record {
     pub t: f64,
     pub c: f64,
     pub s: f64,
+    pub exact: bool,
 }
 
 // An answer, and the row beside it.
@@ -101,22 +103,30 @@ pub fn of_processor(n: usize, matrix: &[f64], registers: Registers, k: usize) ->
     let lefts = registers.left;
     let rights = registers.right;
     if k < MOST_PROCESSORS {
-        let parameters = matrix_turns::parameters(n, lefts[k], rights[k], matrix);
-        return of_parameters(runs::ruled(n, k, parameters));
+        let found = matrix_turns::found(n, lefts[k], rights[k], matrix);
+        return of_found(runs::ruled(n, k, found));
     }
-    of_parameters(matrix_turns::parameters(n, 0, 0, matrix))
+    of_found(matrix_turns::found(n, 0, 0, matrix))
 }
 
-// The record of a pair.
-pub fn of_parameters(parameters: Parameters) -> Record
-    ensures { λ r. ⌜ r ≡ recordOf parameters ⌝ }
+// The record of a pair of which this is found.
+pub fn of_found(found: Found) -> Record
+    ensures { λ r. ⌜ r ≡ recordOf found ⌝ }
 {
+    let parameters = found.parameters;
+    let exact = found.exact;
     match parameters {
         Parameters::Still => Record {
             t: 0.0,
             c: 1.0,
             s: 0.0,
+            exact: exact,
         },
-        Parameters::Turn(t, c, s) => Record { t: t, c: c, s: s },
+        Parameters::Turn(t, c, s) => Record {
+            t: t,
+            c: c,
+            s: s,
+            exact: exact,
+        },
     }
 }

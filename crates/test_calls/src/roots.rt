@@ -1,4 +1,4 @@
-// Square roots: the bits of a value. The answer is the bits of its square root, or the refusal.
+// Square roots: the bits of a value. The answer is the bits of its square root and whether it is exact, or the refusal.
 use root::Root;
 use test_io::TextLine;
 use test_io::refusals;
@@ -14,7 +14,7 @@ pub fn answer_root() -> bool {
 // Writes what the square root of the value with the pattern bits is.
 fn answer(bits: u64) -> bool {
     match root::sqrt(float64::from_bits(bits)) {
-        Root::Of(r) => values::print_value(r),
+        Root::Of(r, exact) => values::print_value(r) && values::print_exactness(exact),
         Root::Refused(refused) => refusals::print_refusal(refused),
     }
 }

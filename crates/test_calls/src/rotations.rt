@@ -1,5 +1,5 @@
 // The parameters of pairs: the bits of a = a_pp, d = a_qq and b = a_pq. The answer is still, or the bits of the tangent, the cosine and
-// the sine.
+// the sine, and then whether both roots were exact.
 use libc::STDOUT_FILENO;
 use rotation::Parameters;
 use test_io::TextLine;
@@ -22,9 +22,15 @@ pub fn answer_pair() -> bool {
     )
 }
 
-// Writes the parameters of a pair.
+// Writes the parameters of a pair, and whether its roots were exact.
 fn answer(a: f64, d: f64, b: f64) -> bool {
-    match rotation::of_pair(a, d, b) {
+    let found = rotation::of_pair(a, d, b);
+    let parameters = found.parameters;
+    print_parameters(parameters) && values::print_exactness(found.exact)
+}
+
+fn print_parameters(parameters: Parameters) -> bool {
+    match parameters {
         Parameters::Still => io::write_all(STDOUT_FILENO, b"still\n"),
         Parameters::Turn(t, c, s) => print_turn(t, c, s),
     }

@@ -31,7 +31,7 @@ fn write_roots() -> bool {
 
 fn write_root(pattern: u64) -> bool {
     match root::sqrt(float64::from_bits(pattern)) {
-        Root::Of(y) => values::print_value(y),
+        Root::Of(y, exact) => values::print_value(y) && values::print_exactness(exact),
         Root::Refused(refused) => refusals::print_refusal(refused),
     }
 }
@@ -146,16 +146,20 @@ fn write_answer(
 
 fn write_ran(ran: Ran) -> bool {
     match ran {
-        Ran::Made(sweeps) => test_io::print_number(b"sweeps", sweeps as u64),
+        Ran::Made(sweeps, rounded) => {
+            test_io::print_number(b"sweeps", sweeps as u64)
+                && test_io::print_number(b"rounded", rounded as u64)
+        }
         Ran::Refused(refused) => refusals::print_refusal(refused),
     }
 }
 
 fn write_completion(completion: Completion) -> bool {
     match completion {
-        Completion::Completed(sweeps, ticks) => {
+        Completion::Completed(sweeps, ticks, rounded) => {
             test_io::print_number(b"sweeps", sweeps as u64)
                 && test_io::print_number(b"ticks", ticks as u64)
+                && test_io::print_number(b"rounded", rounded as u64)
         }
         Completion::Refused(refused) => refusals::print_refusal(refused),
     }

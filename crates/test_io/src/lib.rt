@@ -1,6 +1,7 @@
 // Lines of text for test programs: u64 words as 16 hexadecimal digits in capital letters, read from
 // standard input and written to standard output, and decimal numbers after a word. The modules have
-// what such programs read and write in these lines: values, refusals, and the heads of runs.
+// what such programs read and write in these lines: values, whether roots were exact, refusals, and the
+// heads of runs.
 ghost use mathlib.Core.Path.{_≡_};
 ghost use Prim.Native.Nat.{_+_, _<_, _≤_};
 ghost use lib.ListN.{length, take};

@@ -1,17 +1,16 @@
 // Runs by plain sweeps and whole runs by the array, lent alike: the head of each, as test_io::runs has it, and the matrix. The answer is the
-// refusal, if it is refused, with its row and column where it has them, or the number of sweeps made, and then of the array's ticks, and in
-// each case the result and the vectors.
+// refusal, if it is refused, with its row and column where it has them, or the number of sweeps made, then that of the array's ticks, and
+// that of the pairs with a rounded root, and in each case the result and the vectors.
 use array_run::Completion;
 use plain_run::Ran;
 use test_io::refusals;
-use test_io::runs;
 use test_io::runs::Head;
 use test_io::runs::LIMIT;
 use test_io::values;
 
 // Lends a run parts of its own buffers, the results filled.
 pub fn answer_run(by_array: bool) -> bool {
-    let Head::Run(run) = runs::read_head() else {
+    let Head::Run(run) = test_io::runs::read_head() else {
         return false;
     };
     let matrix_size = run.matrix;
@@ -62,19 +61,23 @@ fn make_run(
     print_ran(plain_run::run(n, sweeps, matrix, result, vectors))
 }
 
-// Writes the number of sweeps made, or the refusal.
+// Writes the numbers of sweeps made and of rounded pairs, or the refusal.
 fn print_ran(ran: Ran) -> bool {
     match ran {
-        Ran::Made(sweeps) => test_io::print_word(sweeps as u64),
+        Ran::Made(sweeps, rounded) => {
+            test_io::print_word(sweeps as u64) && test_io::print_word(rounded as u64)
+        }
         Ran::Refused(refused) => refusals::print_refusal(refused),
     }
 }
 
-// Writes the numbers of sweeps and of ticks made, or the refusal.
+// Writes the numbers of sweeps and of ticks made and of rounded pairs, or the refusal.
 fn print_completion(completion: Completion) -> bool {
     match completion {
-        Completion::Completed(sweeps, ticks) => {
-            test_io::print_word(sweeps as u64) && test_io::print_word(ticks as u64)
+        Completion::Completed(sweeps, ticks, rounded) => {
+            test_io::print_word(sweeps as u64)
+                && test_io::print_word(ticks as u64)
+                && test_io::print_word(rounded as u64)
         }
         Completion::Refused(refused) => refusals::print_refusal(refused),
     }

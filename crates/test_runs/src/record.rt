@@ -1,5 +1,5 @@
 // What is written of a record: the order, the sweeps, the tick, and some of the tiles. Of a tile: its cells, the
-// wires that leave by its corners, those that leave along its row and its column, its mark, and its turns.
+// wires that leave by its corners, those that leave along its row and its column, its mark, its turns, and its rounded pairs.
 use array::Array;
 use sizes::MOST_PROCESSORS;
 use sizes::MOST_TILES;
@@ -69,7 +69,8 @@ fn print_tile(tile: Tile) -> bool {
         && values::print_value(tile.row_wire)
         && values::print_value(tile.column_wire)
         && test_io::print_word(tile.mark as u64)
-        && test_io::print_word(tile.turns as u64)
+        && test_io::print_word(tile.counts.turns as u64)
+        && test_io::print_word(tile.counts.rounded as u64)
 }
 
 fn print_part(part: Part) -> bool {

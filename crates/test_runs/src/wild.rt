@@ -1,7 +1,9 @@
 // Ticks of wild records: the order, the sweeps, the tick, the word that every cell and line of all tiles holds, and
-// the turns of every tile. The answer is what the tick answered, the number of the refusal if it is refused, and the record.
+// the turns and the rounded pairs of every tile. The answer is what the tick answered, the number of the refusal if it is refused, and the
+// record.
 use crate::record;
 use array::Array;
+use runs::Counts;
 use sizes::MOST_COUNTED;
 use sizes::MOST_TILES;
 use test_io::TextLine;
@@ -10,7 +12,7 @@ use tile_schedule::Progress;
 use tile_wires::Part;
 use tile_wires::Quad;
 
-// Reads a record and answers its tick. Turns above the most that a tile counts to end the program.
+// Reads a record and answers its tick. A count above the most that a tile counts to ends the program.
 pub fn answer_tick() -> bool {
     let TextLine::Word(n) = test_io::read_word() else {
         return false;
@@ -27,22 +29,22 @@ pub fn answer_tick() -> bool {
     let TextLine::Word(turns) = test_io::read_word() else {
         return false;
     };
+    let TextLine::Word(rounded) = test_io::read_word() else {
+        return false;
+    };
     if turns > MOST_COUNTED as u64 {
         return false;
     }
+    if rounded > MOST_COUNTED as u64 {
+        return false;
+    }
     let value = float64::from_bits(word);
-    let array = filled(
-        n as usize,
-        sweeps as usize,
-        tick as usize,
-        value,
-        turns as u16,
-    );
-    answer(array)
+    let tile = filled(value, turns as u16, rounded as u16);
+    answer(n as usize, sweeps as usize, tick as usize, tile)
 }
 
-// The record with one value in every cell and line and so many turns in every tile, none of them marked.
-fn filled(n: usize, sweeps: usize, tick: usize, value: f64, turns: u16) -> Array {
+// The tile with one value in every cell and line and these counts, not marked.
+fn filled(value: f64, turns: u16, rounded: u16) -> Tile {
     let quad = Quad {
         alpha: value,
         beta: value,
@@ -53,24 +55,28 @@ fn filled(n: usize, sweeps: usize, tick: usize, value: f64, turns: u16) -> Array
         matrix: quad,
         vectors: quad,
     };
-    let tile = Tile {
+    let counts = Counts {
+        turns: turns,
+        rounded: rounded,
+    };
+    Tile {
         cells: part,
         wires: part,
         row_wire: value,
         column_wire: value,
         mark: false,
-        turns: turns,
-    };
-    Array {
+        counts: counts,
+    }
+}
+
+// Makes a tick of the record with these sizes and one tile in every place, and writes what it answers and gives back.
+fn answer(n: usize, sweeps: usize, tick: usize, tile: Tile) -> bool {
+    let array = Array {
         n: n,
         sweeps: sweeps,
         tick: tick,
         tiles: [tile; MOST_TILES],
-    }
-}
-
-// Makes a tick and writes what it answers and gives back.
-fn answer(array: Array) -> bool {
+    };
     let ticked = array.tick();
     let progress = ticked.answer;
     let next = ticked.array;

@@ -9,8 +9,9 @@ use Rattle.systolic.specs.Blocks.{Block}
 use Rattle.systolic.specs.Sequential.{turnBlockRows, turnBlockColumns, anyFails, operationsOf}
 use Rattle.systolic.specs.Tiles.{turnTile}
 use Rattle.rotation.specs.Rotation.{sent}
-use Rattle.runs.specs.Counts.{turnsAfter}
-use Rattle.runs.specs.Cells.{Cell, blockTurned, Setting, ruledBlock, rules}
+use Rattle.runs.specs.declared.Counts.{Counts}
+use Rattle.runs.specs.Counts.{countsAfter}
+use Rattle.runs.specs.Cells.{Cell, blockTurned, Setting, ruledBlock, foundBlock, rules}
 use Rattle.tile.specs.Tiles.{operations}
 
 module _ (s : Setting) (k i : ℕ) (b : Block Cell) where
@@ -24,7 +25,7 @@ module _ (s : Setting) (k i : ℕ) (b : Block Cell) where
   unfolding operations operationsOf rules
   tile-sends = (refl, refl)
 
-  pub tile-keeps : (d : ℕ) → operations s .keeps k i b d ≡ turnsAfter (s .order) k (ruledBlock s i b) d
+  pub tile-keeps : (d : Counts) → operations s .keeps k i b d ≡ countsAfter (s .order) k (foundBlock s i b) d
   unfolding operations operationsOf rules
   tile-keeps d = refl
 

@@ -13,7 +13,7 @@ use Rattle.runs.specs.Cells.{Setting}
 use Rattle.tile.specs.declared.Tile.{Tile}
 use Rattle.tile.specs.Tiles.{blockOf, theTile, operations}
 use Rattle.tile.specs.Turned.{turnedOf, partNotFinite}
-use Rattle.tile.proofs.TileWork.{worked-cells, worked-row, worked-column, worked-turns, some-fail}
+use Rattle.tile.proofs.TileWork.{worked-cells, worked-row, worked-column, worked-counts, some-fail}
 use Rattle.tile.proofs.SetWires.{part-wires}
 
 module _ (s : Setting) (x : Tile) (i j : ℕ) (a : theory.Action) where
@@ -26,12 +26,12 @@ module _ (s : Setting) (x : Tile) (i j : ℕ) (a : theory.Action) where
         worked-cells s k i j h v row column e f x q a,
         worked-row s k i j h v row column e f x q a,
         worked-column s k i j h v row column e f x q a,
-        worked-turns s k i j h v row column e f x q a,
+        worked-counts s k i j h v row column e f x q a,
       )
 
   pub tile-settled : (m : ℕ) {ph : ℕ} {out : Part} {mark : Bool} → ph ≡ phaseIn a → out ≡ partWires ph m i j (x .cells) (x .wires)
       → mark ≡ (x .mark || partNotFinite (x .cells))
-      → theTile (record { cells = x .cells; wires = out; «row_wire» = x .«row_wire»; «column_wire» = x .«column_wire»; mark = mark; turns = x .turns })
+      → theTile (record { cells = x .cells; wires = out; «row_wire» = x .«row_wire»; «column_wire» = x .«column_wire»; mark = mark; counts = x .counts })
       ≡ settledTile (operations s) m i j a (theTile x)
   unfolding theTile
   tile-settled m p f g = rw (f, p, g, part-wires a m i j (x .cells) (x .wires), some-fail s (x .cells))

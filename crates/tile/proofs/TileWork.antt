@@ -38,7 +38,7 @@ module _ (s : Setting) (k i j : ℕ) where
   -- a tile off the diagonal receives the angles of the tangents h and v
   module _ (h v : Float) (row column : Angle) (e : ¬ (i ≡ j) → row ≡ angleOf h) (f : ¬ (i ≡ j) → column ≡ angleOf v) where
     abbrev passedOn : Work → Work
-    passedOn w = record { cells = offDiagonalOf (w .cells) (ltb i j) row column; row = row .tangent; column = column .tangent; turns = w .turns }
+    passedOn w = record { cells = offDiagonalOf (w .cells) (ltb i j) row column; row = row .tangent; column = column .tangent; counts = w .counts }
 
     rotated-cells : (w : Work) → blockOf (rotatedOf (s .order) k w i j row column .cells) ≡ turnTile (operations s) k i j h v (blockOf (w .cells))
     unfolding rotatedOf turnTile
@@ -70,13 +70,13 @@ module _ (s : Setting) (k i j : ℕ) where
         go true z = unfold onDiagonalOf operations operationsOf rules blockOf in refl
         go false z = ap (λ (x : Angle). x .tangent) (f (eqb-false _ _ z))
 
-    rotated-turns : (w : Work) → rotatedOf (s .order) k w i j row column .turns
-        ≡ cond (eqb i j) (operations s .keeps k i (blockOf (w .cells)) (w .turns)) (w .turns)
+    rotated-counts : (w : Work) → rotatedOf (s .order) k w i j row column .counts
+        ≡ cond (eqb i j) (operations s .keeps k i (blockOf (w .cells)) (w .counts)) (w .counts)
     unfolding rotatedOf
-    rotated-turns w = go (eqb i j)
+    rotated-counts w = go (eqb i j)
       where
-        go : (b : Bool) → cond b (onDiagonalOf (s .order) k i w) (passedOn w) .turns
-            ≡ cond b (operations s .keeps k i (blockOf (w .cells)) (w .turns)) (w .turns)
+        go : (b : Bool) → cond b (onDiagonalOf (s .order) k i w) (passedOn w) .counts
+            ≡ cond b (operations s .keeps k i (blockOf (w .cells)) (w .counts)) (w .counts)
         go true = unfold onDiagonalOf operations operationsOf rules blockOf in refl
         go false = refl
 
@@ -113,14 +113,14 @@ module _ (s : Setting) (k i j : ℕ) where
       worked-column phase2 = refl
       worked-column final = refl
 
-      pub worked-turns : (a : Action) → workOf a .turns ≡ newKept (operations s .keeps k i) i j a (blockOf (x .cells)) (blockOf q) (x .turns)
+      pub worked-counts : (a : Action) → workOf a .counts ≡ newKept (operations s .keeps k i) i j a (blockOf (x .cells)) (blockOf q) (x .counts)
       unfolding newParameter
-      worked-turns idle = refl
-      worked-turns first = rotated-turns (workBefore x (x .cells))
-      worked-turns rotate = rotated-turns (workBefore x q)
-      worked-turns phase1 = refl
-      worked-turns phase2 = refl
-      worked-turns final = refl
+      worked-counts idle = refl
+      worked-counts first = rotated-counts (workBefore x (x .cells))
+      worked-counts rotate = rotated-counts (workBefore x q)
+      worked-counts phase1 = refl
+      worked-counts phase2 = refl
+      worked-counts final = refl
 
 -- ---- a tile on the diagonal, by the step that it is in
 pub rotated-on : (n t : ℕ) (w : Work) (i j : ℕ) (row column : Angle) {x : Work} {k : ℕ} → i ≡ j → k ≡ stepAt 0 t → x ≡ onDiagonalOf n k i w

@@ -11,6 +11,8 @@ use Rattle.systolic.specs.Tiles.{joined}
 use Rattle.tile_wires.specs.declared.Quad.{Quad}
 use Rattle.tile_wires.specs.declared.Part.{Part}
 use Rattle.sizes.specs.Sizes.{firstLine}
+use Rattle.runs.specs.declared.Counts.{Counts}
+use Rattle.runs.specs.Counts.{counts}
 use Rattle.runs.specs.Cells.{Cell, cell, cellsOf, Setting, rules}
 use Rattle.tile.specs.declared.Tile.{Tile}
 
@@ -24,7 +26,7 @@ quadOf b = record { alpha = b .α; beta = b .β; gamma = b .γ; delta = b .δ }
 unfoldable pub blockOf : Part → Block Cell
 blockOf p = cellsOf (quadBlock (p .matrix)) (quadBlock (p .vectors))
 
-unfoldable pub theTile : Tile → theory.Tile Cell Float Float ℕ
+unfoldable pub theTile : Tile → theory.Tile Cell Float Float Counts
 theTile x =
     record {
       cells = blockOf (x .cells);
@@ -32,12 +34,12 @@ theTile x =
       rowWire = x .«row_wire»;
       columnWire = x .«column_wire»;
       mark = x .mark;
-      kept = x .turns;
+      kept = x .counts;
     }
 
 -- What the tiles do, by the rules of any run. A tick does not look at the start.
-unfoldable pub operations : Setting → Operations Cell Float Float ℕ
-operations s = operationsOf (rules s) (inOrder (firstLine (s .order))) (λ r c. cell plusZero plusZero) (cell plusZero plusZero) plusZero plusZero 0
+unfoldable pub operations : Setting → Operations Cell Float Float Counts
+operations s = operationsOf (rules s) (inOrder (firstLine (s .order))) (λ r c. cell plusZero plusZero) (cell plusZero plusZero) plusZero plusZero (counts 0 0)
 
 -- What the wires bring to tile (i, j), where a, b, c and d are the wires of the tiles that its corners are joined with.
 unfoldable pub broughtTo : ℕ → ℕ → ℕ → Block Cell → Block Cell → Block Cell → Block Cell → Block Cell

@@ -10,8 +10,9 @@ use Rattle.tile_wires.specs.declared.Part.{Part}
 use Rattle.rotation.specs.declared.Angle.{Angle}
 use Rattle.rotation.specs.declared.Parameters.{Parameters}
 use Rattle.rotation.specs.Rotation.{ofAngle, sent, turnOf}
-use Rattle.runs.specs.Blocks.{blockParameters, ruled, matrixBlock, columnsBlock}
-use Rattle.runs.specs.Counts.{turnsAfter}
+use Rattle.rotation.specs.declared.Found.{Found}
+use Rattle.runs.specs.Blocks.{blockParameters, blockFound, ruled, ruledFound, matrixBlock, columnsBlock}
+use Rattle.runs.specs.Counts.{countsAfter}
 use Rattle.tile.specs.declared.Tile.{Tile}
 use Rattle.tile.specs.declared.cells.Work.{Work}
 use Rattle.tile.specs.Tiles.{quadBlock, quadOf}
@@ -39,6 +40,10 @@ offDiagonalOf p above row column =
 abbrev pub quadParameters : ℕ → ℕ → Quad → Parameters
 quadParameters n i q = ruled n i (blockParameters (quadBlock q))
 
+-- And whether its pair counts as exact.
+abbrev pub quadFound : ℕ → ℕ → Quad → Found
+quadFound n i q = ruledFound n i (blockFound (quadBlock q))
+
 -- The work of the tile of processor i in step k; w before it.
 unfoldable pub onDiagonalOf : ℕ → ℕ → ℕ → Work → Work
 onDiagonalOf n k i w =
@@ -50,13 +55,13 @@ onDiagonalOf n k i w =
       };
       row = sent (quadParameters n i (p .matrix));
       column = sent (quadParameters n i (p .matrix));
-      turns = turnsAfter n k (quadParameters n i (p .matrix)) (w .turns);
+      counts = countsAfter n k (quadFound n i (p .matrix)) (w .counts);
     }
 
 unfoldable pub rotatedOf : ℕ → ℕ → Work → ℕ → ℕ → Angle → Angle → Work
 rotatedOf n k w i j row column =
     cond (eqb i j) (onDiagonalOf n k i w)
-    (record { cells = offDiagonalOf (w .cells) (ltb i j) row column; row = row .tangent; column = column .tangent; turns = w .turns })
+    (record { cells = offDiagonalOf (w .cells) (ltb i j) row column; row = row .tangent; column = column .tangent; counts = w .counts })
 
 -- The cells that a tile works on: its own, p, or where it reads its wires what they bring, q.
 abbrev pub takenOf : Action → Part → Part → Part
@@ -67,11 +72,11 @@ workedOf n k a w i j row column = cond (rotates a) (rotatedOf n k w i j row colu
 
 -- What a tile begins its work with, on the cells p.
 abbrev pub workBefore : Tile → Part → Work
-workBefore x p = record { cells = p; row = x .«row_wire»; column = x .«column_wire»; turns = x .turns }
+workBefore x p = record { cells = p; row = x .«row_wire»; column = x .«column_wire»; counts = x .counts }
 
--- The tile with its cells, its parameter wires and its turns as they are after the tick.
+-- The tile with its cells, its parameter wires and its counts as they are after the tick.
 abbrev pub tileWorked : Tile → Work → Tile
-tileWorked x w = record { cells = w .cells; wires = x .wires; «row_wire» = w .row; «column_wire» = w .column; mark = x .mark; turns = w .turns }
+tileWorked x w = record { cells = w .cells; wires = x .wires; «row_wire» = w .row; «column_wire» = w .column; mark = x .mark; counts = w .counts }
 
 -- In step k of a run of order n.
 unfoldable pub turnedOf : ℕ → ℕ → Action → Tile → Part → ℕ → ℕ → Angle → Angle → Tile

@@ -7,16 +7,17 @@ ghost use Rattle.tile.specs.Turned.{rowsTurned, columnsTurned, bothTurne
 ghost use Rattle.tile.specs.Turned.{partNotFinite, quadNotFinite};
 use rotation::Angle;
 use rotation::Parameters;
+use runs::Counts;
 use tile_schedule::Action;
 use tile_wires::Part;
 use tile_wires::Quad;
 
-// The cells of a tile, what its parameter wires carry, and its turns in the current sweep, before its work or after it.
+// The cells of a tile, what its parameter wires carry, and its counts, before its work or after it.
 pub struct Work {
     pub cells: Part,
     pub row: f64,
     pub column: f64,
-    pub turns: u16,
+    pub counts: Counts,
 }
 
 // The cells that a tile works on: its own, or where it reads its wires what they bring.
@@ -64,22 +65,24 @@ pub fn rotated(
     }
     let part = before.cells;
     let cells = off_diagonal(part, i < j, row, column);
+    let counts = before.counts;
     Work {
         cells: cells,
         row: row.tangent,
         column: column.tangent,
-        turns: before.turns,
+        counts: counts,
     }
 }
 
-// The tile of processor i finds its tangent, sends it along its row and its column, and counts its turns.
+// The tile of processor i finds its tangent, sends it along its row and its column, and counts its turns and its rounded pairs.
 pub fn on_diagonal(n: usize, step: usize, i: usize, before: Work) -> Work
     ensures { λ r. ⌜ r ≡ onDiagonalOf n step i before ⌝ }
 {
     let part = before.cells;
     let a = part.matrix;
     let e = part.vectors;
-    let parameters = runs::ruled(n, i, rotation::of_pair(a.alpha, a.delta, a.beta));
+    let found = runs::ruled(n, i, rotation::of_pair(a.alpha, a.delta, a.beta));
+    let parameters = found.parameters;
     let sides = rotation::diagonal(parameters, a.alpha, a.delta, a.beta);
     let matrix = Quad {
         alpha: sides.left,
@@ -93,11 +96,12 @@ pub fn on_diagonal(n: usize, step: usize, i: usize, before: Work) -> Work
         vectors: vectors,
     };
     let tangent = rotation::sent(parameters);
+    let counts = before.counts;
     Work {
         cells: cells,
         row: tangent,
         column: tangent,
-        turns: runs::turns_after(n, step, parameters, before.turns),
+        counts: runs::counts_after(n, step, found, counts),
     }
 }
 

@@ -7,23 +7,24 @@ ghost use Rattle.tile.specs.Tiles.{theTile, operations};
 ghost use Rattle.tile.specs.Turned.{turnedOf};
 use crate::cells::Work;
 use rotation::Angle;
+use runs::Counts;
 use tile_wires::Part;
 
 mod cells;
 
 // The cells of a tile, its outgoing wires, each named after the corner that it leaves by, its outgoing parameter wires along its row and
-// along its column, its mark, and the turns in the current sweep, which a tile on the diagonal counts.
+// along its column, its mark, and what a tile on the diagonal counts.
 pub struct Tile {
     pub cells: Part,
     pub wires: Part,
     pub row_wire: f64,
     pub column_wire: f64,
     pub mark: bool,
-    pub turns: u16,
+    pub counts: Counts,
 }
 
 impl Tile {
-    // The tile in row i and column j, from 0, with its cells, its parameter wires and its turns as they are after a tick of a run of order n and of
+    // The tile in row i and column j, from 0, with its cells, its parameter wires and its counts as they are after a tick of a run of order n and of
     // so many steps. Its cell wires bring the cells `brought`, its parameter wires the tangents of `row` and `column`.
     pub fn turned(
         self,
@@ -41,21 +42,23 @@ impl Tile {
         let action = tile_schedule::action_at(steps, i, j, tick);
         let own = self.cells;
         let wires = self.wires;
+        let counts = self.counts;
         let before = Work {
             cells: cells::taken(action, own, brought),
             row: self.row_wire,
             column: self.column_wire,
-            turns: self.turns,
+            counts: counts,
         };
         let work = cells::worked(n, action, tick, before, i, j, row, column);
         let new = work.cells;
+        let counted = work.counts;
         Tile {
             cells: new,
             wires: wires,
             row_wire: work.row,
             column_wire: work.column,
             mark: self.mark,
-            turns: work.turns,
+            counts: counted,
         }
     }
 
@@ -68,13 +71,14 @@ impl Tile {
         let wires = self.wires;
         let out = tile_wires::after(phase, last, i, j, cells, wires);
         let mark = cells::is_marked(self.mark, cells);
+        let counts = self.counts;
         Tile {
             cells: cells,
             wires: out,
             row_wire: self.row_wire,
             column_wire: self.column_wire,
             mark: mark,
-            turns: self.turns,
+            counts: counts,
         }
     }
 }

@@ -11,14 +11,15 @@ use Rattle.tile_wires.specs.Wires.{quad}
 use Rattle.sizes.specs.Sizes.{processorsOf, firstLine}
 use Rattle.matrix.specs.Matrix.{entryOf}
 use Rattle.runs.specs.State.{identity, bordered}
+use Rattle.runs.specs.Counts.{counts}
 use Rattle.tile.specs.declared.Tile.{Tile}
 
 unfoldable pub zeroPart : Part
 zeroPart = record { matrix = quad plusZero plusZero plusZero plusZero; vectors = quad plusZero plusZero plusZero plusZero }
 
--- A tile with the given cells, its wires at +0, not marked, no turn counted.
+-- A tile with the given cells, its wires at +0, not marked, nothing counted.
 unfoldable pub startingTile : Part → Tile
-startingTile p = record { cells = p; wires = zeroPart; «row_wire» = plusZero; «column_wire» = plusZero; mark = false; turns = 0 }
+startingTile p = record { cells = p; wires = zeroPart; «row_wire» = plusZero; «column_wire» = plusZero; mark = false; counts = counts 0 0 }
 
 -- The part of A in the rows r and r + 1 and the columns c and c + 1.
 unfoldable pub quadAt : (ℕ → ℕ → Float) → ℕ → ℕ → Quad

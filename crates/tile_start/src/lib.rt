@@ -5,6 +5,7 @@ ghost use Rattle.matrix.specs.Matrix.{entryOf};
 ghost use Rattle.sizes.specs.Sizes.{mostProcessors, largestOrder};
 ghost use Rattle.runs.specs.State.{identity, bordered};
 ghost use Rattle.tile_start.specs.Beginning.{zeroPart, startingTile, quadAt, startTile};
+use runs::Counts;
 use tile::Tile;
 use tile_wires::Part;
 use tile_wires::Quad;
@@ -37,18 +38,22 @@ pub fn zero_tile() -> Tile
     tile_with(zero_part())
 }
 
-// A tile with these cells, its wires at +0, not marked, no turn counted.
+// A tile with these cells, its wires at +0, not marked, nothing counted.
 fn tile_with(cells: Part) -> Tile
     ensures { λ r. ⌜ r ≡ startingTile cells ⌝ }
 {
     let wires = zero_part();
+    let counts = Counts {
+        turns: 0,
+        rounded: 0,
+    };
     Tile {
         cells: cells,
         wires: wires,
         row_wire: 0.0,
         column_wire: 0.0,
         mark: false,
-        turns: 0,
+        counts: counts,
     }
 }
 

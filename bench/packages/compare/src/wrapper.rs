@@ -6,7 +6,7 @@ use reference::array::{self, Made};
 use reference::sizes::{ARRAY_WORDS, MOST_TILES};
 use reference::{by_hand, forecast, listing, ordering, plain, records, root, rotation, sheet};
 use reference::{Refusal, Way};
-use weimrukas::{Array, Parameters};
+use weimrukas::{Array, Found, Parameters, Ran};
 
 const DRAWS: usize = 1_000;
 
@@ -42,17 +42,19 @@ fn count<T: PartialEq>(
 
 fn compare_numbers(random: &mut Random, tally: &mut Tally) {
     let x = random.pattern();
-    let answer = weimrukas::root(x).map(f64::to_bits);
-    count(tally, answer, root::nearest(x).map(f64::to_bits), true);
+    let answer = weimrukas::root(x).map(|root| (root.value.to_bits(), root.exact));
+    let expected = root::nearest(x).map(|root| (root.value.to_bits(), root.exact));
+    count(tally, answer, expected, true);
     let [a, d, b] = random.pair();
     let expected = rotation::parameters(a, d, b);
-    let same = match weimrukas::parameters(a, d, b) {
-        Parameters::Still => expected.is_none(),
+    let Found { parameters, exact } = weimrukas::parameters(a, d, b);
+    let same = match parameters {
+        Parameters::Still => expected.turn.is_none(),
         Parameters::Turn(t, c, s) => {
-            expected.is_some() && same_bits(&[t, c, s], &rotation::recorded(expected))
+            expected.turn.is_some() && same_bits(&[t, c, s], &rotation::recorded(expected.turn))
         }
     };
-    count(tally, Ok(()), Ok(()), same);
+    count(tally, Ok(exact), Ok(expected.exact), same);
 }
 
 fn compare_step(lent: &Lent, random: &mut Random, tally: &mut Tally) {
@@ -63,11 +65,20 @@ fn compare_step(lent: &Lent, random: &mut Random, tally: &mut Tally) {
     let [left, right] = &mut other;
     let expected = ordering::pairs(lent.n, step, left, right);
     count(tally, answer, expected, one == other);
-    let mut one = random.filled(3 * MOST_TILES);
-    let mut other = one.clone();
-    let answer = weimrukas::records(lent.n, &lent.matrix, step, &mut one);
-    let expected = records::of_step(lent.n, &lent.matrix, step, &mut other);
-    count(tally, answer, expected, same_bits(&one, &other));
+    compare_records(lent, step, random, tally);
+}
+
+/// The flags are lent true or false, and of more, as many or fewer processors than there are.
+fn compare_records(lent: &Lent, step: usize, random: &mut Random, tally: &mut Tally) {
+    let flags = [false, true].map(|flag| (flag, random.below(MOST_TILES + 4)));
+    for (flag, room) in flags {
+        let (mut one, mut exact) = (random.filled(3 * MOST_TILES), vec![flag; room]);
+        let (mut other, mut bytes) = (one.clone(), vec![flag as u8; room]);
+        let answer = weimrukas::records(lent.n, &lent.matrix, step, &mut one, &mut exact);
+        let expected = records::of_step(lent.n, &lent.matrix, step, &mut other, &mut bytes);
+        let same = exact.iter().map(|flag| *flag as u8).eq(bytes);
+        count(tally, answer, expected, same && same_bits(&one, &other));
+    }
 }
 
 fn compare_forecast(lent: &Lent, tally: &mut Tally) {
@@ -90,7 +101,7 @@ fn compare_runs(lent: Lent, tally: &mut Tally) {
     let expected = plain::run(n, sweeps, &matrix, result, vectors, Way::Short);
     count(
         tally,
-        answer,
+        answer.map(|Ran { sweeps, rounded }| plain::Made { sweeps, rounded }),
         expected,
         same_bits(&one.concat(), &other.concat()),
     );
@@ -100,7 +111,11 @@ fn compare_runs(lent: Lent, tally: &mut Tally) {
     let expected = array::run(n, sweeps, &matrix, result, vectors, Way::Short);
     count(
         tally,
-        answer.map(|weimrukas::Made { sweeps, ticks }| Made { sweeps, ticks }),
+        answer.map(|made| Made {
+            sweeps: made.sweeps,
+            ticks: made.ticks,
+            rounded: made.rounded,
+        }),
         expected,
         same_bits(&one.concat(), &other.concat()),
     );

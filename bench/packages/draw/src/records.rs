@@ -28,7 +28,8 @@ impl Random {
         let kind = self.below(2 * ENTRY_KINDS);
         for tile in tiles.chunks_exact_mut(TILE_WORDS) {
             tile.fill_with(|| self.tile_word(kind));
-            (tile[TILE_WORDS - 2], tile[TILE_WORDS - 1]) = (self.mark(), self.turns());
+            let rest = [self.mark(), self.count(), self.count()];
+            tile[TILE_WORDS - rest.len()..].copy_from_slice(&rest);
         }
         self.lent_words(words)
     }
@@ -50,8 +51,8 @@ impl Random {
         }
     }
 
-    /// A count of turns: none, one, around the most, or any word.
-    fn turns(&mut self) -> u64 {
+    /// A count of turns or of rounded pairs: none, one, around the most, or any word.
+    fn count(&mut self) -> u64 {
         match self.below(6) {
             0 => self.word(),
             1 => self.word() >> self.below(64),

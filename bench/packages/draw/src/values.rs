@@ -10,9 +10,12 @@ const TOP: u64 = 0x7FF * POWER;
 /// Kinds of entries that a matrix may have throughout.
 pub const ENTRY_KINDS: usize = 12;
 /// Kinds of matrices that soon have a quiet sweep.
-const SETTLING_KINDS: usize = 5;
+const SETTLING_KINDS: usize = 6;
 /// All of them.
 pub const KINDS: usize = ENTRY_KINDS + SETTLING_KINDS;
+
+/// The largest whole number whose square has no more than 53 digits.
+const LONGEST_ROOT: u64 = 94_906_265;
 
 impl Random {
     /// A value from -1 to 1.
@@ -70,6 +73,28 @@ impl Random {
         f64::from_bits(self.near((y * y * scale).to_bits()))
     }
 
+    /// The square of a number of up to 27 digits, of any size, subnormal ones too: its root is exact.
+    pub fn square(&mut self) -> f64 {
+        let number = ((self.word() % LONGEST_ROOT) >> self.below(26)).max(1);
+        let scale = 2f64.powi(self.below(1023) as i32 - 537);
+        (number * number) as f64 * scale * scale
+    }
+
+    /// One pattern above or below such a square.
+    pub fn beside_square(&mut self) -> f64 {
+        let bits = self.square().to_bits();
+        f64::from_bits(if self.one_in(2) { bits + 1 } else { bits - 1 })
+    }
+
+    /// Twice such a square, which is none, or a subnormal value.
+    pub fn other_than_square(&mut self) -> f64 {
+        if self.one_in(2) {
+            2.0 * self.square()
+        } else {
+            f64::from_bits((self.word() % POWER) >> self.below(52))
+        }
+    }
+
     /// A value of either sign whose exponent's field is from low to high.
     fn within(&mut self, low: u64, high: u64) -> f64 {
         let field = low + self.word() % (high - low + 1);
@@ -96,7 +121,8 @@ impl Random {
 
     /// The entry in row i and column j, from 0, of a matrix of one of `SETTLING_KINDS` kinds: zeros of either sign beside
     /// a diagonal; lines so far apart in size that every tangent is zero; every other line so, the others ordinary;
-    /// small entries beside a diagonal of whole numbers; or the same with a pair at the first two lines that spoils a run.
+    /// small entries beside a diagonal of whole numbers; the same with a pair at the first two lines that spoils a run; or
+    /// powers of two so far below a diagonal that turns of the first sweep have exact roots.
     pub fn settling_entry(&mut self, kind: usize, i: usize, j: usize) -> f64 {
         let far = |i: usize| 2f64.powi(600 + 5 * i as i32);
         let small = 2f64.powi(-10 - self.below(40) as i32);
@@ -107,6 +133,8 @@ impl Random {
             2 if i == j && i % 2 == 1 => far(i),
             1 | 2 => self.unit(),
             4 if i < 2 => f64::MAX,
+            5 if i == j => (i + 1) as f64 * 2f64.powi(60),
+            5 => 2f64.powi(self.below(4) as i32).copysign(self.unit()),
             _ if i == j => (i + 1) as f64,
             _ => self.unit() * small,
         }
@@ -117,12 +145,18 @@ impl Random {
         (0..length).map(|_| f64::from_bits(self.word())).collect()
     }
 
-    /// Entries a_pp, a_qq and a_pq of a pair.
+    /// Entries a_pp, a_qq and a_pq of a pair. In one case of four the quotient has few digits and is often so large that
+    /// the pair turns with exact roots.
     pub fn pair(&mut self) -> [f64; 3] {
         let (kind, scale) = (self.below(ENTRY_KINDS), self.below(200) as i32 - 100);
-        match self.below(3) {
+        match self.below(4) {
             0 => [0; 3].map(|_| self.pattern()),
             1 => [0, 0, scale].map(|scale| self.unit() * 2f64.powi(scale)),
+            2 => [
+                0.0,
+                (1 + self.below(1 << 14)) as f64,
+                2f64.powi(scale).copysign(self.unit()),
+            ],
             _ => [0; 3].map(|_| self.entry(kind)),
         }
     }

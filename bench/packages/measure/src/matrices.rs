@@ -61,4 +61,5 @@ pub fn sweeps_made(lent: &Lent) -> usize {
         Way::Short,
     )
     .expect("the matrix is ordinary")
+    .sweeps
 }

@@ -45,7 +45,7 @@ fn print_row(name: &str, rounds: [Round; 3]) {
 }
 
 fn library(x: f64) -> f64 {
-    weimrukas::root(x).unwrap_or(f64::NAN)
+    weimrukas::root(x).map_or(f64::NAN, |root| root.value)
 }
 
 /// The processor's square root, by a call as the library's is.
@@ -56,7 +56,7 @@ fn processor(x: f64) -> f64 {
 
 #[inline(never)]
 fn reference(x: f64) -> f64 {
-    root::nearest(x).unwrap_or(f64::NAN)
+    root::nearest(x).map_or(f64::NAN, |root| root.value)
 }
 
 /// Nanoseconds a call where no call waits for another.

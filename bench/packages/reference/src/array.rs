@@ -1,5 +1,5 @@
-//! The array and its whole run (document 01, "The array"; document 02, odd orders and quiet sweeps), with the processor's
-//! square root.
+//! The array and its whole run (document 01, "The array"; document 02, odd orders, quiet sweeps and rounded roots), with
+//! the processor's square root.
 use crate::checks;
 use crate::sizes::{self, is_odd, MOST_TILES};
 use crate::tile::{wires_set, Cell, Tile};
@@ -30,11 +30,13 @@ enum Action {
 /// What the tiles at each distance from the diagonal do.
 type Actions = [Action; MOST_TILES];
 
-/// The sweeps and the ticks of a run up to its first quiet sweep, or of all its sweeps.
+/// The sweeps and the ticks of a run up to its first quiet sweep, or of all its sweeps, and its pairs with a rounded root,
+/// as the tiles counted them.
 #[derive(Clone, Copy, Debug, PartialEq, Eq)]
 pub struct Made {
     pub sweeps: usize,
     pub ticks: usize,
+    pub rounded: usize,
 }
 
 /// Runs the sweeps, leaves the last matrix and the eigenvectors in the two results, and answers what was made.
@@ -69,7 +71,12 @@ pub fn run(
         return Err(Refusal::of(8));
     }
     array.write_cells(n, result, vectors);
-    Ok(Made { sweeps, ticks })
+    let rounded = array.rounded();
+    Ok(Made {
+        sweeps,
+        ticks,
+        rounded,
+    })
 }
 
 impl Array {
@@ -106,6 +113,13 @@ impl Array {
 
     pub fn is_spoiled(&self) -> bool {
         self.tiles.iter().any(|tile| tile.marked)
+    }
+
+    /// What the tiles on the diagonal counted.
+    fn rounded(&self) -> usize {
+        (0..self.side)
+            .map(|i| self.tile(i, i).rounded as usize)
+            .sum()
     }
 
     /// Whether every tile has stopped. A tile begins in the tick of its distance from the diagonal, and stops 3 ticks a

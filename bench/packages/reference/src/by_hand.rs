@@ -13,6 +13,7 @@ const ROW: usize = 16;
 const COLUMN: usize = 17;
 const MARK: usize = 18;
 const TURNS: usize = 19;
+const ROUNDED: usize = 20;
 /// How far the eigenvectors' corners are from those of the matrix.
 const VECTORS: usize = 4;
 
@@ -84,13 +85,15 @@ fn tile_of(words: &[u64]) -> Tile {
         vector: value(k + VECTORS),
     };
     let corners = |k: usize| [[cell(k), cell(k + 1)], [cell(k + 2), cell(k + 3)]];
+    let count = |k: usize| u16::try_from(words[k]).unwrap_or(u16::MAX);
     Tile {
         cells: corners(CELLS),
         wires: corners(WIRES),
         row: value(ROW),
         column: value(COLUMN),
         marked: words[MARK] != 0,
-        turns: u16::try_from(words[TURNS]).unwrap_or(u16::MAX),
+        turns: count(TURNS),
+        rounded: count(ROUNDED),
     }
 }
 
@@ -101,6 +104,7 @@ fn put_tile(tile: &Tile, words: &mut [u64]) {
     words[COLUMN] = bits(tile.column);
     words[MARK] = tile.marked as u64;
     words[TURNS] = tile.turns.into();
+    words[ROUNDED] = tile.rounded.into();
 }
 
 fn put_corners(corners: &Corners, words: &mut [u64]) {

@@ -1,5 +1,6 @@
-//! The parameters of a pair (document 01, "One rotation"; document 02 (v)).
+//! The parameters of a pair (document 01, "One rotation"; document 02 (v) and (vii)).
 use crate::numbers::bits;
+use crate::root::is_exact;
 
 /// Tangent, cosine and sine of a turn.
 #[derive(Clone, Copy)]
@@ -9,14 +10,34 @@ pub struct Turn {
     pub s: f64,
 }
 
-/// The turn of a pair, or none where it is still.
-pub fn parameters(a: f64, d: f64, b: f64) -> Option<Turn> {
+/// The turn of a pair, or none where it is still, and whether both roots were exact.
+#[derive(Clone, Copy)]
+pub struct Found {
+    pub turn: Option<Turn>,
+    pub exact: bool,
+}
+
+/// Of a pair without a root.
+pub const STILL: Found = Found {
+    turn: None,
+    exact: true,
+};
+
+pub fn parameters(a: f64, d: f64, b: f64) -> Found {
     if b == 0.0 {
-        return None;
+        return STILL;
     }
     let xi = (d / 2.0 - a / 2.0) / b;
     let sign = if xi < 0.0 { -1.0 } else { 1.0 };
-    of_tangent(sign / (xi.abs() + (1.0 + xi * xi).sqrt()))
+    let t = sign / (xi.abs() + (1.0 + xi * xi).sqrt());
+    Found {
+        turn: of_tangent(t),
+        exact: !t.is_nan() && has_exact_root(1.0 + xi * xi) && has_exact_root(1.0 + t * t),
+    }
+}
+
+fn has_exact_root(x: f64) -> bool {
+    is_exact(x, x.sqrt())
 }
 
 /// The turn with the tangent t, or none where it is still.

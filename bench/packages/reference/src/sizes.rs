@@ -8,7 +8,7 @@ pub const MOST_SWEEPS: usize = 16;
 pub const MOST_TILES: usize = processors(MOST_LINES);
 /// Words before the first tile: the order, the sweeps and the number of the next tick.
 pub const HEAD_WORDS: usize = 3;
-pub const TILE_WORDS: usize = 20;
+pub const TILE_WORDS: usize = 21;
 pub const ARRAY_WORDS: usize = HEAD_WORDS + MOST_TILES * MOST_TILES * TILE_WORDS;
 
 /// The length of a sheet of order n whose codes have one byte each.

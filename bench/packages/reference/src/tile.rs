@@ -1,6 +1,6 @@
-//! One tile: its rotation, its wires, its mark, its count of turns (document 01, "The array"; document 02, odd orders and
-//! quiet sweeps). Rows and columns of tiles are counted from 0.
-use crate::rotation::{of_tangent, parameters, Turn};
+//! One tile: its rotation, its wires, its mark, its counts (document 01, "The array"; document 02, odd orders, quiet
+//! sweeps and rounded roots). Rows and columns of tiles are counted from 0.
+use crate::rotation::{of_tangent, parameters, Turn, STILL};
 
 /// An entry of the matrix and the like entry of the eigenvectors, which move together.
 #[derive(Clone, Copy, Default)]
@@ -13,7 +13,8 @@ pub struct Cell {
 pub type Corners = [[Cell; 2]; 2];
 
 /// Beside its cells a tile holds its outgoing wires: one by each corner, and those that pass a tangent along its row
-/// and its column. On the diagonal it counts its turns in the current sweep.
+/// and its column. On the diagonal it counts its turns in the current sweep, and in all sweeps its pairs with a rounded
+/// root.
 #[derive(Clone, Copy, Default)]
 pub struct Tile {
     pub cells: Corners,
@@ -22,6 +23,7 @@ pub struct Tile {
     pub column: f64,
     pub marked: bool,
     pub turns: u16,
+    pub rounded: u16,
 }
 
 /// Which wires of a tile are set in a phase, by row and column of their corners (document 003, Program 3).
@@ -46,17 +48,18 @@ impl Tile {
 
     fn rotate_on_diagonal(&mut self, always_still: bool) {
         let [[a, b], [_, d]] = self.cells.map(|row| row.map(|cell| cell.entry));
-        let turn = if always_still {
-            None
+        let found = if always_still {
+            STILL
         } else {
             parameters(a, d, b)
         };
-        let (t, a, d) = match turn {
+        let (t, a, d) = match found.turn {
             Some(Turn { t, .. }) => (t, a - t * b, d + t * b),
             None => (0.0, a, d),
         };
-        self.turns = self.turns.saturating_add(turn.is_some() as u16);
-        self.turn_columns(turn);
+        self.turns = self.turns.saturating_add(found.turn.is_some() as u16);
+        self.rounded = self.rounded.saturating_add(!found.exact as u16);
+        self.turn_columns(found.turn);
         let [[alpha, beta], [gamma, delta]] = &mut self.cells;
         (alpha.entry, beta.entry) = (a, 0.0);
         (gamma.entry, delta.entry) = (0.0, d);

@@ -1,6 +1,7 @@
+use mathlib.Core.Path.{ap, _∙_}
 use native.Mathlib.Omega.{arith}
-use lib.ListN.{length-set}
-use Rattle.array_words.proofs.WordsWritten.{tile-written}
+use lib.ListN.{length, length-set}
+use Rattle.array_words.proofs.WordsWritten.{written-long, tile-written}
 use borrow.Author.Needs.{needs}
 use Rattle.array_words.proofs.store_tile.Statement.{statement}
 use Rattle.array_words.proofs.store_tile.Tie as tie
@@ -50,28 +51,25 @@ mul-words-3 c = search needs
 slice-write-words-3 : tie.Need-slice-write-words-3
 slice-write-words-3 c = simp length-set (omega arith)
 
-cast-words-2 : tie.Need-cast-words-2
-cast-words-2 c = search needs
+add-store-counts : tie.Need-add-store-counts
+add-store-counts c = search needs
 
-add-words-4 : tie.Need-add-words-4
-add-words-4 c = search needs
-
-mul-words-4 : tie.Need-mul-words-4
-mul-words-4 c = search needs
-
-slice-write-words-4 : tie.Need-slice-write-words-4
-slice-write-words-4 c = simp length-set (omega arith)
+store-counts-requires : tie.Need-store-counts-requires
+store-counts-requires c κs = simp length-set (omega arith)
 
 same-length : tie.Need-same-length
-same-length c = simp length-set (omega arith)
+same-length c =
+    let kept = simp length-set at (ap length (c .before .before .store-counts .ensures) ∙ written-long _ _ _ _) in omega (arith, kept)
 
 returns : tie.Need-returns
 returns c =
-    let column = c .before .before in
+    let counts = c .before .before in
+    let column = counts .before .before .before in
     let row = column .before in
     let wires = row .before .before .before in
     let cells = wires .before .before .before .before in
     tile-written _ _ _ (cells .store-part .ensures) (wires .store-part2 .ensures) (row .to-bits .ensures) (column .to-bits2 .ensures)
+    (counts .store-counts .ensures)
 
 pub store-tile-spec : {M : Type 1} → statement M
 store-tile-spec =
@@ -92,9 +90,7 @@ store-tile-spec =
     add-words-3
     mul-words-3
     slice-write-words-3
-    cast-words-2
-    add-words-4
-    mul-words-4
-    slice-write-words-4
+    add-store-counts
+    store-counts-requires
     same-length
     returns)

@@ -3,6 +3,12 @@ use borrow.Author.Needs.{needs}
 use Rattle.array_words.proofs.tile_in.Statement.{statement}
 use Rattle.array_words.proofs.tile_in.Tie as tie
 
+add-counts-in : tie.Need-add-counts-in
+add-counts-in c = search needs
+
+counts-in-requires : tie.Need-counts-in-requires
+counts-in-requires c κs = search needs
+
 part-in-requires : tie.Need-part-in-requires
 part-in-requires c κs = search needs
 
@@ -30,31 +36,26 @@ add-word-at c = search needs
 word-at-requires : tie.Need-word-at-requires
 word-at-requires c κs = search needs
 
-add-turns-at : tie.Need-add-turns-at
-add-turns-at c = search needs
-
-turns-at-requires : tie.Need-turns-at-requires
-turns-at-requires c κs = search needs
-
 returns : tie.Need-returns
 unfolding tileIn
 returns c =
-    let w = c .before in
-    let v = w .before .before in
+    let v = c .before .before in
     let p = v .before in
     rw (
+      p .before .before .counts-in .ensures,
       p .before .part-in .ensures,
       p .part-in2 .ensures,
       v .value-at .ensures,
-      w .before .value-at2 .ensures,
-      w .word-at .ensures,
-      c .turns-at .ensures,
+      c .before .value-at2 .ensures,
+      c .word-at .ensures,
     )
 
 pub tile-in-spec : {M : Type 1} → statement M
 tile-in-spec =
     tie.close
     (tie.spec
+    add-counts-in
+    counts-in-requires
     part-in-requires
     add-part-in
     part-in-requires-2
@@ -64,6 +65,4 @@ tile-in-spec =
     value-at-requires-2
     add-word-at
     word-at-requires
-    add-turns-at
-    turns-at-requires
     returns)

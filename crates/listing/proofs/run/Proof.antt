@@ -57,7 +57,7 @@ returns-2 c =
     let told = printed .before .before .before .before .before in
     let ran = at-run (told .before .before) in
     let room = enough (ran .before .before .before) in
-    run-printed _ _ _ _ _ room _ _ _ (told .ticks .given .1) (ran .run .ensures) (printed .print .ensures)
+    run-printed _ _ _ _ _ room _ _ _ _ (told .ticks .given .1) (ran .run .ensures) (printed .print .ensures)
 
 same-length-4 : tie.Need-same-length-4
 same-length-4 c = search needs

@@ -34,7 +34,7 @@ make-sweeps-requires : tie.Need-make-sweeps-requires
 make-sweeps-requires c κs =
     let at-identity = c .before .before .before .before in
     let b = begun (start-of (at-identity .before)) in
-    (b .order, omega (arith, b .result-long), omega (arith, b .vectors-long))
+    (b .order, b .few, omega (arith, b .result-long), omega (arith, b .vectors-long))
 
 transpose-requires : tie.Need-transpose-requires
 transpose-requires c κs = search needs
@@ -60,7 +60,7 @@ returns c =
     let at-identity = at-sweeps .before .before .before .before .before in
     let at-copy = at-identity .before .before .before .before in
     let known = at-copy .before .before .before .before in
-    run-made _ _ _ (known .shared-slice-known .given) _ _ (begun (known .before)) _ _ _ _ _ _ (at-copy .copy .ensures)
+    run-made _ _ _ (known .shared-slice-known .given) _ _ (begun (known .before)) _ _ _ _ _ _ _ (at-copy .copy .ensures)
     (at-identity .set-identity .ensures) (at-sweeps .make-sweeps .ensures) (at-columns .transpose .ensures) (at-end .finish .ensures)
 
 pub run-accepted-spec : {M : Type 1} → statement M

@@ -1,9 +1,12 @@
 use mathlib.Core.Path.{sym, ap, _∙_}
-use Prim.Native.Nat.{_+_, _/_, _%_, _^_}
+use Prim.Native.Nat.{ℕ, _+_, _/_, _%_, _^_}
 use native.Mathlib.Omega.{arith}
 use Rattle.float64.proofs.Patterns.{field-units, subnormal-units}
 use Rattle.root.specs.Sqrt.{rootUnits}
-use Rattle.root.proofs.Scales.{wide, root-units-at}
+use Rattle.root.specs.Exact.{exactUnits}
+use Rattle.root.proofs.Scales.{wide}
+use Rattle.root.proofs.ExactDigits.{root-at}
+use Rattle.root.specs.declared.Root.the-variants.{Of}
 use borrow.Author.Needs.{needs}
 use Rattle.root.proofs.positive.Statement.{statement}
 use Rattle.root.proofs.positive.Tie as tie
@@ -12,7 +15,7 @@ subnormal-requires : tie.Need-subnormal-requires
 subnormal-requires c κs = search needs
 
 returns : tie.Need-returns
-returns c = c .subnormal .ensures ∙ ap rootUnits (sym (subnormal-units _ (omega arith)))
+returns c = c .subnormal .ensures ∙ ap (λ (n : ℕ). Of (rootUnits n) (exactUnits n)) (sym (subnormal-units _ (omega arith)))
 
 add-m : tie.Need-add-m
 add-m c = search needs
@@ -40,7 +43,7 @@ returns-2 c =
     let a = c .before .before .before in
     let b = a .args .b in
     c .scaled .ensures
-    ∙ root-units-at _ (b % 2 ^ 52 + 2 ^ 52) (b / 2 ^ 52 + 52) (field-units b (omega arith) (a .pre .1)) (omega arith) (omega arith) (omega arith)
+    ∙ root-at _ (b % 2 ^ 52 + 2 ^ 52) (b / 2 ^ 52 + 52) (field-units b (omega arith) (a .pre .1)) (omega arith) (omega arith) (omega arith)
 
 pub positive-spec : {M : Type 1} → statement M
 positive-spec =

@@ -7,7 +7,8 @@ use Rattle.float64.specs.Units.{unitsOf}
 use Rattle.float64.proofs.Zeros.{above-zero, equal-zero}
 use Rattle.float64.proofs.PositiveValues.{above-no-nan, above-pattern, finite-pattern, infinite-pattern}
 use Rattle.root.specs.Sqrt.{rootUnits}
-use Rattle.root.proofs.RootCases.{sqrt-positive, sqrt-infinite, sqrt-zero, sqrt-refused}
+use Rattle.root.specs.Exact.{exactUnits, rootAnswered}
+use Rattle.root.proofs.RootCases.{answer-positive, answer-infinite, answer-zero, answer-refused}
 use Rattle.root.proofs.sqrt.Statement.{statement}
 use Rattle.root.proofs.sqrt.Tie as tie
 
@@ -25,17 +26,19 @@ returns c =
     let a = c .before .before .before in
     let x = a .args .x in
     let p = finite-pattern x (held a) (c .before .before .if1 .taken) (c .before .if2 .taken) in
-    ap given (c .positive .ensures ∙ ap (λ (y : Float). rootUnits (unitsOf y)) (ofBits-toBits binary64 x (held a))) ∙ sym (sqrt-positive x p)
+    ap rootAnswered (c .positive .ensures)
+    ∙ ap (λ (y : Float). given (rootUnits (unitsOf y), exactUnits (unitsOf y))) (ofBits-toBits binary64 x (held a))
+    ∙ answer-positive x p
 
 returns-2 : tie.Need-returns-2
 returns-2 c =
-    sqrt-infinite _ (sym (above-zero _) ∙ c .before .if1 .taken) (infinite-pattern _ (held (c .before .before)) (c .before .if1 .taken) (c .if2 .left))
+    answer-infinite _ (sym (above-zero _) ∙ c .before .if1 .taken) (infinite-pattern _ (held (c .before .before)) (c .before .if1 .taken) (c .if2 .left))
 
 returns-3 : tie.Need-returns-3
-returns-3 c = sqrt-zero _ (sym (equal-zero _) ∙ c .if3 .taken)
+returns-3 c = answer-zero _ (sym (equal-zero _) ∙ c .if3 .taken)
 
 returns-4 : tie.Need-returns-4
-returns-4 c = sqrt-refused _ (sym (above-zero _) ∙ c .before .if1 .left) (sym (equal-zero _) ∙ c .if3 .left)
+returns-4 c = answer-refused _ (sym (above-zero _) ∙ c .before .if1 .left) (sym (equal-zero _) ∙ c .if3 .left)
 
 pub sqrt-spec : {M : Type 1} → statement M
 sqrt-spec =

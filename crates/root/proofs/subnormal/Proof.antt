@@ -1,7 +1,8 @@
 use mathlib.Core.Path.{_∙_}
 use Prim.Native.Nat.{_<_}
 use native.Mathlib.Omega.{arith}
-use Rattle.root.proofs.Scales.{wide, root-units-at, Raising, raising-start, raising-next}
+use Rattle.root.proofs.Scales.{wide, Raising, raising-start, raising-next}
+use Rattle.root.proofs.ExactDigits.{root-at}
 use Rattle.root.proofs.subnormal.Statement.{statement}
 use Rattle.root.proofs.subnormal.Tie as tie
 
@@ -61,7 +62,7 @@ returns c =
     let past-loop = c .before .before in
     let loop = past-loop .before .loop in
     let raised = loop .inv .1 in
-    c .scaled .ensures ∙ root-units-at _ (loop .m) (loop .z) (raised .value) (past-loop .loop-test .left) (raised .m-lt) (raised .z-ge)
+    c .scaled .ensures ∙ root-at _ (loop .m) (loop .z) (raised .value) (past-loop .loop-test .left) (raised .m-lt) (raised .z-ge)
 
 pub subnormal-spec : {M : Type 1} → statement M
 subnormal-spec =

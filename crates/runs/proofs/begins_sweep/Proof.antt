@@ -1,6 +1,6 @@
 use native.Mathlib.Omega.{arith}
 use borrow.Author.Needs.{needs}
-use Rattle.runs.proofs.TurnCounts.{begins-none, begins-by}
+use Rattle.runs.proofs.ProcessorCounts.{begins-none, begins-by}
 use Rattle.runs.proofs.begins_sweep.Statement.{statement}
 use Rattle.runs.proofs.begins_sweep.Tie as tie
 

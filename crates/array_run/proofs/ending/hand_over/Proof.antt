@@ -32,6 +32,9 @@ returns c =
 write-cells-requires : tie.Need-write-cells-requires
 write-cells-requires c κs = search needs
 
+rounded-pairs-requires : tie.Need-rounded-pairs-requires
+rounded-pairs-requires c κs = search needs
+
 same-length-3 : tie.Need-same-length-3
 same-length-3 c = search needs
 
@@ -40,9 +43,10 @@ same-length-4 c = search needs
 
 returns-2 : tie.Need-returns-2
 returns-2 c =
-    let written = c .before .before .before .before in
+    let written = c .before .before .before .before .before in
     let test = written .before .before .before in
     cells-over _ (sym (test .before .is-marked .ensures) ∙ test .if1 .left) (written .write-cells .ensures .0) (written .write-cells .ensures .1)
+    (c .rounded-pairs .ensures)
 
 pub hand-over-spec : {M : Type 1} → statement M
 hand-over-spec =
@@ -55,6 +59,7 @@ hand-over-spec =
     same-length-2
     returns
     write-cells-requires
+    rounded-pairs-requires
     same-length-3
     same-length-4
     returns-2)

@@ -19,9 +19,10 @@ is-marked-requires c κs = search needs
 
 returns : tie.Need-returns
 returns c = λ s.
-    let chosen = c .before .before .before .before in
+    let marked = c .before in
+    let chosen = marked .before .before .before .before in
     let phase = chosen .phase-in .ensures ∙ ap phaseIn (chosen .before .action-at .ensures) in
-    tile-settled s (chosen .before .before .args .self) _ _ _ _ phase (c .before .after .ensures) (c .is-marked .ensures)
+    tile-settled s (chosen .before .before .args .self) _ _ _ _ phase (marked .before .after .ensures) (marked .is-marked .ensures)
 
 pub after-spec : {M : Type 1} → statement M
 after-spec =

@@ -15,8 +15,8 @@ worked-requires c κs = search needs
 returns : tie.Need-returns
 unfolding turnedOf
 returns c =
-    let work = c .before in
-    let chosen = work .before .before .before .before in
+    let work = c .before .before in
+    let chosen = work .before .before .before .before .before in
     rw (← (chosen .action-at .ensures), ← (work .before .taken .ensures), ← (work .worked .ensures))
 
 pub turned-spec : {M : Type 1} → statement M

@@ -18,18 +18,19 @@ turn-columns-requires c κs = search needs
 sent-requires : tie.Need-sent-requires
 sent-requires c κs = search needs
 
-turns-after-requires : tie.Need-turns-after-requires
-turns-after-requires c κs = search needs
+counts-after-requires : tie.Need-counts-after-requires
+counts-after-requires c κs = search needs
 
 returns : tie.Need-returns
 returns c =
-    let turned = c .before .before in
+    let sent = c .before .before in
+    let turned = sent .before in
     let sides = turned .before in
     let ruled = sides .before in
     worked _ _ _ _ (ruled .before .of-pair .ensures) (ruled .ruled .ensures) (sides .diagonal .ensures) (turned .turn-columns .ensures)
-    (c .before .sent .ensures) (c .turns-after .ensures)
+    (sent .sent .ensures) (c .counts-after .ensures)
 
 pub on-diagonal-spec : {M : Type 1} → statement M
 on-diagonal-spec =
     tie.close
-    (tie.spec of-pair-requires ruled-requires diagonal-requires turn-columns-requires sent-requires turns-after-requires returns)
+    (tie.spec of-pair-requires ruled-requires diagonal-requires turn-columns-requires sent-requires counts-after-requires returns)

@@ -19,7 +19,7 @@ off-diagonal-requires c κs = search needs
 
 returns-2 : tie.Need-returns-2
 unfolding rotatedOf
-returns-2 c = rw (ne-eqb _ _ (c .before .before .if1 .left), ← (c .off-diagonal .ensures))
+returns-2 c = let turned = c .before in rw (ne-eqb _ _ (turned .before .before .if1 .left), ← (turned .off-diagonal .ensures))
 
 pub rotated-spec : {M : Type 1} → statement M
 rotated-spec = tie.close (tie.spec diagonal-step-requires on-diagonal-requires returns off-diagonal-requires returns-2)

@@ -11,7 +11,8 @@ extern "C" {
     fn dlsym(library: *mut c_void, name: *const c_char) -> *mut c_void;
 }
 
-/// A run that sets two numbers, three or four. Before version 0.7.0 the sweeps made are not among them.
+/// A run that sets two numbers, three, four or five. Before version 0.7.0 the sweeps made are not among them, and before
+/// 0.8.0 the rounded pairs are not.
 #[rustfmt::skip]
 type RunOf2 = unsafe extern "C" fn(
     usize, usize, *const f64, usize, *mut f64, usize, *mut f64, usize, *mut usize, *mut usize,
@@ -24,11 +25,17 @@ type RunOf3 = unsafe extern "C" fn(
 type RunOf4 = unsafe extern "C" fn(
     usize, usize, *const f64, usize, *mut f64, usize, *mut f64, usize, *mut usize, *mut usize, *mut usize, *mut usize,
 ) -> u8;
+#[rustfmt::skip]
+type RunOf5 = unsafe extern "C" fn(
+    usize, usize, *const f64, usize, *mut f64, usize, *mut f64, usize, *mut usize, *mut usize, *mut usize, *mut usize,
+    *mut usize,
+) -> u8;
 
 /// The plain run and the array's run.
 enum Runs {
     WithoutSweeps(RunOf2, RunOf3),
     WithSweeps(RunOf3, RunOf4),
+    WithRounded(RunOf4, RunOf5),
 }
 
 /// Whether a run is accepted that is lent this and these numbers.
@@ -72,7 +79,12 @@ impl Library {
             };
             let plain_run = function(c"weimrukas_plain_run");
             let array_run = function(c"weimrukas_array_run");
-            Library(if header.contains("sweeps_made") {
+            Library(if header.contains("size_t *WEIMRUKAS_RESTRICT rounded") {
+                Runs::WithRounded(
+                    std::mem::transmute::<*mut c_void, RunOf4>(plain_run),
+                    std::mem::transmute::<*mut c_void, RunOf5>(array_run),
+                )
+            } else if header.contains("sweeps_made") {
                 Runs::WithSweeps(
                     std::mem::transmute::<*mut c_void, RunOf3>(plain_run),
                     std::mem::transmute::<*mut c_void, RunOf4>(array_run),
@@ -90,6 +102,7 @@ impl Library {
         match self.0 {
             Runs::WithoutSweeps(run, _) => accepts!(run, lent, row, column),
             Runs::WithSweeps(run, _) => accepts!(run, lent, sweeps, row, column),
+            Runs::WithRounded(run, _) => accepts!(run, lent, sweeps, rounded, row, column),
         }
     }
 
@@ -97,6 +110,9 @@ impl Library {
         match self.0 {
             Runs::WithoutSweeps(_, run) => accepts!(run, lent, ticks, row, column),
             Runs::WithSweeps(_, run) => accepts!(run, lent, sweeps, ticks, row, column),
+            Runs::WithRounded(_, run) => {
+                accepts!(run, lent, sweeps, ticks, rounded, row, column)
+            }
         }
     }
 }
