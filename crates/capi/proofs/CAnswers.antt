@@ -108,7 +108,7 @@ module _ (old : Float) (exact : ℕ) {a : Answered (Float × Bool)} where
 
 -- ---- a value
 module _ {A : Type 0} (old : A) {a : Answered A} where
-  pub value-given : (x : A) → given x ≡ a → (0, x) ≡ numberAndValue a old
+  value-given : (x : A) → given x ≡ a → (0, x) ≡ numberAndValue a old
   unfolding numberAndValue numberAnswered
   value-given x e = rw (← e)
 
