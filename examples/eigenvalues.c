@@ -9,8 +9,9 @@
 #include <stdlib.h>
 #include <string.h>
 
-/* A sheet of either form fits into SHEET bytes. */
+/* A sheet of either form fits into SHEET bytes, and one of two more lines into JOINT. */
 enum { N = 4, SWEEPS = 16, ENTRIES = N * N, SHEET = WEIMRUKAS_LONG_SHEET_LENGTH(N), TEXT = WEIMRUKAS_TEXT_LENGTH(N) };
+enum { JOINT = WEIMRUKAS_LONG_SHEET_LENGTH(N + 2) };
 
 static const uint16_t codes[N] = {7, 19, 42, 201};
 static double matrix[ENTRIES] = {
@@ -77,6 +78,20 @@ static void run_by_hand(void) {
            rounded);
 }
 
+/* Joins a sheet with one of other lines, whose second code takes two bytes, and tries to join it with itself. */
+static void join_sheet(const uint8_t *sheet, size_t length) {
+    static const uint16_t other_codes[2] = {8, 300};
+    static const double other_matrix[4] = {2.0, 0.5, 0.5, 1.0};
+    uint8_t other[WEIMRUKAS_LONG_SHEET_LENGTH(2)], joint[JOINT];
+    size_t other_length = 0, joint_length = 0;
+    accepted(weimrukas_write_sheet(2, 4, other_codes, 2, other_matrix, 4, other, sizeof other, &other_length, &row,
+                                   &column));
+    accepted(weimrukas_join_sheets(sheet, length, other, other_length, joint, JOINT, &joint_length, &row, &column));
+    printf("joint sheet of %zu bytes: order %d, %d sweeps\n", joint_length, joint[0] % 128, joint[1]);
+    int number = weimrukas_join_sheets(sheet, length, sheet, length, joint, JOINT, &joint_length, &row, &column);
+    printf("joined with itself: refused %d\n", number);
+}
+
 static void use_sheet(void) {
     uint8_t sheet[SHEET], text[TEXT];
     uint16_t read_codes[N];
@@ -87,6 +102,7 @@ static void use_sheet(void) {
     accepted(weimrukas_list(sheet, written, text, TEXT, &printed, &row, &column));
     const uint8_t *end = memchr(text, '\n', printed);
     printf("listing of %zu bytes: %.*s\n", printed, (int)(end - text), (const char *)text);
+    join_sheet(sheet, written);
 }
 
 int main(void) {

@@ -5,8 +5,8 @@
  * `rt staticlib capi` proves the library and writes it for x86-64: link target/staticlib/libcapi.a. `tools/install`
  * installs it as libweimrukas.
  *
- * Answers. Where nothing else is said a function answers 0, or the number of a refusal in document 01's table, with
- * what document 02 adds to 4 and takes from 1:
+ * Answers. Where nothing else is said a function answers 0, or the number of a refusal: 1 to 9 by document 01's table,
+ * with what document 02 adds to 4 and takes from 1, and 10 by document 02:
  *
  *      1  order: outside 2 to WEIMRUKAS_MOST_LINES
  *      2  sweeps: above WEIMRUKAS_MOST_SWEEPS
@@ -17,6 +17,7 @@
  *      7  lent bytes, text, registers, records or flags: too short
  *      8  end of a run: an entry is no longer finite
  *      9  square root: not a number, or below zero
+ *     10  line code: in both of two sheets
  *
  * Where several apply, the first is answered that stands in the function's own list below. 5 and 6 set *row and
  * *column, from 1, to the first such entry in row order. No other answer sets them. A function that refuses leaves
@@ -64,7 +65,7 @@ extern "C" {
 #define WEIMRUKAS_RESTRICT restrict
 #endif
 
-#define WEIMRUKAS_VERSION "0.8.0"
+#define WEIMRUKAS_VERSION "0.9.0"
 
 #define WEIMRUKAS_MOST_LINES 32 /* the largest order */
 #define WEIMRUKAS_MOST_SWEEPS 16
@@ -170,6 +171,20 @@ uint8_t weimrukas_read_sheet(const uint8_t *sheet, size_t sheet_length, uint16_t
  */
 uint8_t weimrukas_write_sheet(size_t n, size_t sweeps, const uint16_t *codes, size_t codes_length, const double *matrix,
                               size_t matrix_length, uint8_t *WEIMRUKAS_RESTRICT sheet, size_t sheet_length,
+                              size_t *WEIMRUKAS_RESTRICT written, size_t *WEIMRUKAS_RESTRICT row,
+                              size_t *WEIMRUKAS_RESTRICT column);
+
+/*
+ * Joins two sheets, each of either form, to one: the lines of the first and then those of the second, +0 between the two
+ * groups, and the larger number of sweeps. Like any sheet it is of the long form exactly if some code is above 255. With
+ * n lines in all *written becomes the number of its bytes, WEIMRUKAS_LONG_SHEET_LENGTH(n) or WEIMRUKAS_SHEET_LENGTH(n).
+ * Lent bytes beyond them stay. Both sheets are only read. What the first sheet is refused by, by its bytes alone: 3 for
+ * fewer than 2 bytes, 1, 2, 3, 4, 5; then what the second is, likewise; then 10; 1 where n is above
+ * WEIMRUKAS_MOST_LINES; 7 for fewer bytes than the joint sheet has. 5 sets the row and the column in the sheet that is
+ * refused; which of the two it is, is not told. A refusal leaves *written as it was.
+ */
+uint8_t weimrukas_join_sheets(const uint8_t *first, size_t first_length, const uint8_t *second, size_t second_length,
+                              uint8_t *WEIMRUKAS_RESTRICT sheet, size_t sheet_length,
                               size_t *WEIMRUKAS_RESTRICT written, size_t *WEIMRUKAS_RESTRICT row,
                               size_t *WEIMRUKAS_RESTRICT column);
 

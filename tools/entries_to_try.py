@@ -12,7 +12,7 @@ import array_vectors as array
 import ordering_vectors as ordering
 import plain_vectors as plain
 import root_vectors as root
-import sheet_vectors as sheet
+import sheet_model as sheet
 
 PROCESSORS = 16
 NINE = 0x4022 << 48  # what results are lent with

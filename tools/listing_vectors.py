@@ -9,7 +9,7 @@ The first prints the sheet on standard input. The second writes sample sheets in
 and what is printed of each beside it, as NAME.print. Names begin with a number, in whose order the samples
 are made. Those in samples/ have the seed that is taken where none is given.
 
-The sheet is all of standard input. It is read by sheet_vectors.py, and the run is the plain run of
+The sheet is all of standard input. It is read by sheet_model.py, and the run is the plain run of
 plain_vectors.py, which the array's run agrees with in every bit. The ticks are 3 K + N for the sweeps made, beside the
 sheet's own number of sweeps. Before samples are written, those of small orders are held against the array of
 array_vectors.py.
@@ -22,7 +22,7 @@ import sys
 sys.dont_write_bytecode = True  # the imports below leave no file
 import array_vectors as array
 import plain_vectors as plain
-import sheet_vectors as sheets
+import sheet_model as sheets
 
 # As document 01 prints its example.
 EXAMPLE_PRINT = """\

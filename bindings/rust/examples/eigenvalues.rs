@@ -99,5 +99,19 @@ fn use_sheet() -> Result<(), Refusal> {
     let print = String::from_utf8_lossy(&text[..printed]);
     let first = print.lines().next().unwrap_or_default();
     println!("listing of {printed} bytes: {first}");
+    join_sheet(sheet)
+}
+
+/// Joins a sheet with one of other lines, whose second code takes two bytes, and tries to join it with itself.
+fn join_sheet(sheet: &[u8]) -> Result<(), Refusal> {
+    let mut other = [0; weimrukas::long_sheet_length(2)];
+    let mut joint = [0; weimrukas::long_sheet_length(N + 2)];
+    weimrukas::write_sheet(2, 4, &[8, 300], &[2.0, 0.5, 0.5, 1.0], &mut other)?;
+    let written = weimrukas::join_sheets(sheet, &other, &mut joint)?;
+    let (n, sweeps) = (joint[0] % 128, joint[1]);
+    println!("joint sheet of {written} bytes: order {n}, {sweeps} sweeps");
+    if let Err(refusal) = weimrukas::join_sheets(sheet, sheet, &mut joint) {
+        println!("joined with itself: {refusal}");
+    }
     Ok(())
 }

@@ -103,6 +103,17 @@ extern "C" {
         row: *mut usize,
         column: *mut usize,
     ) -> u8;
+    fn weimrukas_join_sheets(
+        first: *const u8,
+        first_length: usize,
+        second: *const u8,
+        second_length: usize,
+        sheet: *mut u8,
+        sheet_length: usize,
+        written: *mut usize,
+        row: *mut usize,
+        column: *mut usize,
+    ) -> u8;
     fn weimrukas_list(
         sheet: *const u8,
         sheet_length: usize,
@@ -288,6 +299,28 @@ pub fn write_sheet(
             codes.len(),
             matrix.as_ptr(),
             matrix.len(),
+            sheet.as_mut_ptr(),
+            sheet.len(),
+            written,
+            &mut place.row,
+            &mut place.column,
+        )
+    }
+}
+
+pub fn join_sheets(
+    first: &[u8],
+    second: &[u8],
+    sheet: &mut [u8],
+    written: &mut usize,
+    place: &mut Place,
+) -> u8 {
+    unsafe {
+        weimrukas_join_sheets(
+            first.as_ptr(),
+            first.len(),
+            second.as_ptr(),
+            second.len(),
             sheet.as_mut_ptr(),
             sheet.len(),
             written,

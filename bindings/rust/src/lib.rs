@@ -232,6 +232,15 @@ pub fn write_sheet(
     answer(number, place, written)
 }
 
+/// Joins two sheets into lent bytes, and answers how many the joint sheet has: the lines of the first and then those of the
+/// second, +0 between the two groups, and the larger number of sweeps. The place beside a refusal by 5 is that in the
+/// sheet which is refused; which of the two it is, is not told.
+pub fn join_sheets(first: &[u8], second: &[u8], sheet: &mut [u8]) -> Result<usize, Refusal> {
+    let (mut written, mut place) = (0, Place::default());
+    let number = calls::join_sheets(first, second, sheet, &mut written, &mut place);
+    answer(number, place, written)
+}
+
 /// Puts the printed sheet into a lent text, and answers how many bytes it has.
 pub fn list(sheet: &[u8], text: &mut [u8]) -> Result<usize, Refusal> {
     let (mut printed, mut place) = (0, Place::default());

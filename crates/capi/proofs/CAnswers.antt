@@ -1,6 +1,6 @@
 -- What a C function answers and leaves, from what a call answers and leaves. Assumes nothing.
 use Prim.Native.Nat.{ℕ}
-use mathlib.Core.Path.{_≡_, ap}
+use mathlib.Core.Path.{_≡_, ap, _∙_}
 use mathlib.Core.Bool.{Bool}
 use mathlib.Core.List.{List, [], _∷_}
 use lib.Ieee.{Float}
@@ -28,7 +28,7 @@ use Rattle.array_run.specs.declared.Completion.the-variants as completion
 use Rattle.array_run.specs.Results.{WholeReport}
 use Rattle.array_run.specs.Whole.{completionAnswered}
 use Rattle.capi.specs.CAnswers.{CAnswer, cAnswer, placeOr, refusedAs, cAnswerOf, numberAnswered}
-use Rattle.capi.specs.Calls.{flagByte, ofRoot, numberAndValue, figures, turns, ofParameters, ofRun, ofWhole, ofReading, ofWriting, ofListing}
+use Rattle.capi.specs.Calls.{flagByte, ofRoot, numberAndValue, figures, turns, ofParameters, ofRun, ofWhole, ofReading, ofWritten, ofWriting, ofListing}
 
 -- ---- the lent row and column
 module _ (i j : ℕ) where
@@ -82,16 +82,20 @@ module _ (i j : ℕ) where
     unfolding ofReading cAnswerOf
     read-refused r o z h k = rw k (ap (λ (y : ReadOutcome). ofReading y n sweeps i j) (rw z at h))
 
-  module _ {b : List ℕ} (written : ℕ) (x : Writing) where
-    pub write-given : (count : ℕ) (o : WriteOutcome) → x ≡ writing.Written count → writeOutcome (writingAnswered x) b ≡ o
-        → (cAnswer 0 i j, count, b) ≡ ofWriting o written i j
-    unfolding ofWriting cAnswerOf
-    write-given count o z h = ap (λ (y : WriteOutcome). ofWriting y written i j) (rw z at h)
+  module _ (written : ℕ) (x : Writing) where
+    pub written-given : (count : ℕ) → x ≡ writing.Written count → (cAnswer 0 i j, count) ≡ ofWritten (writingAnswered x) written i j
+    unfolding cAnswerOf
+    written-given count z = rw z
 
-    pub write-refused : {s : CAnswer} (r : Refusal) (o : WriteOutcome) → x ≡ writing.Refused r → writeOutcome (writingAnswered x) b ≡ o
-        → s ≡ refusedAs (numberOf r) (valuesOf r) i j → (s, written, b) ≡ ofWriting o written i j
-    unfolding ofWriting cAnswerOf
-    write-refused r o z h k = rw k (ap (λ (y : WriteOutcome). ofWriting y written i j) (rw z at h))
+    pub written-refused : {s : CAnswer} (r : Refusal) → x ≡ writing.Refused r → s ≡ refusedAs (numberOf r) (valuesOf r) i j
+        → (s, written) ≡ ofWritten (writingAnswered x) written i j
+    unfolding cAnswerOf
+    written-refused r z k = rw (z, k)
+
+    pub write-said : {b : List ℕ} {s : CAnswer} {w : ℕ} (o : WriteOutcome) → writeOutcome (writingAnswered x) b ≡ o
+        → (s, w) ≡ ofWritten (writingAnswered x) written i j → (s, w, b) ≡ ofWriting o written i j
+    unfolding ofWriting
+    write-said {b} o h e = ap (λ (y : CAnswer × ℕ). (y .0, y .1, b)) e ∙ ap (λ (y : WriteOutcome). ofWriting y written i j) h
 
   pub list-said : {count : ℕ} {b : List ℕ} {s : CAnswer} {a : Answered Unit} (o : ListingOutcome) → listed a (printing count b) ≡ o → s ≡ cAnswerOf a i j
       → (s, count, b) ≡ ofListing o i j

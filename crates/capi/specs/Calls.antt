@@ -107,6 +107,9 @@ ofWhole o sweeps ticks rounded i j =
 unfoldable pub ofReading : ReadOutcome → ℕ → ℕ → ℕ → ℕ → CAnswer × (ℕ × ℕ) × List ℕ × List Float
 ofReading o n sweeps i j = (cAnswerOf (o .answer) i j, valueOr (o .answer) (n, sweeps), o .codes, o .matrix)
 
+abbrev pub ofWritten : Answered ℕ → ℕ → ℕ → ℕ → CAnswer × ℕ
+ofWritten a written i j = (cAnswerOf a i j, valueOr a written)
+
 unfoldable pub ofWriting : WriteOutcome → ℕ → ℕ → ℕ → CAnswer × ℕ × List ℕ
 ofWriting o written i j = (cAnswerOf (o .answer) i j, valueOr (o .answer) written, o .bytes)
 

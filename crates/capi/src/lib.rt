@@ -1,4 +1,4 @@
-// The calls of document 01 as C functions; include/weimrukas.h tells what each answers and leaves.
+// The calls of documents 01 and 02 as C functions; include/weimrukas.h tells what each answers and leaves.
 mod answers;
 mod both_runs;
 mod forecasts;

@@ -5,6 +5,7 @@ use Rattle.claims.proofs.Refusals.{refused-as-tabled}
 use Rattle.claims.proofs.Report.{as-the-report}
 use Rattle.claims.proofs.Quotients.{quotients-as-stated}
 use Rattle.claims.proofs.Sheets.{sheets-kept}
+use Rattle.claims.proofs.JoinedSheets.{joinings-as-stated}
 use Rattle.claims.proofs.PlainRuns.{plain-runs-as-stated}
 use Rattle.claims.proofs.Tiles.{tiles-as-printed}
 use Rattle.claims.proofs.Listings.{listings-as-stated}
@@ -24,6 +25,7 @@ demands-met =
       demand-2-runs = plain-runs-as-stated;
       demand-2-tiles = tiles-as-printed;
       demand-2-sheets = sheets-kept;
+      joinings = joinings-as-stated;
       demand-2-listings = listings-as-stated;
       demand-3 = one-history;
       quiet-sweeps = quiet-sweeps-as-stated;

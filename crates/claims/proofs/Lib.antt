@@ -7,6 +7,7 @@ pub mod Refusals
 pub mod Report
 pub mod Quotients
 pub mod Sheets
+pub mod JoinedSheets
 pub mod Histories
 pub mod MetPairs
 pub mod QuietSweeps

@@ -2,13 +2,11 @@
 use Prim.Native.Nat.{ℕ, zero, suc, _*_, _<_, _≤_}
 use mathlib.Core.Path.{_≡_, refl, sym, ap, _∙_}
 use mathlib.Core.List.{List, [], _∷_, _++_}
-use mathlib.Core.Bool.{Bool, true, false, cond}
 use native.Mathlib.Omega.{arith}
 use borrow.Author.Tests.{le-ltb}
-use lib.Dec.{T, ltb}
+use lib.Dec.{ltb}
 use lib.ListN.{length, drop}
-use lib.Ieee.{Float, binary64, fits, ofBits, toBits, add, sub, mul, div, lt, neg, isNan}
-use lib.Ieee.Bits.{ofBits-fits}
+use lib.Ieee.{Float, ofBits, toBits, add, sub, mul, div, lt, neg, isNan}
 use Rattle.refusal.specs.Answers.{Answered, given, refused, giving, unlessRefused, row, table}
 use Rattle.refusal.specs.declared.Refusal.the-variants.{TooShort}
 use Rattle.refusal.proofs.FirstRefusal.{refused-given}
@@ -30,6 +28,7 @@ use Rattle.sheet.specs.Format.{orderIn, sweepsIn, codesIn, patternIn, entryIn}
 use Rattle.sheet_reader.specs.Reader.{sheetAnswer}
 use Rattle.sheet_reader.proofs.SheetContents.{codes-count}
 use Rattle.sheet_reader.proofs.Tables.{lent-right, readable}
+use Rattle.sheet_agreement.proofs.JointBlocks.{entry-fits}
 use Rattle.listing_text.specs.Printed.{Printing, printing, printOf, refusalOf, headOf, textLineOf, textLinesOf, printedOf, roomFor}
 use Rattle.listing_text.proofs.PrintedTexts.{all-printed}
 use Rattle.array_run.specs.Whole.{ticksAnswered}
@@ -91,14 +90,6 @@ codes-same : (n : ℕ) (codes : List ℕ) (A E : ℕ → ℕ → Float) (k : ℕ
 unfolding textLinesOf textLineOf codesPrinted
 codes-same n codes A E zero = refl
 codes-same n codes A E (suc k) = rw (codes-same n codes A E k)
-
-entry-fits : (b : List ℕ) (i j : ℕ) → T (fits binary64 (entryIn b i j))
-unfolding entryIn
-entry-fits b i j = go (ltb i j)
-  where
-    go : (c : Bool) → T (fits binary64 (cond c (ofBits binary64 (patternIn b j i)) (ofBits binary64 (patternIn b i j))))
-    go true = ofBits-fits binary64 (patternIn b j i)
-    go false = ofBits-fits binary64 (patternIn b i j)
 
 module _ (b : List ℕ) where
   abbrev n : ℕ

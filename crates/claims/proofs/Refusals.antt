@@ -2,6 +2,7 @@
 use Prim.Native.Nat.{ℕ}
 use mathlib.Core.Path.{refl, ap, _∙_}
 use mathlib.Core.List.{List}
+use lib.ListN.{length}
 use lib.Ieee.{Float, nan}
 use Rattle.refusal.specs.Answers.{giving}
 use Rattle.refusal.proofs.RefusedOutcomes.{giving-refused}
@@ -24,7 +25,12 @@ use Rattle.sheet_reader.proofs.SheetContents.{read-answers, lent-kept}
 use Rattle.sheet_reader.proofs.Tables.{lent-right}
 use Rattle.sheet_writer.specs.Writer.{writeAnswer}
 use Rattle.sheet_writer.proofs.SheetBytes.{write-answers, bytes-kept, bytes-tail}
-use Rattle.claims.specs.Refusals.{NumbersAsTabled, PlainRunAnswers, WholeRunAnswers, LeavesResults, RunsLeave, RefusedAsTabled}
+use Rattle.sheet_join.specs.Join.{jointCodes, jointLength}
+use Rattle.sheet_join.proofs.JoinOutcomes as joining
+use Rattle.sheet_join.proofs.Tables.{by-limit}
+use Rattle.sheet_agreement.proofs.SharedCodes.{one-shared, none-shared}
+use Rattle.claims.specs.Refusals.{NumbersAsTabled, PlainRunAnswers, WholeRunAnswers, LeavesResults, RunsLeave, JoinAnswers, JoinLeaves}
+use Rattle.claims.specs.Refusals.{RefusedAsTabled}
 use Rattle.claims.proofs.Places.{entries-tested}
 
 numbers : NumbersAsTabled
@@ -39,6 +45,7 @@ numbers =
       too-short-7 = refl;
       spoiled-8 = refl;
       no-root-9 = refl;
+      shared-code-10 = refl;
     }
 
 -- ---- runs
@@ -65,6 +72,15 @@ runs-leave n sweeps l r v fit = (
   rw (whole-agrees n sweeps l r v fit) (answering-leaves n sweeps l r v _),
 )
 
+-- ---- joining two sheets
+join-answers : JoinAnswers
+unfolding jointCodes
+join-answers b d l = joining.join-answers b d l ∙ ap (giving (jointLength b d)) (by-limit b d (length l))
+
+join-leaves : JoinLeaves
+unfolding jointCodes
+join-leaves b d l = (joining.bytes-kept b d l, joining.bytes-tail b d l)
+
 pub refused-as-tabled : RefusedAsTabled
 unfolding beforeRun beforeRecords longInVain sheetAnswer readAnswer writeAnswer progressOf sizesAnswer
 refused-as-tabled =
@@ -90,4 +106,7 @@ refused-as-tabled =
       reader-leaves = lent-kept;
       writer-answers = write-answers;
       writer-leaves = λ n sweeps codes l b. (bytes-kept n sweeps codes l b, bytes-tail n sweeps codes l b);
+      shared-codes = λ codes others. record { shared = one-shared codes others; apart = none-shared codes others };
+      join-answers = join-answers;
+      join-leaves = join-leaves;
     }

@@ -6,6 +6,7 @@ use Rattle.claims.specs.Refusals.{RefusedAsTabled}
 use Rattle.claims.specs.Report.{AsTheReport}
 use Rattle.claims.specs.Quotients.{QuotientsAsStated}
 use Rattle.claims.specs.Sheets.{SheetsKept}
+use Rattle.claims.specs.JoinedSheets.{JoiningsAsStated}
 use Rattle.claims.specs.PlainRuns.{PlainRunsAsStated}
 use Rattle.claims.specs.Tiles.{TilesAsPrinted}
 use Rattle.claims.specs.Listings.{ListingsAsStated}
@@ -23,6 +24,7 @@ pub record Demands : Type 0 where
   pub demand-2-runs : PlainRunsAsStated
   pub demand-2-tiles : TilesAsPrinted
   pub demand-2-sheets : SheetsKept
+  pub joinings : JoiningsAsStated
   pub demand-2-listings : ListingsAsStated
   pub demand-3 : OneHistory
   pub quiet-sweeps : QuietSweepsAsStated

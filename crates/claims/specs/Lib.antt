@@ -4,6 +4,7 @@ pub mod Refusals
 pub mod Report
 pub mod Quotients
 pub mod Sheets
+pub mod JoinedSheets
 pub mod PlainRuns
 pub mod Tiles
 pub mod Histories

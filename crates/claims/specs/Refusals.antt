@@ -1,20 +1,20 @@
--- Demand 1 (document 00; document 01, "Refused, by place"): what each call answers, and what it leaves where it
--- refuses. The order of the tests is that of document 01's table, which applies from top to bottom. What `isOrder`
--- accepts and the limits are on the page `Sizes`. Definitions only.
-use Prim.Native.Nat.{ℕ, _*_, _≤_, _<_}
+-- Demand 1 (document 00; document 01, "Refused, by place"; document 02 (viii)): what each call answers, and what it
+-- leaves where it refuses. The order of the tests is that of document 01's table, which applies from top to bottom, and
+-- for joining that of document 02. What `isOrder` accepts and the limits are on the page `Sizes`. Definitions only.
+use Prim.Native.Nat.{ℕ, _+_, _*_, _≤_, _<_}
 use mathlib.Core.Path.{_≡_}
 use mathlib.Core.Bool.{Bool, true, false, not, cond, _&&_}
-use mathlib.Core.List.{List, [], _∷_}
+use mathlib.Core.List.{List, [], _∷_, _++_}
 use mathlib.Core.Logic.{_⊎_}
 use lib.Dec.{eqb, ltb}
-use lib.ListN.{length, drop}
+use lib.ListN.{length, getD, drop}
 use lib.Ieee.{Float, nan, binary64, eq, lt, ofBits}
 use Rattle.float64.specs.Values.{plusZero, finite, sameBits}
 use Rattle.refusal.specs.declared.Refusal.the-variants.{Order, Sweeps, Length, Code, NotFinite, NotMirrored}
-use Rattle.refusal.specs.declared.Refusal.the-variants.{TooShort, Spoiled, NoRoot}
+use Rattle.refusal.specs.declared.Refusal.the-variants.{TooShort, Spoiled, NoRoot, SharedCode}
 use Rattle.refusal.specs.Answers.{Answered, given, refused, refusedBy, answered, giving, table}
 use Rattle.root.specs.Exact.{sqrtAnswer}
-use Rattle.sizes.specs.Sizes.{isOrder, processorsOf, stepsOf, ticksOf}
+use Rattle.sizes.specs.Sizes.{isOrder, largestOrder, processorsOf, stepsOf, ticksOf}
 use Rattle.ordering.specs.declared.PairList.{PairList}
 use Rattle.ordering.specs.Pairs.{noRegisters, Lists}
 use Rattle.matrix.specs.Matrix.{at}
@@ -37,6 +37,7 @@ use Rattle.sheet.specs.Format.{sheetLength, widthIn, orderIn, sweepsIn, codesIn
 use Rattle.sheet.specs.Codes.{badCodes, longCodes, widthFor}
 use Rattle.sheet_reader.specs.Reader.{storedRow, sheetAnswer, readAnswer, readOf}
 use Rattle.sheet_writer.specs.Writer.{writeOf}
+use Rattle.sheet_join.specs.Join.{sharedCode, joinOf}
 use Rattle.claims.specs.Histories.{Binary64}
 
 -- ---- the numbers of the cases, and a row of a table
@@ -51,6 +52,7 @@ pub record NumbersAsTabled : Type 0 where
   pub too-short-7 : refusedBy {A = Unit} TooShort ≡ refused 7 []
   pub spoiled-8 : refusedBy {A = Unit} Spoiled ≡ refused 8 []
   pub no-root-9 : refusedBy {A = Unit} NoRoot ≡ refused 9 []
+  pub shared-code-10 : refusedBy {A = Unit} SharedCode ≡ refused 10 []
 
 -- The number k under a condition. A table answers by its first row that refuses.
 abbrev pub when : Bool → ℕ → Answered Unit
@@ -249,6 +251,38 @@ WriterLeaves =
     → writeOf n sweeps codes l b .bytes ≡ b)
     × (let count = sheetLength (widthFor codes) n in drop count (writeOf n sweeps codes l b .bytes) ≡ drop count b)
 
+-- ---- joining two sheets
+-- 10 is for a code in both.
+pub record SharedCodes (codes others : List ℕ) : Type 0 where
+  pub shared : sharedCode codes others ≡ true
+      → (k i : ℕ) × (k < length codes) × (i < length others) × (getD codes k 0 ≡ getD others i 0)
+  pub apart : sharedCode codes others ≡ false
+      → (k i : ℕ) → k < length codes → i < length others → ¬ (getD codes k 0 ≡ getD others i 0)
+
+-- The first sheet's refusal, then the second's; 10 for a code in both; then 1 for a joint order above the limit; then
+-- 7. It answers how many bytes it wrote.
+abbrev pub JoinAnswers : Type 0
+JoinAnswers =
+    (b d l : List ℕ)
+    → (let n = orderIn b + orderIn d in
+    let long = sheetLength (widthFor (codesIn b ++ codesIn d)) n in
+    joinOf b d l .answer ≡ giving long
+    (table
+    (sheetAnswer b
+    ∷ sheetAnswer d
+    ∷ when (sharedCode (codesIn b) (codesIn d)) 10
+    ∷ when (ltb largestOrder n) 1
+    ∷ when (ltb (length l) long) 7
+    ∷ [])))
+
+-- A refusal changes nothing, and longer bytes keep their tail.
+abbrev pub JoinLeaves : Type 0
+JoinLeaves =
+    (b d l : List ℕ)
+    → ((k : ℕ) (values : List ℕ) → joinOf b d l .answer ≡ refused k values → joinOf b d l .bytes ≡ l)
+    × (let count = sheetLength (widthFor (codesIn b ++ codesIn d)) (orderIn b + orderIn d) in
+    drop count (joinOf b d l .bytes) ≡ drop count l)
+
 pub record RefusedAsTabled : Type 0 where
   pub numbers-as-tabled : NumbersAsTabled
   pub entries-are-tested : EntriesAreTested
@@ -266,3 +300,6 @@ pub record RefusedAsTabled : Type 0 where
   pub reader-leaves : ReaderLeaves
   pub writer-answers : WriterAnswers
   pub writer-leaves : WriterLeaves
+  pub shared-codes : (codes others : List ℕ) → SharedCodes codes others
+  pub join-answers : JoinAnswers
+  pub join-leaves : JoinLeaves

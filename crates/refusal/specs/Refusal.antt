@@ -1,12 +1,12 @@
--- The refusals in the numbers of document 01, "Refused, by place". Definitions only.
+-- The refusals in the numbers of document 01, "Refused, by place", and of document 02. Definitions only.
 use Prim.Native.Nat.{ℕ}
 use mathlib.Core.List.{List, [], _∷_}
 use Rattle.refusal.specs.declared.Refusal.{Refusal}
-use Rattle.refusal.specs.declared.Refusal.the-variants.{Order, Sweeps, Length, Code, NotFinite, NotMirrored, TooShort, Spoiled, NoRoot}
+use Rattle.refusal.specs.declared.Refusal.the-variants.{Order, Sweeps, Length, Code, NotFinite, NotMirrored, TooShort, Spoiled, NoRoot, SharedCode}
 use Rattle.refusal.specs.declared.Place.{Place}
 use Rattle.refusal.specs.declared.Place.the-variants.{Nowhere, At}
 
--- The number of each refusal in document 01's table, and the values beside it.
+-- The number of each refusal, and the values beside it: 1 to 9 by document 01's table, 10 by document 02 (viii).
 abbrev pub numberAndValues : Refusal → ℕ × List ℕ
 numberAndValues Order = (1, [])
 numberAndValues Sweeps = (2, [])
@@ -17,6 +17,7 @@ numberAndValues (NotMirrored row column) = (6, row ∷ column ∷ [])
 numberAndValues TooShort = (7, [])
 numberAndValues Spoiled = (8, [])
 numberAndValues NoRoot = (9, [])
+numberAndValues SharedCode = (10, [])
 
 abbrev pub numberOf : Refusal → ℕ
 numberOf r = numberAndValues r .0

@@ -1,4 +1,4 @@
-// The refusals of document 01, "Refused, by place".
+// The refusals of document 01, "Refused, by place", and of document 02.
 ghost use mathlib.Core.Path.{_≡_};
 ghost use Rattle.refusal.specs.Refusal.{numberOf, valuesOf, placeValues};
 
@@ -13,6 +13,7 @@ pub enum Refusal {
     TooShort,
     Spoiled,
     NoRoot,
+    SharedCode,
 }
 
 // What a call answers that gives no value of its own.
@@ -27,7 +28,7 @@ pub enum Place {
     At(usize, usize),
 }
 
-// The number that document 01 gives the refusal.
+// The number that documents 01 and 02 give the refusal.
 pub fn number(refusal: Refusal) -> u8
     ensures { λ r. ⌜ r ≡ numberOf refusal ⌝ }
 {
@@ -41,6 +42,7 @@ pub fn number(refusal: Refusal) -> u8
         Refusal::TooShort => 7,
         Refusal::Spoiled => 8,
         Refusal::NoRoot => 9,
+        Refusal::SharedCode => 10,
     }
 }
 
@@ -58,5 +60,6 @@ pub fn place_of(refusal: Refusal) -> Place
         Refusal::TooShort => Place::Nowhere,
         Refusal::Spoiled => Place::Nowhere,
         Refusal::NoRoot => Place::Nowhere,
+        Refusal::SharedCode => Place::Nowhere,
     }
 }

@@ -59,6 +59,14 @@ module _ (b : List ℕ) where
   pub order-none : length b ≡ 0 → 0 ≡ orderIn b
   order-none e = sym (none e) ∙ order-short (let z = none e in omega arith)
 
+  pub order-within : orderIn b ≤ getD b 0 0
+  unfolding orderIn
+  order-within = go (ltb (getD b 0 0) longForm)
+    where
+      go : (x : Bool) → cond x (getD b 0 0) (getD b 0 0 - longForm) ≤ getD b 0 0
+      go true = omega arith
+      go false = omega arith
+
   -- both give the first byte again
   pub first-kept : firstByte (widthIn b) (orderIn b) ≡ getD b 0 0
   unfolding firstByte widthIn orderIn

@@ -81,6 +81,10 @@ rows-below i (suc n) h = go (ltb i n) refl (λ b. rows-below i n b)
     go true e f = let w = f (ltb-true _ _ e) in omega arith
     go false e f = let w : n ≤ i = ltb-false _ _ e in let z : i ≡ n = omega arith in rw z (omega arith)
 
+-- there is room for the entry in row i and column j, from 0
+pub entry-within : (w n i j : ℕ) → j ≤ i → i < n → {o : ℕ} → o ≡ entriesFrom w n + 8 * (entriesTo i + j) → o + 8 ≤ sheetLength w n
+entry-within w n i j ji below e = let z = rows-below i n below in let l = length-is w n in omega arith
+
 rows-grow : (a b : ℕ) → a ≤ b → entriesTo a ≤ entriesTo b
 rows-grow a b h = go (ltb a b) refl
   where

@@ -1,4 +1,11 @@
+pub mod BlocksAgain
+pub mod JoinedThrice
+pub mod JointBlocks
+pub mod JointCodes
+pub mod JointSheets
 pub mod OneForm
 pub mod RoundTrip
+pub mod SharedCodes
 pub mod SheetPlaces
 pub mod ShortForm
+pub mod ThreeSheets

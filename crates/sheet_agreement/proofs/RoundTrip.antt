@@ -1,7 +1,7 @@
 -- What is written is read back, and what is accepted is written again. Assumes nothing.
 use Prim.Native.Nat.{ℕ, _+_, _-_, _*_, _/_, _%_, _<_, _≤_}
 use mathlib.Core.Path.{_≡_, refl, sym, ap, _∙_}
-use mathlib.Core.Bool.{Bool, true, false, not, cond, _&&_, true≢false}
+use mathlib.Core.Bool.{Bool, true, false, not, cond, _&&_}
 use mathlib.Core.List.{List, _++_}
 use native.Mathlib.Nat.{div-add-mod, mod-lt}
 use native.Mathlib.Omega.{arith}
@@ -9,27 +9,27 @@ use borrow.Author.Tests.{le-ltb, eqb-true, eqb-false, ltb-true, ltb-false}
 use lib.Dec.{T, eqb, ltb}
 use lib.ListN.{length, getD, take, drop}
 use lib.Seq.{take-at}
-use lib.Ieee.{Float, nan, inf, fin, binary64, fits, ofBits, toBits, isNan}
-use lib.Ieee.Bits.{ofBits-toBits, toBits-lt, toBits-ofBits}
+use lib.Ieee.{Float, nan, binary64, fits, ofBits, toBits}
+use lib.Ieee.Bits.{ofBits-toBits, toBits-lt}
 use Rattle.float64.specs.Values.{finite}
-use Rattle.refusal.specs.Answers.{Answered, given, refused, refusedBy, unlessRefused, valueOr, first}
-use Rattle.refusal.specs.declared.Refusal.the-variants.{NotFinite}
+use Rattle.refusal.specs.Answers.{Answered, given, refused, unlessRefused, valueOr, first}
 use Rattle.lists.specs.Tabulate.{tabulate}
 use Rattle.lists.proofs.Bounded.{false-or}
 use Rattle.lists.proofs.Tabulated.{getD-tabulate, tabulated}
 use Rattle.sizes.proofs.Orders.{order-is}
 use Rattle.matrix.specs.Matrix.{at, flat}
 use Rattle.matrix.proofs.SameEntries.{Line, Finite, Mirrored, flat-same, flat-again, read-again}
-use Rattle.refusal.proofs.FirstRefusal.{first-fine, refused-given, each-given, of-test}
+use Rattle.refusal.proofs.FirstRefusal.{first-fine, refused-given}
 use Rattle.matrix.proofs.AcceptedEntries.{accepted-finite, accepted-mirrored, accepted-if}
 use Rattle.matrix.proofs.Flat.{flat-length}
 use Rattle.sheet.specs.Format.{longForm, firstByte, sheetLength, entriesFrom, entryPlace, entriesTo, entryNumber, byteOf, wordFrom, lengthFor}
 use Rattle.sheet.specs.Format.{sheetByte, sheetOf, widthIn, orderIn, sweepsIn, lengthIn, codeIn, codesIn, patternIn, entryIn}
 use Rattle.sheet.specs.Codes.{badCodes, longCodes, widthFor}
-use Rattle.sheet.proofs.Words.{word-whole, word-below, byte-back as byte-of-word}
+use Rattle.sheet.proofs.Words.{word-whole, byte-back as byte-of-word}
 use Rattle.sheet.proofs.Triangle.{code-ends, code-number, length-is, number-below, numbered, place-within, place-of-number}
-use Rattle.sheet.proofs.Forms.{width-fits, first-kept, width-for-fits, width-two, codes-fit, fits-short, both-again}
+use Rattle.sheet.proofs.Forms.{width-fits, first-kept, width-for-fits, codes-fit, both-again}
 use Rattle.sheet_reader.specs.Reader.{longInVain, notFiniteIn, storedRow, readAnswer, readOutcome, contentOf, readOf}
+use Rattle.sheet_reader.proofs.AcceptedSheets.{pattern-kept, width-kept, entries-finite, entries-mirrored}
 use Rattle.sheet_reader.proofs.SheetContents.{is-finite, codes-count, code-at, all-read, read-accepted-as}
 use Rattle.sheet_reader.proofs.Tables.{read-5, Readable, readable}
 use Rattle.sheet_writer.specs.Writer.{writeAnswer, writeOutcome, writtenOver, writtenOf, writeOf}
@@ -101,7 +101,7 @@ module _ (n sweeps : ℕ) (codes : List ℕ) (A : ℕ → ℕ → Float) where
       value-back : (i j : ℕ) → 1 ≤ j → j ≤ i → i ≤ n → ofBits binary64 (patternIn sheet i j) ≡ A i j
       value-back i j h k o = ap (ofBits binary64) (pattern-back i j h k o (fitting i j)) ∙ ofBits-toBits binary64 (A i j) (fitting i j)
 
-      entry-back : Mirrored n A → (i j : ℕ) → Line n i → Line n j → entryIn sheet i j ≡ A i j
+      pub entry-back : Mirrored n A → (i j : ℕ) → Line n i → Line n j → entryIn sheet i j ≡ A i j
       unfolding entryIn
       entry-back m i j hi hj = go (ltb i j) refl
         where
@@ -132,7 +132,7 @@ module _ (n sweeps : ℕ) (codes : List ℕ) (A : ℕ → ℕ → Float) where
         go false = refl
 
 -- the entries of an accepted matrix
-fit-at : (n : ℕ) (l : List Float) → ((k : ℕ) → T (fits binary64 (getD l k nan))) → (i j : ℕ) → T (fits binary64 (at n l i j))
+pub fit-at : (n : ℕ) (l : List Float) → ((k : ℕ) → T (fits binary64 (getD l k nan))) → (i j : ℕ) → T (fits binary64 (at n l i j))
 unfolding at
 fit-at n l fitting i j = fitting _
 
@@ -188,45 +188,9 @@ read-back n sweeps codes l lb fit fitting e c m lc lm = sym (read-accepted-as b 
         (sym (stored-fine n sweeps codes (at n l) below (fit-at n l fitting) (accepted-finite n l fitting (v .entries-good)))))
 
 -- ---- a sheet that is accepted
-no-nan : (x : Float) → finite x ≡ true → T (not (isNan x))
-unfolding finite isNan
-no-nan nan e = absurd (true≢false (sym e))
-no-nan (inf s) e = tt
-no-nan (fin s m k) e = tt
-
 module _ (b : List ℕ) (small : (i : ℕ) → getD b i 0 < 256) (lc lm : ℕ) (r : Readable b lc lm) where
   abbrev n : ℕ
   n = orderIn b
-
-  stored-finite : (i j : ℕ) → 1 ≤ j → j ≤ i → i ≤ n → finite (ofBits binary64 (patternIn b i j)) ≡ true
-  stored-finite i j h k o =
-      test (each-given (notFiniteIn b i) i (each-given (λ r. first r (notFiniteIn b r)) n (unfold storedRow in (r .entries-good)) i (omega arith, o)) j (h, k))
-    where
-      test : notFiniteIn b i j ≡ given tt → finite (ofBits binary64 (patternIn b i j)) ≡ true
-      test e = unfold notFiniteIn in (of-test (finite (ofBits binary64 (patternIn b i j))) (refusedBy (NotFinite i j)) (λ z. refused-given z) e)
-
-  -- its patterns are those of the values read
-  pub pattern-kept : (i j : ℕ) → 1 ≤ j → j ≤ i → i ≤ n → toBits binary64 (ofBits binary64 (patternIn b i j)) ≡ patternIn b i j
-  pattern-kept i j h k o =
-      toBits-ofBits binary64 (patternIn b i j) (unfold patternIn in (word-below b _ small 8))
-      (no-nan (ofBits binary64 (patternIn b i j)) (stored-finite i j h k o))
-
-  -- its codes have its form
-  pub width-kept : widthFor (codesIn b) ≡ widthIn b
-  width-kept = go (eqb (widthIn b) 2) (longCodes (codesIn b)) refl refl (r .form-good)
-    where
-      go : (x y : Bool) → eqb (widthIn b) 2 ≡ x → longCodes (codesIn b) ≡ y → longInVain b ≡ false → widthFor (codesIn b) ≡ widthIn b
-      go true true e f g = sym (width-two (codesIn b) (sym f)) ∙ sym (eqb-true _ _ e)
-      go true false e f g = let vain : longInVain b ≡ true = unfold longInVain in (rw (e, f)) in absurd (true≢false (sym vain ∙ g))
-      go false y e f g = fits-short (codesIn b) short ∙ one
-        where
-          one : 1 ≡ widthIn b
-          one = let other : ¬ (widthIn b ≡ 2) = eqb-false _ _ e in let fit = width-fits b in omega (arith, fit .0, fit .1)
-
-          short : (k : ℕ) → k < length (codesIn b) → getD (codesIn b) k 0 ≤ 255
-          short k h =
-              let byte : codeIn 1 b k < 256 = unfold codeIn in (word-below b (2 + 1 * k) small 1) in
-              rw (code-at b k (omega (arith, codes-count b)), ← one) (omega arith)
 
   -- byte q of code k
   code-again : (k q : ℕ) → k < n → q < widthIn b → byteOf (widthIn b) (getD (codesIn b) k 0) q ≡ getD b (2 + widthIn b * k + q) 0
@@ -240,7 +204,7 @@ module _ (b : List ℕ) (small : (i : ℕ) → getD b i 0 < 256) (lc lm : ℕ) (
       let p = numbered e in
       let o = place-within n e h in
       ap (λ (x : Float). byteOf 8 (toBits binary64 x) q) (same _ _ (p .above) (p .within) o)
-      ∙ ap (λ (v : ℕ). byteOf 8 v q) (pattern-kept _ _ (p .above) (p .within) o)
+      ∙ ap (λ (v : ℕ). byteOf 8 v q) (pattern-kept b lc lm r small _ _ (p .above) (p .within) o)
       ∙ unfold patternIn in (byte-of-word b (entriesFrom (widthIn b) n + 8 * entryNumber (entryPlace e .0) (entryPlace e .1)) small 8 q k)
       ∙ ap (λ (x : ℕ). getD b (entriesFrom (widthIn b) n + 8 * x + q) 0) (p .number)
 
@@ -283,7 +247,7 @@ module _ (b : List ℕ) (small : (i : ℕ) → getD b i 0 < 256) (lc lm : ℕ) (
 
     pub sheet-again : sheetOf n (sweepsIn b) (codesIn b) A ≡ b
     unfolding sheetOf
-    sheet-again = rw width-kept (sym (tabulated (lengthIn b) _ b 0 (r .sheet-long) byte-again))
+    sheet-again = rw (width-kept b lc lm r small) (sym (tabulated (lengthIn b) _ b 0 (r .sheet-long) byte-again))
 
   -- ---- the writer accepts what was read
   abbrev matrix : List Float
@@ -295,32 +259,12 @@ module _ (b : List ℕ) (small : (i : ℕ) → getD b i 0 < 256) (lc lm : ℕ) (
   stored-value : (i j : ℕ) → 1 ≤ j → j ≤ i → i ≤ n → at n matrix i j ≡ ofBits binary64 (patternIn b i j)
   stored-value i j h k o = entry-value i j (omega arith, o) (h, omega arith) ∙ unfold entryIn in (rw (le-ltb i j k))
 
-  entries-mirrored : Mirrored n (entryIn b)
-  unfolding entryIn
-  entries-mirrored i j hi hj = go (ltb i j) (ltb j i) refl refl
-    where
-      go : (x y : Bool) → ltb i j ≡ x → ltb j i ≡ y
-          → cond x (ofBits binary64 (patternIn b j i)) (ofBits binary64 (patternIn b i j))
-          ≡ cond y (ofBits binary64 (patternIn b i j)) (ofBits binary64 (patternIn b j i))
-      go true true e f = let u : i < j = ltb-true _ _ e in let v : j < i = ltb-true _ _ f in absurd (omega arith)
-      go true false e f = refl
-      go false true e f = refl
-      go false false e f = let u : j ≤ i = ltb-false _ _ e in let v : i ≤ j = ltb-false _ _ f in let z : i ≡ j = omega arith in rw z
-
-  entries-finite : Finite n (entryIn b)
-  unfolding entryIn
-  entries-finite i j hi hj = go (ltb i j) refl
-    where
-      go : (x : Bool) → ltb i j ≡ x → finite (cond x (ofBits binary64 (patternIn b j i)) (ofBits binary64 (patternIn b i j))) ≡ true
-      go true e = let u : i < j = ltb-true _ _ e in stored-finite j i (hi .0) (omega arith) (hj .1)
-      go false e = let u : j ≤ i = ltb-false _ _ e in stored-finite i j (hj .0) (omega arith) (hi .1)
-
   write-accepts : (lb : ℕ) → length b ≤ lb → given tt ≡ writeAnswer n (sweepsIn b) (codesIn b) matrix lb
   write-accepts lb o =
       write-all n (sweepsIn b) (codesIn b) matrix lb (r .order) (r .few) (codes-count b) (flat-length n (entryIn b)) (r .codes-good)
-      (sym (accepted-if n matrix (flat-length n (entryIn b)) (λ i j hi hj. ap finite (entry-value i j hi hj) ∙ entries-finite i j hi hj)
-      (λ i j hi hj. entry-value i j hi hj ∙ entries-mirrored i j hi hj ∙ sym (entry-value j i hj hi))))
-      (rw width-kept (let z = r .sheet-long in omega arith))
+      (sym (accepted-if n matrix (flat-length n (entryIn b)) (λ i j hi hj. ap finite (entry-value i j hi hj) ∙ entries-finite b lc lm r i j hi hj)
+      (λ i j hi hj. entry-value i j hi hj ∙ entries-mirrored b n i j hi hj ∙ sym (entry-value j i hj hi))))
+      (rw (width-kept b lc lm r small) (let z = r .sheet-long in omega arith))
 
 -- A sheet that is accepted is written again as the same bytes.
 pub write-back : (b : List ℕ) → ((i : ℕ) → getD b i 0 < 256) → (lc lm : ℕ) → readAnswer b lc lm ≡ given tt → (lent : List ℕ) → length b ≤ length lent
@@ -331,7 +275,7 @@ write-back b small lc lm e lent o =
     (sym (written r)))
   where
     long : (r : Readable b lc lm) → lengthFor (orderIn b) (codesIn b) ≡ length b
-    long r = ap (λ (v : ℕ). sheetLength v (orderIn b)) (width-kept b small lc lm r) ∙ sym (r .sheet-long)
+    long r = ap (λ (v : ℕ). sheetLength v (orderIn b)) (width-kept b lc lm r small) ∙ sym (r .sheet-long)
 
     written : (r : Readable b lc lm)
         → writtenOf (orderIn b) (sweepsIn b) (codesIn b) (flat (orderIn b) (entryIn b)) lent ≡ writeOutcome (given (length b)) (b ++ drop (length b) lent)
@@ -350,12 +294,15 @@ writes n sweeps codes l b count = go (writeAnswer n sweeps codes l (length b)) (
     go (refused k values) new long e = refused-given e
 
 -- the bytes that it wrote are the sheet
+pub sheet-first : (n sweeps : ℕ) (codes : List ℕ) (l : List Float) (b : List ℕ)
+    → take (lengthFor n codes) (writtenOver n sweeps codes l b) ≡ sheetOf n sweeps codes (at n l)
+unfolding writtenOver
+sheet-first n sweeps codes l b =
+    take-at (sheetOf n sweeps codes (at n l)) (drop (lengthFor n codes) b) (lengthFor n codes) (sheet-long n sweeps codes (at n l))
+
 left : (n sweeps : ℕ) (codes : List ℕ) (l : List Float) (b : List ℕ) (count : ℕ) → writeOf n sweeps codes l b .answer ≡ given count
     → take count (writeOf n sweeps codes l b .bytes) ≡ sheetOf n sweeps codes (at n l)
-unfolding writtenOver
-left n sweeps codes l b count e =
-    let v = writes n sweeps codes l b count e in
-    rw (v .1, v .2) (take-at (sheetOf n sweeps codes (at n l)) (drop (lengthFor n codes) b) (lengthFor n codes) (sheet-long n sweeps codes (at n l)))
+left n sweeps codes l b count e = let v = writes n sweeps codes l b count e in rw (v .1, v .2) (sheet-first n sweeps codes l b)
 
 pub written-back : (n sweeps : ℕ) (codes : List ℕ) (l : List Float) (b : List ℕ) (count : ℕ) → Codes16 codes
     → ((k : ℕ) → T (fits binary64 (getD l k nan))) → writeOf n sweeps codes l b .answer ≡ given count

@@ -15,12 +15,13 @@ use Rattle.sheet.proofs.Forms.{first-kept, codes-fit}
 use Rattle.sheet.proofs.Triangle.{code-ends, length-is, number-below, half-of}
 use Rattle.sheet.proofs.Words.{word-whole, byte-back as byte-of-word}
 use Rattle.sheet_reader.specs.Reader.{contentOf, readOf}
+use Rattle.sheet_reader.proofs.AcceptedSheets.{pattern-kept}
 use Rattle.sheet_reader.proofs.SheetContents.{code-at, code-of-one, code-of-two}
 use Rattle.sheet_reader.proofs.Tables.{readable}
 use Rattle.sheet_writer.specs.Writer.{writtenOver, writeOf}
 use Rattle.sheet_writer.proofs.SheetBytes.{sheet-long}
 use Rattle.sheet_writer.proofs.Tables.{writable}
-use Rattle.sheet_agreement.proofs.RoundTrip.{Codes16, first-back, sweeps-back, code-byte, entry-byte, pattern-kept, writes, reads}
+use Rattle.sheet_agreement.proofs.RoundTrip.{Codes16, first-back, sweeps-back, code-byte, entry-byte, writes, reads}
 
 -- the number of an entry in closed form
 pub number-is : (i j : ℕ) → 1 ≤ i → entryNumber i j ≡ i * (i - 1) / 2 + (j - 1)
@@ -102,7 +103,7 @@ module _ (b c : List ℕ) (m : List Float) (n sweeps : ℕ) (e : readOf b c m .a
       let v = reads b c m n sweeps e in
       let good = readable b (length c) (length m) (v .0) in
       sym (ap (λ (x : Float). byteOf 8 (toBits binary64 x) r) (entry i j (omega arith, o) (h, omega arith) ∙ rw (le-ltb i j k))
-      ∙ ap (λ (x : ℕ). byteOf 8 x r) (pattern-kept b small (length c) (length m) good i j h k (omega (arith, v .2)))
+      ∙ ap (λ (x : ℕ). byteOf 8 x r) (pattern-kept b (length c) (length m) good small i j h k (omega (arith, v .2)))
       ∙ byte-of-word b (entriesFrom (widthIn b) (orderIn b) + 8 * entryNumber i j) small 8 r p
       ∙ ap (λ (x : ℕ). getD b (entriesFrom (widthIn b) x + 8 * entryNumber i j + r) 0) (v .2))
 

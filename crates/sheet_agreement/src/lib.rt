@@ -1,1 +1,2 @@
-// No code: a sheet that is written is read back as the same content, and a sheet that is accepted is written again as the same bytes.
+// No code: a sheet that is written is read back as the same content, a sheet that is accepted is written again as the same bytes, and a joint
+// sheet is a written one.

@@ -1,3 +1,4 @@
+pub mod AcceptedSheets
 pub mod MirroredEntries
 pub mod SheetContents
 pub mod Tables

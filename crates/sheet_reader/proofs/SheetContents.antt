@@ -17,17 +17,11 @@ use Rattle.refusal.proofs.FirstPlaces.{Searched, searched, place}
 use Rattle.lists.proofs.Tabulated.{length-tabulate, getD-tabulate}
 use Rattle.lists.proofs.Filled.{Filled, filled-all}
 use Rattle.matrix.specs.Matrix.{flat}
-use Rattle.sheet.specs.Format.{sheetLength, entriesFrom, entriesTo, entryNumber, wordFrom, widthIn, orderIn, sweepsIn, codeIn, codesIn, patternIn, entryIn}
+use Rattle.sheet.specs.Format.{entriesFrom, entriesTo, entryNumber, wordFrom, widthIn, orderIn, sweepsIn, codeIn, codesIn, patternIn, entryIn}
 use Rattle.sheet.specs.Codes.{badCodes, longCodes}
-use Rattle.sheet.proofs.Triangle.{length-is, rows-below}
 use Rattle.sheet_reader.specs.Reader.{OfForm, longInVain, notFiniteIn, storedRow, readAnswer, ReadOutcome, readOutcome, contentOf, readOf}
 
 -- ---- one stored entry
-module _ (w n i j : ℕ) (ji : j ≤ i) (below : i < n) where
-  -- there is room for it
-  pub entry-within : {o : ℕ} → o ≡ entriesFrom w n + 8 * (entriesTo i + j) → o + 8 ≤ sheetLength w n
-  entry-within e = let z = rows-below i n below in let l = length-is w n in omega arith
-
 module _ (b : List ℕ) where
   -- rows and columns from 0
   pub pattern-read : {w n o v : ℕ} (i j : ℕ) → OfForm w n b → o ≡ entriesFrom w n + 8 * (entriesTo i + j) → v ≡ wordFrom b o 8

@@ -1,13 +1,13 @@
-// The reader of sheets (document 01, "A sheet"; document 02 (i)).
+// The reader of sheets (document 01, "A sheet"; document 02 (i)), and what a sheet is refused by.
 ghost use mathlib.Core.Path.{_≡_};
 ghost use mathlib.Core.Bool.{_||_};
 ghost use Prim.Native.Nat.{_+_, _*_, _≤_};
 ghost use lib.ListN.{length};
 ghost use Rattle.refusal.specs.Answers.{given, answered};
 ghost use Rattle.matrix.specs.Matrix.{flat};
-ghost use Rattle.sheet.specs.Format.{codeIn, codesIn, wordFrom, entryIn};
+ghost use Rattle.sheet.specs.Format.{orderIn, codeIn, codesIn, wordFrom, patternIn, entryIn};
 ghost use Rattle.sheet.specs.Codes.{badCodes};
-ghost use Rattle.sheet_reader.specs.Reader.{OfForm, storedRow, longInVain, readAnswer, readOutcome, readingAnswered, contentOf, readOf};
+ghost use Rattle.sheet_reader.specs.Reader.{OfForm, storedRow, longInVain, sheetAnswer, readAnswer, readOutcome, readingAnswered, contentOf, readOf};
 use refusal::Answer;
 use refusal::Refusal;
 use sizes::LARGEST_ORDER;
@@ -27,6 +27,14 @@ pub fn read(sheet: &[u8], codes: &mut [u16], matrix: &mut [f64]) -> Reading
         Answer::Accepted => read_accepted(sheet, codes, matrix),
         Answer::Refused(refused) => Reading::Refused(refused),
     }
+}
+
+// What a sheet is refused by, by its bytes alone.
+pub fn tested(sheet: &[u8]) -> Answer
+    ensures { λ r. ⌜ answered r ≡ sheetAnswer (now (sheet .entry)) ⌝ }
+{
+    let n = sheet::order_in(sheet);
+    verdict(sheet, n, n * n)
 }
 
 // Refusals 3, 1, 2, 3, 4 and 5 of a sheet, where the lent codes and the lent matrix have these lengths.
@@ -136,7 +144,7 @@ fn read_codes(width: usize, n: usize, sheet: &[u8], codes: &mut [u16])
 }
 
 // Code k of a sheet, from 0.
-fn code_at(width: usize, k: usize, sheet: &[u8]) -> u16
+pub fn code_at(width: usize, k: usize, sheet: &[u8]) -> u16
     requires { ⌜ (1 ≤ width) × (width ≤ 2) × (2 + width * k + width ≤ length (now sheet)) ⌝ }
     ensures { λ r. ⌜ r ≡ codeIn width (now (sheet .entry)) k ⌝ }
 {
@@ -144,6 +152,15 @@ fn code_at(width: usize, k: usize, sheet: &[u8]) -> u16
         return sheet[2 + k] as u16;
     }
     sheet[2 + 2 * k] as u16 * 256 + sheet[3 + 2 * k] as u16
+}
+
+// The pattern of the stored entry in row i and column j, from 0, of a sheet that is not refused.
+pub fn pattern_at(i: usize, j: usize, sheet: &[u8]) -> u64
+    requires { ⌜ (sheetAnswer (now sheet) ≡ given tt) × (j ≤ i) × (i + 1 ≤ orderIn (now sheet)) ⌝ }
+    ensures { λ r. ⌜ r ≡ patternIn (now (sheet .entry)) (i + 1) (j + 1) ⌝ }
+{
+    let from = 2 + sheet::width_in(sheet) * sheet::order_in(sheet);
+    word_at(sheet, from + 8 * (i * (i + 1) / 2 + j))
 }
 
 // Each stored entry goes to its place and to the mirror place.

@@ -89,7 +89,7 @@ fn write_codes(width: usize, codes: &[u16], sheet: &mut [u8])
 }
 
 // Writes a code into the `width` bytes from `at` on, the highest first.
-fn put_code(width: usize, code: u16, at: usize, bytes: &mut [u8])
+pub fn put_code(width: usize, code: u16, at: usize, bytes: &mut [u8])
     requires { ⌜ (1 ≤ width) × (width ≤ 2) × (at + width ≤ length (now bytes)) ⌝ }
     ensures { λ _. ⌜ now (bytes .exit) ≡ withBytes width code at width (now (bytes .entry)) ⌝ }
 {
@@ -116,7 +116,7 @@ fn write_entries(width: usize, n: usize, matrix: &[f64], sheet: &mut [u8])
 }
 
 // Writes a word into the 8 bytes from `at` on, the highest first.
-fn put_word(word: u64, at: usize, bytes: &mut [u8])
+pub fn put_word(word: u64, at: usize, bytes: &mut [u8])
     requires { ⌜ at + 8 ≤ length (now bytes) ⌝ }
     ensures { λ _. ⌜ now (bytes .exit) ≡ withBytes 8 word at 8 (now (bytes .entry)) ⌝ }
 {

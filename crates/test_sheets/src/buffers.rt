@@ -39,3 +39,26 @@ pub fn lend(
         &mut matrix[..matrix_size],
     )
 }
+
+// Lends a joining the first parts of three buffers for sheets, the last filled with the lowest byte of a word. A length above that of its
+// buffer ends the program.
+pub fn lend_sheets(first_size: usize, second_size: usize, sheet_size: usize, fill: u64) -> bool {
+    if first_size > SHEET {
+        return false;
+    }
+    if second_size > SHEET {
+        return false;
+    }
+    if sheet_size > SHEET {
+        return false;
+    }
+    let byte = (fill % 256) as u8;
+    let mut first = [0; SHEET];
+    let mut second = [0; SHEET];
+    let mut sheet = [byte; SHEET];
+    calls::answer_join(
+        &mut first[..first_size],
+        &mut second[..second_size],
+        &mut sheet[..sheet_size],
+    )
+}

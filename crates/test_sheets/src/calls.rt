@@ -58,6 +58,18 @@ fn answer_write(
     print_writing(writing) && packed::print_bytes(sheet)
 }
 
+// Reads two sheets, joins them, and writes what a writing does.
+pub fn answer_join(first: &mut [u8], second: &mut [u8], sheet: &mut [u8]) -> bool {
+    if !packed::read_bytes(first) {
+        return false;
+    }
+    if !packed::read_bytes(second) {
+        return false;
+    }
+    let writing = sheet_join::join(first, second, sheet);
+    print_writing(writing) && packed::print_bytes(sheet)
+}
+
 fn print_writing(writing: Writing) -> bool {
     match writing {
         Writing::Written(count) => test_io::print_word(count as u64),

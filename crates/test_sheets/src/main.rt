@@ -1,5 +1,5 @@
 // Reads cases of sheets, one word to a line, and writes what comes of each. A case begins with the number of
-// its kind: 0 is a reading and 1 a writing.
+// its kind: 0 is a reading, 1 a writing and 2 a joining.
 // tools/sheet_vectors.py writes the input and the expected output.
 use calls::Call;
 use test_io::TextLine;
@@ -25,6 +25,7 @@ fn answer_case() -> bool {
     match kind {
         0 => answer_reading(),
         1 => answer_writing(),
+        2 => answer_joining(),
         _ => false,
     }
 }
@@ -85,4 +86,21 @@ fn answer_writing() -> bool {
         fill,
         0.0,
     )
+}
+
+// Reads the lengths of the first sheet, of the second and of the lent one, and what the last is filled with.
+fn answer_joining() -> bool {
+    let TextLine::Word(first) = test_io::read_word() else {
+        return false;
+    };
+    let TextLine::Word(second) = test_io::read_word() else {
+        return false;
+    };
+    let TextLine::Word(sheet) = test_io::read_word() else {
+        return false;
+    };
+    let TextLine::Word(fill) = test_io::read_word() else {
+        return false;
+    };
+    buffers::lend_sheets(first as usize, second as usize, sheet as usize, fill)
 }

@@ -3,6 +3,7 @@
 mod arrays;
 mod expected;
 mod forecasts;
+mod joinings;
 mod orderings;
 mod roots;
 mod rotations;
@@ -22,7 +23,7 @@ const STACK: usize = 1 << 18;
 /// Draws and compares, prints a line to a subject, and tells whether all is as expected.
 type Subject = fn(&mut Random) -> bool;
 
-const SUBJECTS: [Subject; 9] = [
+const SUBJECTS: [Subject; 10] = [
     sizes::compare,
     roots::compare,
     rotations::compare,
@@ -31,6 +32,7 @@ const SUBJECTS: [Subject; 9] = [
     arrays::compare,
     forecasts::compare,
     sheets::compare,
+    joinings::compare,
     wrapper::compare,
 ];
 

@@ -53,6 +53,6 @@ impl Tally {
 
 /// The number that is answered, as a word.
 pub fn number_of<T>(answer: &Result<T, Refusal>) -> &'static str {
-    const NUMBERS: [&str; 10] = ["0", "1", "2", "3", "4", "5", "6", "7", "8", "9"];
+    const NUMBERS: [&str; 11] = ["0", "1", "2", "3", "4", "5", "6", "7", "8", "9", "10"];
     NUMBERS[answer.as_ref().map_or_else(|refusal| refusal.number, |_| 0) as usize]
 }

@@ -1,7 +1,7 @@
 //! The functions of `weimrukas`, which a Rust program calls.
 use crate::expected::{same_bits, FILLED};
 use crate::tally::{number_of, Tally};
-use draw::{Contents, Lent, Random};
+use draw::{Contents, Joining, Lent, Random};
 use reference::array::{self, Made};
 use reference::sizes::{ARRAY_WORDS, MOST_TILES};
 use reference::{by_hand, forecast, listing, ordering, plain, records, root, rotation, sheet};
@@ -11,7 +11,7 @@ use weimrukas::{Array, Found, Parameters, Ran};
 const DRAWS: usize = 1_000;
 
 pub fn compare(random: &mut Random) -> bool {
-    let answers = ["0", "1", "2", "3", "4", "5", "6", "7", "8", "9"];
+    let answers = ["0", "1", "2", "3", "4", "5", "6", "7", "8", "9", "10"];
     let mut tally = Tally::new("functions for Rust", &answers);
     for _ in 0..DRAWS {
         let k = random.below(Lent::EACH);
@@ -25,6 +25,8 @@ pub fn compare(random: &mut Random) -> bool {
         compare_read(&sheet, random, &mut tally);
         compare_list(&sheet, random, &mut tally);
         compare_write(Contents::any(k, form, random), &mut tally);
+        let forms = [form, random.form()];
+        compare_join(&Joining::any(k, forms, random), &mut tally);
     }
     tally.report()
 }
@@ -149,6 +151,13 @@ fn compare_write(lent: Contents, tally: &mut Tally) {
     let (mut one, mut other) = (lent.sheet.clone(), lent.sheet);
     let answer = weimrukas::write_sheet(lent.n, lent.sweeps, &lent.codes, &lent.matrix, &mut one);
     let expected = sheet::write(lent.n, lent.sweeps, &lent.codes, &lent.matrix, &mut other);
+    count(tally, answer, expected, one == other);
+}
+
+fn compare_join(lent: &Joining, tally: &mut Tally) {
+    let (mut one, mut other) = (lent.sheet.clone(), lent.sheet.clone());
+    let answer = weimrukas::join_sheets(&lent.first, &lent.second, &mut one);
+    let expected = sheet::join(&lent.first, &lent.second, &mut other);
     count(tally, answer, expected, one == other);
 }
 

@@ -1,12 +1,14 @@
 //! Draws by a seed: values, and what calls are lent.
 #![forbid(unsafe_code)]
 
+mod joinings;
 mod matrices;
 mod records;
 mod sheets;
 mod sizes;
 mod values;
 
+pub use joinings::Joining;
 pub use matrices::Lent;
 pub use sheets::{read_lent, sheet, text, Contents};
 

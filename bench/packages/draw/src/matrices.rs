@@ -67,7 +67,13 @@ impl Lent {
         })
     }
 
-    /// The same, of which one in four is damaged, in one to three ways.
+    /// A run of the given order, with any number of sweeps and any kind of entries.
+    pub(super) fn of_order(n: usize, random: &mut Random) -> Lent {
+        let k = n - 2 + ORDERS * random.below(SWEEPS * KINDS);
+        Lent::each(k, random)
+    }
+
+    /// Run number k, of which one in four is damaged, in one to three ways.
     pub fn any(k: usize, random: &mut Random) -> Lent {
         let mut lent = Lent::each(k, random);
         if random.one_in(4) {

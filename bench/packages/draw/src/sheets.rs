@@ -41,7 +41,7 @@ impl Contents {
         contents
     }
 
-    fn with_codes(lent: Lent, codes: Vec<u16>, random: &mut Random) -> Contents {
+    pub(super) fn with_codes(lent: Lent, codes: Vec<u16>, random: &mut Random) -> Contents {
         Contents {
             n: lent.n,
             sweeps: lent.sweeps,
@@ -50,23 +50,23 @@ impl Contents {
             matrix: lent.matrix,
         }
     }
+
+    /// The sheet of valid contents.
+    pub(super) fn written(mut self) -> Vec<u8> {
+        let (codes, matrix) = (&self.codes, &self.matrix);
+        let written = write(self.n, self.sweeps, codes, matrix, &mut self.sheet);
+        written.expect("the contents are valid");
+        self.sheet
+    }
 }
 
 /// The sheet of run number k, damaged in half of the cases, in one or two ways.
 pub fn sheet(k: usize, form: Form, random: &mut Random) -> Vec<u8> {
     let lent = Lent::each(k, random);
-    let (n, sweeps) = (lent.n, lent.sweeps);
-    let Contents {
-        codes,
-        matrix,
-        mut sheet,
-        ..
-    } = Contents::of_run(lent, form, random);
-    write(n, sweeps, &codes, &matrix, &mut sheet).expect("the contents are valid");
+    let n = lent.n;
+    let mut sheet = Contents::of_run(lent, form, random).written();
     if random.one_in(2) {
-        for _ in 0..=random.below(2) {
-            random.damage_sheet(form, n, &mut sheet);
-        }
+        random.damage_sheet(form, n, &mut sheet);
     }
     sheet
 }
@@ -99,12 +99,12 @@ impl Random {
         self.among(&[Form::Short, Form::Long])
     }
 
-    fn bytes(&mut self, length: usize) -> Vec<u8> {
+    pub(super) fn bytes(&mut self, length: usize) -> Vec<u8> {
         (0..length).map(|_| self.word() as u8).collect()
     }
 
     /// Codes that are all different, as many as there can be of one byte.
-    fn codes(&mut self, form: Form, n: usize) -> Vec<u16> {
+    pub(super) fn codes(&mut self, form: Form, n: usize) -> Vec<u16> {
         let mut codes: Vec<u16> = (1..=255).collect();
         for k in 0..codes.len() {
             let other = k + self.below(codes.len() - k);
@@ -118,7 +118,7 @@ impl Random {
     }
 
     /// Puts different codes above 255: all, by any lower byte or by the same upper byte, or some, or one.
-    fn enlarge(&mut self, codes: &mut [u16]) {
+    pub(super) fn enlarge(&mut self, codes: &mut [u16]) {
         let chosen = self.below(codes.len());
         let upper = 256 * (1 + self.below(255) as u16);
         let kind = self.below(4);
@@ -146,8 +146,15 @@ impl Random {
         }
     }
 
+    /// Damages a sheet of order n in one or two ways.
+    pub(super) fn damage_sheet(&mut self, form: Form, n: usize, sheet: &mut Vec<u8>) {
+        for _ in 0..=self.below(2) {
+            self.damage_once(form, n, sheet);
+        }
+    }
+
     /// Damages a sheet of order n, or what an earlier damage has left of it.
-    fn damage_sheet(&mut self, form: Form, n: usize, sheet: &mut Vec<u8>) {
+    fn damage_once(&mut self, form: Form, n: usize, sheet: &mut Vec<u8>) {
         let codes = HEAD..HEAD + form.width() * n;
         match self.below(14) {
             0 => sheet.truncate(self.below(sheet.len() + 1)),

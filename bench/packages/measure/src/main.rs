@@ -17,6 +17,8 @@ fn main() {
     runs::measure_orders(&mut random);
     sheets::measure(&mut random);
     println!();
+    sheets::measure_joinings(&mut random);
+    println!();
     runs::measure_odd(&mut random);
     println!();
     runs::measure_sweeps(&mut random);

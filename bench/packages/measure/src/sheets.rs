@@ -1,10 +1,13 @@
-//! Reading and writing sheets of both forms.
+//! Reading, writing and joining sheets of both forms.
 use crate::orders::{self, Call};
-use draw::{Contents, Lent, Random};
+use draw::{Contents, Joining, Lent, Random};
 use measure::matrices::SWEEPS;
+use measure::rounds::{fastest, round, shown};
 use reference::sheet::{self, Form};
 
 const SHEETS: usize = 64;
+/// The orders of two sheets that are joined.
+const JOINED: [[usize; 2]; 2] = [[2, 2], [16, 16]];
 
 pub fn measure(random: &mut Random) {
     let calls: [Call<Contents>; 4] = [library_read, reference_read, library_write, reference_write];
@@ -16,6 +19,31 @@ pub fn measure(random: &mut Random) {
         orders::measure(names, calls, |n| {
             (0..SHEETS).map(|_| drawn(n, form, random)).collect()
         });
+    }
+}
+
+/// Two sheets to one.
+pub fn measure_joinings(random: &mut Random) {
+    println!("| call | orders | library | reference | library / reference |");
+    println!("|---|---|---|---|---|");
+    for (form, name) in [(Form::Short, "short"), (Form::Long, "long")] {
+        for orders in JOINED {
+            let mut draw = || {
+                let runs = orders.map(|n| Lent::drawn(n, SWEEPS, random, Random::unit));
+                Joining::of_runs(runs, [form; 2], random)
+            };
+            let all: Vec<Joining> = (0..SHEETS).map(|_| draw()).collect();
+            let [library, reference] =
+                fastest([round(&all, library_join), round(&all, reference_join)]);
+            println!(
+                "| join {name} sheets | {} and {} | {} | {} | {:.2} |",
+                orders[0],
+                orders[1],
+                shown(library),
+                shown(reference),
+                library / reference
+            );
+        }
     }
 }
 
@@ -43,4 +71,12 @@ fn library_write(lent: &mut Contents) -> bool {
 fn reference_write(lent: &mut Contents) -> bool {
     let (codes, matrix) = (&lent.codes, &lent.matrix);
     sheet::write(lent.n, lent.sweeps, codes, matrix, &mut lent.sheet).is_ok()
+}
+
+fn library_join(lent: &mut Joining) -> bool {
+    weimrukas::join_sheets(&lent.first, &lent.second, &mut lent.sheet).is_ok()
+}
+
+fn reference_join(lent: &mut Joining) -> bool {
+    sheet::join(&lent.first, &lent.second, &mut lent.sheet).is_ok()
 }

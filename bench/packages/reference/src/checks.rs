@@ -1,4 +1,4 @@
-//! What is tested before a call does anything (document 01, "Refused, by place"; document 02, odd orders).
+//! What is tested before a call does anything (document 01, "Refused, by place"; document 02, odd orders and joined sheets).
 use crate::sheet::Form;
 use crate::sizes::{MOST_LINES, MOST_SWEEPS};
 use crate::Refusal;
@@ -24,6 +24,12 @@ pub fn codes(codes: &[u16]) -> Result<(), Refusal> {
 /// The form that codes were found in beside the one that they are written in.
 pub fn form(found: Form, written: Form) -> Result<(), Refusal> {
     accepted_if(found == written, 4)
+}
+
+/// The codes of two sheets that are joined.
+pub fn apart(codes: &[u16], others: &[u16]) -> Result<(), Refusal> {
+    let is_shared = |code: &u16| others.iter().any(|other| other == code);
+    accepted_if(!codes.iter().any(is_shared), 10)
 }
 
 /// All entries are tested for 5 before any for 6.

@@ -1,6 +1,6 @@
-//! Document 01, with document 02's line codes, odd orders, forecasts, quiet sweeps and rounded roots, in plain Rust. It
-//! shares nothing with the library that it is compared with, nor with the library's wrapper. Its square root is found by
-//! whole numbers; its runs use the processor's, and tell by whole numbers whether it is exact.
+//! Document 01, with document 02's line codes, odd orders, forecasts, quiet sweeps, rounded roots and joined sheets, in
+//! plain Rust. It shares nothing with the library that it is compared with, nor with the library's wrapper. Its square
+//! root is found by whole numbers; its runs use the processor's, and tell by whole numbers whether it is exact.
 #![forbid(unsafe_code)]
 
 pub mod array;

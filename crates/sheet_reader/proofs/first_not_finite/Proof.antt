@@ -10,9 +10,9 @@ use Rattle.refusal.specs.Answers.{given, answered, first}
 use Rattle.refusal.specs.declared.Answer.the-variants.{Accepted}
 use Rattle.refusal.proofs.FirstRefusal.{first-none, first-more}
 use Rattle.sheet.specs.Format.{entriesFrom, entriesTo, patternIn}
-use Rattle.sheet.proofs.Triangle.{offset-start, offset-row}
+use Rattle.sheet.proofs.Triangle.{offset-start, offset-row, entry-within}
 use Rattle.sheet_reader.specs.Reader.{notFiniteIn}
-use Rattle.sheet_reader.proofs.SheetContents.{entry-within, pattern-read, tested-as, is-finite, none-found, one-found}
+use Rattle.sheet_reader.proofs.SheetContents.{pattern-read, tested-as, is-finite, none-found, one-found}
 use Rattle.sheet_reader.proofs.first_not_finite.Statement.{statement}
 use Rattle.sheet_reader.proofs.first_not_finite.Tie as tie
 

@@ -6,9 +6,9 @@ use lib.Arith.{digits-lt}
 use lib.ListN.{length, length-set}
 use Rattle.sizes.specs.Sizes.{largestOrder}
 use Rattle.sheet.specs.Format.{entriesFrom, entriesTo, entryIn}
-use Rattle.sheet.proofs.Triangle.{few-entries, row-more, offset-start, offset-row}
+use Rattle.sheet.proofs.Triangle.{few-entries, row-more, offset-start, offset-row, entry-within}
 use Rattle.sheet_reader.proofs.MirroredEntries.{Stored, stored-none, stored-next, stored-all}
-use Rattle.sheet_reader.proofs.SheetContents.{entry-within, pattern-read, up-to-diagonal, mirror-read}
+use Rattle.sheet_reader.proofs.SheetContents.{pattern-read, up-to-diagonal, mirror-read}
 use Rattle.sheet_reader.proofs.read_entries.Statement.{statement}
 use Rattle.sheet_reader.proofs.read_entries.Tie as tie
 

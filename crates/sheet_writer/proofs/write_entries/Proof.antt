@@ -8,7 +8,7 @@ use Rattle.sizes.specs.Sizes.{largestOrder}
 use Rattle.matrix.specs.Matrix.{at}
 use Rattle.matrix.proofs.EntryPlaces.{entry-in}
 use Rattle.sheet.specs.Format.{sheetLength, entriesFrom, entriesTo}
-use Rattle.sheet.proofs.Triangle.{length-is, rows-below, few-codes, few-entries, offset-start, offset-row}
+use Rattle.sheet.proofs.Triangle.{entry-within, few-codes, few-entries, offset-start, offset-row}
 use Rattle.sheet_writer.specs.Steps.{withEntries}
 use Rattle.sheet_writer.proofs.SheetBytes.{entries-none, entries-next, row-none, row-all, bytes-long}
 use Rattle.sheet_writer.proofs.write_entries.Statement.{statement}
@@ -38,13 +38,9 @@ at-start c = c .before .before .before .before .before .before
 -- there is room for the entry
 room : (c : tie.In-loop2 Inv-loop2 μ-loop2 Inv-loop μ-loop) → c .before .loop2 .offset + 8 ≤ sheetLength (at-start c .args .width) (at-start c .args .n)
 room c =
-    let at-loop = c .before .before .before in
-    let n = at-start c .args .n in
     let u = c .before .loop2 .inv in
-    let v = at-loop .loop .inv in
-    let w = rows-below (at-loop .loop .i) n (omega arith) in
-    let l = length-is (at-start c .args .width) n in
-    omega arith
+    let at-loop = c .before .before .before in
+    entry-within _ _ (at-loop .loop .i) (c .before .loop2 .j) (omega arith) (omega arith) (omega (arith, u .2, at-loop .loop .inv .2))
 
 -- the bytes of a sheet are few
 few-bytes : (c : tie.Start Inv-loop2 μ-loop2 Inv-loop μ-loop) → let a = c .args in

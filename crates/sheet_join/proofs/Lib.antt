@@ -1,0 +1,3 @@
+pub mod JoinOutcomes
+pub mod JointContents
+pub mod Tables
