@@ -1,3 +1,4 @@
+#![tactic(auto)]
 // The array of tiles (document 01, "The array").
 ghost use Rattle.std.specs.Prelude.{◌≡◌};
 ghost use Rattle.array.specs.Arrays.{Ticks};
@@ -13,7 +14,7 @@ mod angles;
 mod wiring;
 
 // The order, the sweeps, the number of the next tick and the tiles: that in row i and column j, from 0, is at i * MOST_PROCESSORS + j.
-#[derive(Drop)]
+#[derive(Clone, Copy)]
 pub struct Array {
     pub n: usize,
     pub sweeps: usize,
@@ -22,14 +23,14 @@ pub struct Array {
 }
 
 // What a start answers, and the array beside it.
-#[derive(Drop)]
+#[derive(Clone, Copy)]
 pub struct Started {
     pub answer: Answer,
     pub array: Array,
 }
 
 // What a tick answers, and the array beside it.
-#[derive(Drop)]
+#[derive(Clone, Copy)]
 pub struct Ticked {
     pub answer: Progress,
     pub array: Array,

@@ -6,7 +6,7 @@ ghost use Rattle.array.specs.Arrays.{nearOf, Inside, downOf, nearerOf};
 use sizes::MOST_PROCESSORS;
 
 // Where the tiles stand whose wires come in by each corner, along the row and along the column.
-#[derive(Drop)]
+#[derive(Clone, Copy)]
 pub struct Near {
     pub alpha: usize,
     pub beta: usize,

@@ -70,7 +70,7 @@ fn write_cells(array: Array, res: &mut [f64], vectors: &mut [f64])
 {
     let n = array.n;
     let first = sizes::first_line(n);
-    for k in 0..result.len() {
+    for k in 0..res.len() {
         let i = k / n + 1 - first;
         let j = k % n + 1 - first;
         let tile = array.tiles[i / 2 * MOST_PROCESSORS + j / 2];

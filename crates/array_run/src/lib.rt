@@ -1,3 +1,4 @@
+#![tactic(auto)]
 // The whole run on the array (document 01, "The array", and document 02 (vi) and (vii)).
 ghost use Rattle.std.specs.Prelude.{◌≡◌, length};
 ghost use Rattle.refusal.specs.Answers.{given};
@@ -12,7 +13,7 @@ mod advance;
 mod ending;
 
 // What a whole run answers: the numbers of sweeps and of ticks that it made and of the pairs met that had a rounded root, or a refusal.
-#[derive(Drop)]
+#[derive(Clone, Copy)]
 pub enum Completion {
     Completed(usize, usize, usize),
     Refused(Refusal),

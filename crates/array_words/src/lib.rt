@@ -1,3 +1,4 @@
+#![tactic(auto)]
 // The record of an array as words in a lent buffer.
 ghost use Rattle.std.specs.Prelude.{◌≡◌, ◌+◌, ◌≤◌, eqb, length, get_or};
 ghost use Rattle.array_words.specs.Words.{tileWords, arrayWords, quadWord, partWord, countsWord, tileWord, writtenAt};

@@ -1,3 +1,4 @@
+#![tactic(auto)]
 // The calls of documents 01 and 02 as C functions; include/weimrukas.h tells what each answers and leaves.
 mod answers;
 mod both_runs;

@@ -1,3 +1,4 @@
+#![tactic(auto)]
 // Small functions on f64 that the other crates share. The language has one NaN and no pattern for
 // it, so these are the only places that read or make the bits of a value that may be a NaN.
 ghost use Rattle.std.specs.Prelude.{◌≡◌};

@@ -1,3 +1,4 @@
+#![tactic(auto)]
 // What a run of the array takes, told from its order and its sweeps alone (document 02 (iii)).
 ghost use Rattle.std.specs.Prelude.{◌≡◌, true, ◌≤◌};
 ghost use Rattle.sizes.specs.Sizes.{mostSweeps, is_order};
@@ -7,7 +8,7 @@ use refusal::{Answer, Refusal};
 
 // The ticks, the values of the matrix and of the eigenvectors that are set on cell wires, and the parameters that tiles
 // off the diagonal receive.
-#[derive(Drop)]
+#[derive(Clone, Copy)]
 pub struct Figures {
     pub ticks: usize,
     pub values: usize,
@@ -15,7 +16,7 @@ pub struct Figures {
 }
 
 // What a forecast answers.
-#[derive(Drop)]
+#[derive(Clone, Copy)]
 pub enum Forecast {
     Given(Figures),
     Refused(Refusal),

@@ -1,3 +1,4 @@
+#![tactic(auto)]
 // Reads a sheet on standard input, runs the array, and prints it (document 01, "The printed sheet"). A program can set no exit status: where a
 // read or a write fails, a line on standard error says so, and after a failed read nothing is printed.
 ghost use Rattle.std.specs.Prelude.{◌≡◌, length};
@@ -15,7 +16,7 @@ const INPUT: usize = sheet::LONGEST + 1;
 const TEXT: usize = listing_text::LONGEST;
 
 // How many bytes are read, or that a read failed.
-#[derive(Drop)]
+#[derive(Clone, Copy)]
 enum Input {
     Read(usize),
     Failed,

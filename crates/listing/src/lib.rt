@@ -1,3 +1,4 @@
+#![tactic(auto)]
 // The listing of a sheet: read, run by the array and printed (document 01, "The printed sheet").
 ghost use Rattle.std.specs.Prelude.{◌≡◌, true, cond, ◌*◌, ◌≤◌, ltb, length};
 ghost use Rattle.refusal.specs.Answers.{given, refusedBy, answered};
@@ -13,7 +14,7 @@ use sheet_reader::Reading;
 use sizes::{LARGEST_ORDER, MOST_ENTRIES};
 
 // What a listing answers, and how many bytes it prints.
-#[derive(Drop)]
+#[derive(Clone, Copy)]
 pub struct Listing {
     pub answer: Answer,
     pub count: usize,

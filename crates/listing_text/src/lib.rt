@@ -1,3 +1,4 @@
+#![tactic(auto)]
 // The printed sheet (document 01).
 ghost use Rattle.std.specs.Prelude.{◌≡◌, ◌+◌, ◌*◌, ◌<◌, ◌≤◌, length};
 ghost use Rattle.refusal.specs.Refusal.{number_of};

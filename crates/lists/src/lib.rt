@@ -1,1 +1,2 @@
+#![tactic(auto)]
 // No code: lists given by a formula, and their laws.

@@ -1,3 +1,4 @@
+#![tactic(auto)]
 // Lent matrices, row by row (document 01).
 ghost use Rattle.std.specs.Prelude.{◌≡◌, ℕ, ◌+◌, ◌*◌, ◌<◌, length, eqb, Float};
 ghost use Rattle.float64.specs.Values.{plusZero};

@@ -1,3 +1,4 @@
+#![tactic(auto)]
 // Two lines of a lent matrix turned, and what is found of their pair (document 01, "One rotation").
 ghost use Rattle.std.specs.Prelude.{◌≡◌, ℕ, ◌+◌, ◌*◌, ◌<◌, length};
 ghost use Rattle.matrix.specs.Matrix.{entry_of};

@@ -1,3 +1,4 @@
+#![tactic(auto)]
 // The registers of the processors and the list of pairs (document 01, "Pairs and their movement").
 ghost use Rattle.std.specs.Prelude.{◌≡◌, ℕ, ◌-◌, ◌≤◌, ◌<◌};
 ghost use Rattle.systolic.specs.Slots.{left, right, inOrder, prior, line_at};
@@ -9,14 +10,14 @@ use refusal::{Answer, Refusal};
 use sizes::MOST_PROCESSORS;
 
 // The left and the right register of each processor, zeros above the last one.
-#[derive(Drop)]
+#[derive(Clone, Copy)]
 pub struct Registers {
     pub left: [usize; MOST_PROCESSORS],
     pub right: [usize; MOST_PROCESSORS],
 }
 
 // An answer, and the registers beside it.
-#[derive(Drop)]
+#[derive(Clone, Copy)]
 pub struct PairList {
     pub answer: Answer,
     pub registers: Registers,

@@ -1,3 +1,4 @@
+#![tactic(auto)]
 // What the pair of two lines does to a lent matrix and to its eigenvectors (document 01, "Plain run").
 ghost use Rattle.std.specs.Prelude.{◌≡◌, true, ◌*◌, ◌≤◌, length};
 ghost use Rattle.float64.specs.Values.{plusZero};

@@ -13,7 +13,7 @@ use rotation::{Angle, Rooted};
 use sizes::MOST_PROCESSORS;
 
 // The angles of a step's pairs, and how many of these have a rounded root.
-#[derive(Drop)]
+#[derive(Clone, Copy)]
 pub struct Step {
     pub angles: [Angle; MOST_PROCESSORS],
     pub rounded: usize,

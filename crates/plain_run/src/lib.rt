@@ -1,3 +1,4 @@
+#![tactic(auto)]
 // The plain run (document 01, "Pairs and their movement").
 ghost use Rattle.std.specs.Prelude.{◌≡◌, true, not, cond, ◌||◌, ℕ, ◌*◌, ◌<◌, ◌≤◌, length, get_or};
 ghost use Rattle.refusal.specs.Answers.{given, refusedBy};
@@ -26,21 +27,21 @@ use sizes::MOST_PROCESSORS;
 mod angles;
 
 // What a run answers: the number of sweeps that it made and how many pairs met in them had a rounded root, or a refusal.
-#[derive(Drop)]
+#[derive(Clone, Copy)]
 pub enum Ran {
     Made(usize, usize),
     Refused(Refusal),
 }
 
 // The sweeps that were made, and how many pairs met in them had a rounded root.
-#[derive(Drop)]
+#[derive(Clone, Copy)]
 struct Sweeps {
     made: usize,
     rounded: usize,
 }
 
 // How many pairs of a sweep were turned, and how many had a rounded root.
-#[derive(Drop)]
+#[derive(Clone, Copy)]
 struct Sweep {
     turns: usize,
     rounded: usize,

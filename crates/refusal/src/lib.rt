@@ -1,9 +1,10 @@
+#![tactic(auto)]
 // The refusals of document 01, "Refused, by place", and of document 02.
 ghost use Rattle.std.specs.Prelude.{◌≡◌};
 ghost use Rattle.refusal.specs.Refusal.{number_of, values_of, placeValues};
 
 // 5 and 6 carry the row and the column, from 1, of the entry that is refused.
-#[derive(Drop)]
+#[derive(Clone, Copy)]
 pub enum Refusal {
     Order,
     Sweeps,
@@ -18,14 +19,14 @@ pub enum Refusal {
 }
 
 // What a call answers that gives no value of its own.
-#[derive(Drop)]
+#[derive(Clone, Copy)]
 pub enum Answer {
     Accepted,
     Refused(Refusal),
 }
 
 // The row and the column beside a refusal, if it has them.
-#[derive(Drop)]
+#[derive(Clone, Copy)]
 pub enum Place {
     Nowhere,
     At(usize, usize),

@@ -1,3 +1,4 @@
+#![tactic(auto)]
 // The correctly rounded square root of an f64 (document 01, "Square root"), and whether it is exact (document 02 (vii)).
 mod whole;
 
@@ -12,7 +13,7 @@ ghost use Rattle.root.specs.declared.Root.TheVariants.{Of};
 use refusal::Refusal;
 
 // A root and whether it is exact, or a refusal.
-#[derive(Drop)]
+#[derive(Clone, Copy)]
 pub enum Root {
     Of(f64, bool),
     Refused(Refusal),

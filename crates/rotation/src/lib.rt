@@ -1,3 +1,4 @@
+#![tactic(auto)]
 // One rotation of a pair of lines (document 01, "One rotation"; document 02 (v) and (vii); document 003, (5.1)).
 ghost use Rattle.std.specs.Prelude.{◌≡◌};
 ghost use Rattle.rotation.specs.Rotation.{signum, angleOf, ofAngle, sent, diagonalOf, turn_of};
@@ -6,35 +7,35 @@ ghost use Rattle.rotation.specs.Exact.{foundOf, rootedOf, tangentRooted, cosineR
 use root::Root;
 
 // Still, or a turn with the tangent, the cosine and the sine of its angle.
-#[derive(Drop)]
+#[derive(Clone, Copy)]
 pub enum Parameters {
     Still,
     Turn(f64, f64, f64),
 }
 
 // A value that is found by a root, and whether the root is exact.
-#[derive(Drop)]
+#[derive(Clone, Copy)]
 pub struct Rooted {
     pub value: f64,
     pub exact: bool,
 }
 
 // The parameters of a pair, and whether both of its roots are exact.
-#[derive(Drop)]
+#[derive(Clone, Copy)]
 pub struct Found {
     pub parameters: Parameters,
     pub exact: bool,
 }
 
 // The tangent of an angle and its cosine.
-#[derive(Drop)]
+#[derive(Clone, Copy)]
 pub struct Angle {
     pub tangent: f64,
     pub cosine: f64,
 }
 
 // A value at the left line of a pair and one at the right.
-#[derive(Drop)]
+#[derive(Clone, Copy)]
 pub struct Sides {
     pub left: f64,
     pub right: f64,

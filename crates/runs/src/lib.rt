@@ -1,3 +1,4 @@
+#![tactic(auto)]
 // What the plain run and the array's run share: the refusals before a run, the identity, which processor is always still, what a processor counts.
 ghost use Rattle.std.specs.Prelude.{◌≡◌};
 ghost use Rattle.refusal.specs.Answers.{answered};
@@ -11,7 +12,7 @@ use rotation::{Found, Parameters};
 use sizes::MOST_COUNTED;
 
 // What a processor counts: its turns in the current sweep, and its pairs with a rounded root in the whole run.
-#[derive(Drop)]
+#[derive(Clone, Copy)]
 pub struct Counts {
     pub turns: u16,
     pub rounded: u16,

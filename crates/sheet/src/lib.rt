@@ -1,3 +1,4 @@
+#![tactic(auto)]
 // The form of a sheet, its length, and its line codes (document 01, "A sheet"; document 02 (i)).
 ghost use Rattle.std.specs.Prelude.{◌≡◌, ◌+◌, ◌≤◌, length};
 ghost use Rattle.sizes.specs.Sizes.{largestOrder};

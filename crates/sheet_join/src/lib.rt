@@ -1,3 +1,4 @@
+#![tactic(auto)]
 // The joining of two stations' sheets (document 02 (viii)).
 ghost use Rattle.std.specs.Prelude.{◌≡◌, ◌+◌, ◌*◌, ◌≤◌, max, length, get_or};
 ghost use Rattle.std.specs.Float.{binary64};

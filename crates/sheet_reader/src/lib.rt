@@ -1,3 +1,4 @@
+#![tactic(auto)]
 // The reader of sheets (document 01, "A sheet"; document 02 (i)), and what a sheet is refused by.
 ghost use Rattle.std.specs.Prelude.{◌≡◌, ◌||◌, ◌+◌, ◌*◌, ◌≤◌, length};
 ghost use Rattle.refusal.specs.Answers.{given, answered};
@@ -10,7 +11,7 @@ use refusal::{Answer, Refusal};
 use sizes::LARGEST_ORDER;
 
 // What a reader answers: the order and the sweeps, or a refusal.
-#[derive(Drop)]
+#[derive(Clone, Copy)]
 pub enum Reading {
     Read(usize, usize),
     Refused(Refusal),

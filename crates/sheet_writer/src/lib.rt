@@ -1,3 +1,4 @@
+#![tactic(auto)]
 // The writer of sheets (document 01, "A sheet"; document 02 (i)).
 ghost use Rattle.std.specs.Prelude.{◌≡◌, ◌+◌, ◌*◌, ◌≤◌, length};
 ghost use Rattle.refusal.specs.Answers.{given, answered};
@@ -10,7 +11,7 @@ ghost use Rattle.sheet_writer.specs.Writer.{writeAnswer, writeOutcome, writingAn
 use refusal::{Answer, Refusal};
 
 // What a writer answers: how many bytes it wrote, or a refusal.
-#[derive(Drop)]
+#[derive(Clone, Copy)]
 pub enum Writing {
     Written(usize),
     Refused(Refusal),

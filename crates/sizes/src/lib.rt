@@ -1,3 +1,4 @@
+#![tactic(auto)]
 // The sizes of documents 01 and 02, and their limits.
 ghost use Rattle.std.specs.Prelude.{◌≡◌, true, ◌≤◌};
 ghost use Rattle.refusal.specs.Answers.{answered};

@@ -1,3 +1,4 @@
+#![tactic(auto)]
 // The records of a step (document 01, "One rotation", last paragraph, and document 02 (ii) and (vii)).
 ghost use Rattle.std.specs.Prelude.{◌≡◌, cond, ltb};
 ghost use Rattle.refusal.specs.Answers.{refusedBy, given, answered};
@@ -12,7 +13,7 @@ use rotation::{Found, Parameters};
 use sizes::MOST_PROCESSORS;
 
 // Tangent, cosine and sine of a pair, and whether both of its roots are exact.
-#[derive(Drop)]
+#[derive(Clone, Copy)]
 pub struct Record {
     pub t: f64,
     pub c: f64,
@@ -21,7 +22,7 @@ pub struct Record {
 }
 
 // An answer, and the row beside it.
-#[derive(Drop)]
+#[derive(Clone, Copy)]
 pub struct Recorded {
     pub answer: Answer,
     pub row: [Record; MOST_PROCESSORS],

@@ -1,3 +1,4 @@
+#![tactic(auto)]
 // Reads cases of the small calls, one word to a line, and writes what comes of each. A case begins with the number of its kind: 0 is a square
 // root, 1 the parameters of a pair, 2 a list of pairs, 3 the records of a step and 4 a forecast.
 // tools/call_vectors.py writes the input and the expected output.

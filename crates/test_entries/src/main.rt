@@ -1,3 +1,4 @@
+#![tactic(auto)]
 // Makes the calls of document 01, "Entries to try", in its order, and writes what each answers and leaves. Results are lent filled with 9.
 // tools/entries_to_try.py writes the expected output.
 use array_run::Completion;

@@ -1,3 +1,4 @@
+#![tactic(auto)]
 // Lines of text for test programs: u64 words as 16 hexadecimal digits in capital letters, read from
 // standard input and written to standard output, and decimal numbers after a word. The modules have
 // what such programs read and write in these lines: values, whether roots were exact, refusals, and the
@@ -12,7 +13,7 @@ pub mod refusals;
 pub mod runs;
 pub mod values;
 
-#[derive(Drop)]
+#[derive(Clone, Copy)]
 pub enum TextLine {
     Word(u64),
     End,

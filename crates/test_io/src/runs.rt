@@ -12,7 +12,7 @@ const ORDER_PAST: usize = LARGEST_ORDER + 2;
 pub const LIMIT: usize = ORDER_PAST * ORDER_PAST;
 
 // The order, the sweeps, the lengths of the matrix and of both results, and the value that the results are filled with.
-#[derive(Drop)]
+#[derive(Clone, Copy)]
 pub struct Run {
     pub n: usize,
     pub sweeps: usize,
@@ -22,7 +22,7 @@ pub struct Run {
     pub fill: f64,
 }
 
-#[derive(Drop)]
+#[derive(Clone, Copy)]
 pub enum Head {
     Run(Run),
     End,

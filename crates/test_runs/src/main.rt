@@ -1,3 +1,4 @@
+#![tactic(auto)]
 // Reads cases of runs, one word to a line, and writes what comes of each. A case begins with the number of its kind: 0 is a whole run by
 // the array, 1 a run by hand, 2 a tick of a wild record and 3 a run by plain sweeps.
 // tools/array_vectors.py writes the input and the expected output.

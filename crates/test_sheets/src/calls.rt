@@ -6,7 +6,7 @@ use sheet_writer::Writing;
 use test_io::{refusals, values};
 
 // Of a writing the order and the sweeps.
-#[derive(Drop)]
+#[derive(Clone, Copy)]
 pub enum Call {
     Read,
     Write(usize, usize),

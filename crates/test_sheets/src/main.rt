@@ -1,3 +1,4 @@
+#![tactic(auto)]
 // Reads cases of sheets, one word to a line, and writes what comes of each. A case begins with the number of
 // its kind: 0 is a reading, 1 a writing and 2 a joining.
 // tools/sheet_vectors.py writes the input and the expected output.

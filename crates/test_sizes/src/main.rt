@@ -1,3 +1,4 @@
+#![tactic(auto)]
 // Writes the sizes that include/weimrukas.h has too: the limits, the words of an array, the longest sheet and listing, and for each number up
 // to the largest order the length of its sheet in the short and in the long form and the room for its listing. tools/compare_header writes
 // the expected output, from the header.

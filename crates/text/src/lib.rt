@@ -1,3 +1,4 @@
+#![tactic(auto)]
 // The text of numbers, in ASCII, put into lent bytes. Each function that puts a text answers where it ends.
 ghost use Rattle.std.specs.Prelude.{◌≡◌, ◌+◌, ◌<◌, ◌≤◌, [], ◌∷◌, length};
 ghost use Rattle.text.specs.Text.{code_of, shownFrom, decimalOf, hexOf, Put};

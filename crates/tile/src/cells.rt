@@ -11,7 +11,7 @@ use tile_schedule::Action;
 use tile_wires::{Part, Quad};
 
 // The cells of a tile, what its parameter wires carry, and its counts, before its work or after it.
-#[derive(Drop)]
+#[derive(Clone, Copy)]
 pub struct Work {
     pub cells: Part,
     pub row: f64,

@@ -1,3 +1,4 @@
+#![tactic(auto)]
 // One tile of the array in one tick (document 01, "The array").
 ghost use Rattle.std.specs.Prelude.{◌≡◌};
 ghost use Rattle.systolic.specs.Tiles.{distance, stepAt, actionAt, settledTile};
@@ -15,7 +16,7 @@ mod cells;
 
 // The cells of a tile, its outgoing wires, each named after the corner that it leaves by, its outgoing parameter wires along its row and
 // along its column, its mark, and what a tile on the diagonal counts.
-#[derive(Drop)]
+#[derive(Clone, Copy)]
 pub struct Tile {
     pub cells: Part,
     pub wires: Part,

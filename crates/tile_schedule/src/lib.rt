@@ -1,3 +1,4 @@
+#![tactic(auto)]
 // What a tile does in a tick, by its distance from the diagonal, and what a tick of the array answers (document 01, "The array").
 ghost use Rattle.std.specs.Prelude.{◌≡◌};
 ghost use Rattle.systolic.specs.Tiles.{distance, action, actionAt, stepAt, phaseIn};
@@ -8,7 +9,7 @@ ghost use Rattle.tile_schedule.specs.Answers.{progressAnswered, progressOf, left
 use refusal::{Answer, Refusal};
 
 // Nothing; the first rotation, which reads no cells; a later one; the two phases after a rotation; the last reading.
-#[derive(Drop)]
+#[derive(Clone, Copy)]
 pub enum Action {
     Idle,
     First,
@@ -19,7 +20,7 @@ pub enum Action {
 }
 
 // What a tick answers.
-#[derive(Drop)]
+#[derive(Clone, Copy)]
 pub enum Progress {
     Made,
     Stopped,

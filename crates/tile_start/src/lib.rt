@@ -1,3 +1,4 @@
+#![tactic(auto)]
 // The tiles at the start (document 01, "The array").
 ghost use Rattle.std.specs.Prelude.{◌≡◌, ◌<◌};
 ghost use Rattle.matrix.specs.Matrix.{entry_of};

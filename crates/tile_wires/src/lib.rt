@@ -1,3 +1,4 @@
+#![tactic(auto)]
 // The wires of a tile: what leaves and what comes in by each corner (document 01, "The array").
 ghost use Rattle.std.specs.Prelude.{◌≡◌};
 ghost use Rattle.tile_wires.specs.Wires.{interchanged, acrossOf, wiresOf, partWires, cornerOf, incomingQuad, incomingPart};
@@ -5,7 +6,7 @@ ghost use Rattle.tile_wires.specs.Wires.{interchanged, acrossOf, wiresOf, partWi
 mod phases;
 
 // A 2 by 2 part α β / γ δ of a matrix, row by row.
-#[derive(Drop)]
+#[derive(Clone, Copy)]
 pub struct Quad {
     pub alpha: f64,
     pub beta: f64,
@@ -14,7 +15,7 @@ pub struct Quad {
 }
 
 // A part of the matrix and the like part of the eigenvectors.
-#[derive(Drop)]
+#[derive(Clone, Copy)]
 pub struct Part {
     pub matrix: Quad,
     pub vectors: Quad,
