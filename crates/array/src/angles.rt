@@ -1,7 +1,7 @@
 // The angles of tangents that pass along the wires. All tiles that a tangent reaches turn by one angle, so what is found for the first is kept.
 ghost use Rattle.std.specs.Prelude.{◌≡◌, ◌*◌, ◌<◌};
-ghost use Rattle.rotation.specs.Rotation.{angleOf};
-ghost use Rattle.sizes.specs.Sizes.{mostProcessors};
+ghost use Rattle.rotation.specs.Rotation.{angle_of};
+ghost use Rattle.sizes.specs.Sizes.{most_processors};
 ghost use Rattle.array.specs.Angles.{Known};
 
 use rotation::Angle;
@@ -18,7 +18,7 @@ pub fn known(
     cosines: &mut [f64; MOST_TILES],
 ) -> Angle
     requires { Known tangents.old cosines.old }
-    ensures { (¬ (along ≡ other) → result ≡ angleOf t) × Known tangents.new cosines.new }
+    ensures { (¬ (along ≡ other) → result ≡ angle_of t) × Known tangents.new cosines.new }
 {
     if along == other {
         return Angle {
@@ -39,8 +39,8 @@ pub fn known(
 
 // The angle of the tangent t, where one angle is known.
 fn recalled(t: f64, old: Angle) -> Angle
-    requires { old ≡ angleOf old.tangent }
-    ensures { result ≡ angleOf t }
+    requires { old ≡ angle_of old.tangent }
+    ensures { result ≡ angle_of t }
 {
     if float64::same_bits(t, old.tangent) {
         return old;
@@ -50,7 +50,7 @@ fn recalled(t: f64, old: Angle) -> Angle
 
 // Where an angle is kept: a tangent moves by one tile a tick, so T - Δ is the same for all tiles that it reaches.
 fn place(tick: usize, along: usize, other: usize) -> usize
-    ensures { result < mostProcessors * mostProcessors }
+    ensures { result < most_processors * most_processors }
 {
     let away = tile_schedule::distance(along, other);
     if tick < away {

@@ -2,7 +2,7 @@
 // The array of tiles (document 01, "The array").
 ghost use Rattle.std.specs.Prelude.{◌≡◌};
 ghost use Rattle.array.specs.Arrays.{Ticks};
-ghost use Rattle.array.specs.Runs.{startArray, noArray, Starts, GoesOn, ticked};
+ghost use Rattle.array.specs.Runs.{start_array, no_array, Starts, GoesOn, ticked};
 
 use refusal::Answer;
 use rotation::Angle;
@@ -55,7 +55,7 @@ impl Array {
 
     // Cells from a matrix of order n and from the identity, wires at +0.
     pub fn of_matrix(n: usize, sweeps: usize, matrix: &[f64]) -> Array
-        ensures { result ≡ startArray n sweeps matrix.now }
+        ensures { result ≡ start_array n sweeps matrix.now }
     {
         let mut tiles = [tile_start::zero_tile(); MOST_TILES];
         for k in 0..MOST_TILES {
@@ -71,7 +71,7 @@ impl Array {
 
     // Zeros only.
     fn none() -> Array
-        ensures { result ≡ noArray }
+        ensures { result ≡ no_array }
     {
         Array {
             n: 0,

@@ -1,7 +1,7 @@
 // Which tiles the wires of a tile come from.
 ghost use Rattle.std.specs.Prelude.{◌≡◌, ◌-◌, ◌<◌, ◌≤◌};
-ghost use Rattle.sizes.specs.Sizes.{mostProcessors};
-ghost use Rattle.array.specs.Arrays.{nearOf, Inside, downOf, nearerOf};
+ghost use Rattle.sizes.specs.Sizes.{most_processors};
+ghost use Rattle.array.specs.Arrays.{near_of, Inside, down_of, nearer_of};
 
 use sizes::MOST_PROCESSORS;
 
@@ -17,8 +17,8 @@ pub struct Near {
 }
 
 pub fn sources(last: usize, i: usize, j: usize) -> Near
-    requires { (i ≤ last) × (j ≤ last) × (last < mostProcessors) }
-    ensures { (result ≡ nearOf last i j) × Inside result }
+    requires { (i ≤ last) × (j ≤ last) × (last < most_processors) }
+    ensures { (result ≡ near_of last i j) × Inside result }
 {
     let above = up(i);
     let before = up(j);
@@ -47,7 +47,7 @@ fn up(i: usize) -> usize
 // The row or column after i, and the last after itself.
 fn down(last: usize, i: usize) -> usize
     requires { i ≤ last }
-    ensures { result ≡ downOf last i }
+    ensures { result ≡ down_of last i }
 {
     if i == last {
         return last;
@@ -57,8 +57,8 @@ fn down(last: usize, i: usize) -> usize
 
 // One nearer to i than j, and j itself where it is i.
 fn nearer(i: usize, j: usize) -> usize
-    requires { (i < mostProcessors) × (j < mostProcessors) }
-    ensures { result ≡ nearerOf i j }
+    requires { (i < most_processors) × (j < most_processors) }
+    ensures { result ≡ nearer_of i j }
 {
     if i < j {
         return j - 1;

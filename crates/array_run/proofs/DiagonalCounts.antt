@@ -7,43 +7,43 @@ use borrow.Author.Tests.{eq-eqb, ne_eqb}
 use lib.Dec.{eqb}
 use native.Mathlib.Numerals.{add-one}
 use Rattle.lists.specs.Bounded.{any, total}
-use Rattle.lists.proofs.Bounded.{any-hit}
+use Rattle.lists.proofs.Bounded.{any_hit}
 use Rattle.tile.specs.declared.Tile.{Tile}
-use Rattle.array.specs.Arrays.{tileAt}
-use Rattle.array_run.specs.Advance.{noneCounted}
-use Rattle.array_run.specs.Results.{roundedPairs}
+use Rattle.array.specs.Arrays.{tile_at}
+use Rattle.array_run.specs.Advance.{none_counted}
+use Rattle.array_run.specs.Results.{rounded_pairs}
 
 module _ (l : List Tile) where
   abbrev counts : ℕ → Bool
-  counts i = not (eqb (tileAt l i i).counts.turns 0)
+  counts i = not (eqb (tile_at l i i).counts.turns 0)
 
   -- one of the first i does
-  abbrev pub countedBefore : ℕ → Bool
-  countedBefore i = any i counts
+  abbrev pub counted_before : ℕ → Bool
+  counted_before i = any i counts
 
-  pub counts-none : (i : ℕ) → (tileAt l i i).counts.turns ≡ 0 → counts i ≡ false
-  counts-none i e = rw (eq-eqb _ 0 e)
+  pub counts_none : (i : ℕ) → (tile_at l i i).counts.turns ≡ 0 → counts i ≡ false
+  counts_none i e = rw (eq-eqb _ 0 e)
 
-  pub some-counted : (N i : ℕ) → i < N → ¬ ((tileAt l i i).counts.turns ≡ 0) → false ≡ noneCounted N l
-  unfolding noneCounted
-  some-counted N i b f = let e : counts i ≡ true = rw (ne_eqb _ 0 f) in rw (any-hit N counts i b e)
+  pub some_counted : (N i : ℕ) → i < N → ¬ ((tile_at l i i).counts.turns ≡ 0) → false ≡ none_counted N l
+  unfolding none_counted
+  some_counted N i b f = let e : counts i ≡ true = rw (ne_eqb _ 0 f) in rw (any_hit N counts i b e)
 
-  pub none-counted : (N i : ℕ) → countedBefore i ≡ false → i ≡ N → true ≡ noneCounted N l
-  unfolding noneCounted
-  none-counted N i e z = rw (← z, e)
+  pub none_counted_lem : (N i : ℕ) → counted_before i ≡ false → i ≡ N → true ≡ none_counted N l
+  unfolding none_counted
+  none_counted_lem N i e z = rw (← z, e)
 
   -- those of the first i
-  abbrev pub roundedBefore : ℕ → ℕ
-  roundedBefore i = total i (λ i. (tileAt l i i).counts.rounded)
+  abbrev pub rounded_before : ℕ → ℕ
+  rounded_before i = total i (λ i. (tile_at l i i).counts.rounded)
 
-  pub rounded-none : 0 ≡ roundedBefore 0
+  pub rounded_none : 0 ≡ rounded_before 0
   unfolding total
-  rounded-none = refl
+  rounded_none = refl
 
-  pub rounded-more : (i : ℕ) {t x : ℕ} → t ≡ roundedBefore i → x ≡ (tileAt l i i).counts.rounded → t + x ≡ roundedBefore (i + 1)
+  pub rounded_more : (i : ℕ) {t x : ℕ} → t ≡ rounded_before i → x ≡ (tile_at l i i).counts.rounded → t + x ≡ rounded_before (i + 1)
   unfolding total
-  rounded-more i e f = rw (add-one i, e, f)
+  rounded_more i e f = rw (add-one i, e, f)
 
-  pub rounded-all : (N i : ℕ) {t : ℕ} → t ≡ roundedBefore i → i ≡ N → t ≡ roundedPairs N l
-  unfolding roundedPairs
-  rounded-all N i e z = rw (← z) e
+  pub rounded_all : (N i : ℕ) {t : ℕ} → t ≡ rounded_before i → i ≡ N → t ≡ rounded_pairs N l
+  unfolding rounded_pairs
+  rounded_all N i e z = rw (← z) e

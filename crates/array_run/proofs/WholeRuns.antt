@@ -6,54 +6,54 @@ use mathlib.Core.List.{List}
 use lib.ListN.{length}
 use lib.Ieee.{Float}
 use Rattle.refusal.specs.Answers.{Answered, given, refused}
-use Rattle.sizes.specs.Sizes.{mostSweeps, is_order, processorsOf, ticksOf}
-use Rattle.runs.specs.Outcome.{beforeRun, Outcome, outcome}
-use Rattle.tile_schedule.specs.Answers.{Tick, made, stopped, progressOf}
+use Rattle.sizes.specs.Sizes.{most_sweeps, is_order, processors_of, ticks_of}
+use Rattle.runs.specs.Outcome.{before_run, Outcome, outcome}
+use Rattle.tile_schedule.specs.Answers.{Tick, made, stopped, progress_of}
 use Rattle.array.specs.declared.Array.{Array}
 use Rattle.array.specs.Arrays.{array_of}
-use Rattle.array.specs.Runs.{startArray}
-use Rattle.array_run.specs.Results.{WholeReport, handedOver}
-use Rattle.array_run.specs.Advance.{endsSweep, sweepEnded, noneCounted, withSweeps, lowered, advancedAs, advanced, advancedBy}
-use Rattle.array_run.specs.Whole.{finalArray, whole_of}
+use Rattle.array.specs.Runs.{start_array}
+use Rattle.array_run.specs.Results.{WholeReport, handed_over}
+use Rattle.array_run.specs.Advance.{ends_sweep, sweep_ended, none_counted, with_sweeps, lowered, advanced_as, advanced, advanced_by}
+use Rattle.array_run.specs.Whole.{final_array, whole_of}
 
 -- ---- a refused run, and one that is not
 module _ (n sweeps : ℕ) (l r v : List Float) where
-  pub whole-refused : {k : ℕ} {values : List ℕ} → refused k values ≡ beforeRun n sweeps l (length r) (length v)
+  pub whole_refused : {k : ℕ} {values : List ℕ} → refused k values ≡ before_run n sweeps l (length r) (length v)
       → outcome (refused k values) r v ≡ whole_of n sweeps l r v
   unfolding whole_of
-  whole-refused e = rw (← e)
+  whole_refused e = rw (← e)
 
-  pub whole-accepted : {o : Outcome WholeReport} → given tt ≡ beforeRun n sweeps l (length r) (length v)
-      → o ≡ handedOver (finalArray n sweeps l) → o ≡ whole_of n sweeps l r v
+  pub whole_accepted : {o : Outcome WholeReport} → given tt ≡ before_run n sweeps l (length r) (length v)
+      → o ≡ handed_over (final_array n sweeps l) → o ≡ whole_of n sweeps l r v
   unfolding whole_of
-  whole-accepted e f = rw (← e) f
+  whole_accepted e f = rw (← e) f
 
 -- ---- its array at the end
-low-order : (t : ℕ) (x : Array) → (lowered t x).n ≡ x.n
+low_order : (t : ℕ) (x : Array) → (lowered t x).n ≡ x.n
 unfolding lowered
-low-order t x = go (endsSweep x.n x.sweeps t && noneCounted (processorsOf x.n) x.tiles)
+low_order t x = go (ends_sweep x.n x.sweeps t && none_counted (processors_of x.n) x.tiles)
   where
-    go : (b : Bool) → (cond b (withSweeps (sweepEnded x.n t) x) x).n ≡ x.n
+    go : (b : Bool) → (cond b (with_sweeps (sweep_ended x.n t) x) x).n ≡ x.n
     go true = refl
     go false = refl
 
-order-stays : (a : Answered Tick) (x : Array) → (advancedAs a x).n ≡ x.n
-order-stays (given made) x = low-order x.tick (array_of (given made) x)
-order-stays (given stopped) x = refl
-order-stays (refused k values) x = refl
+order_stays : (a : Answered Tick) (x : Array) → (advanced_as a x).n ≡ x.n
+order_stays (given made) x = low_order x.tick (array_of (given made) x)
+order_stays (given stopped) x = refl
+order_stays (refused k values) x = refl
 
-pub advanced-order : (k : ℕ) (x : Array) → (advancedBy k x).n ≡ x.n
-unfolding advancedBy advanced
-advanced-order zero x = refl
-advanced-order (suc k) x = let y = advancedBy k x in order-stays (progressOf y.n y.sweeps y.tick) y ∙ advanced-order k x
+pub advanced_order : (k : ℕ) (x : Array) → (advanced_by k x).n ≡ x.n
+unfolding advanced_by advanced
+advanced_order zero x = refl
+advanced_order (suc k) x = let y = advanced_by k x in order_stays (progress_of y.n y.sweeps y.tick) y ∙ advanced_order k x
 
-pub final-order : (n sweeps : ℕ) (l : List Float) → (finalArray n sweeps l).n ≡ n
-final-order n sweeps l = advanced-order (ticksOf n sweeps) (startArray n sweeps l) ∙ unfold startArray in refl
+pub final_order : (n sweeps : ℕ) (l : List Float) → (final_array n sweeps l).n ≡ n
+final_order n sweeps l = advanced_order (ticks_of n sweeps) (start_array n sweeps l) ∙ unfold start_array in refl
 
 -- the start that the code makes
-module _ (n sweeps : ℕ) (l : List Float) {x : Array} (e : x ≡ startArray n sweeps l) where
-  pub starts-so : is_order n ≡ true → sweeps ≤ mostSweeps → (is_order x.n ≡ true) × (x.sweeps ≤ mostSweeps) × (x.tick ≡ 0)
-  starts-so order few = rw e (unfold startArray in (order, few, refl))
+module _ (n sweeps : ℕ) (l : List Float) {x : Array} (e : x ≡ start_array n sweeps l) where
+  pub starts_so : is_order n ≡ true → sweeps ≤ most_sweeps → (is_order x.n ≡ true) × (x.sweeps ≤ most_sweeps) × (x.tick ≡ 0)
+  starts_so order few = rw e (unfold start_array in (order, few, refl))
 
-  pub final-from : {z : Array} → z ≡ advancedBy (ticksOf x.n x.sweeps) x → z ≡ finalArray n sweeps l
-  final-from h = h ∙ rw e (unfold startArray in refl)
+  pub final_from : {z : Array} → z ≡ advanced_by (ticks_of x.n x.sweeps) x → z ≡ final_array n sweeps l
+  final_from h = h ∙ rw e (unfold start_array in refl)

@@ -2,9 +2,9 @@
 // The whole run on the array (document 01, "The array", and document 02 (vi) and (vii)).
 ghost use Rattle.std.specs.Prelude.{◌≡◌, length};
 ghost use Rattle.refusal.specs.Answers.{given};
-ghost use Rattle.runs.specs.Outcome.{beforeRun, outcome};
-ghost use Rattle.array_run.specs.Results.{handedOver};
-ghost use Rattle.array_run.specs.Whole.{completionAnswered, finalArray, whole_of};
+ghost use Rattle.runs.specs.Outcome.{before_run, outcome};
+ghost use Rattle.array_run.specs.Results.{handed_over};
+ghost use Rattle.array_run.specs.Whole.{completion_answered, final_array, whole_of};
 
 use array::Array;
 use refusal::{Answer, Refusal};
@@ -28,7 +28,7 @@ pub fn run(
     res: &mut [f64],
     vectors: &mut [f64],
 ) -> Completion
-    ensures { outcome (completionAnswered result) res.new vectors.new
+    ensures { outcome (completion_answered result) res.new vectors.new
         ≡ whole_of n sweeps matrix.now res.old vectors.old }
 {
     match runs::verdict(n, sweeps, matrix, res.len(), vectors.len()) {
@@ -45,9 +45,9 @@ fn run_accepted(
     res: &mut [f64],
     vectors: &mut [f64],
 ) -> Completion
-    requires { beforeRun n sweeps matrix.now (length res.old) (length vectors.old) ≡ given tt }
-    ensures { outcome (completionAnswered result) res.new vectors.new
-        ≡ handedOver (finalArray n sweeps matrix.now) }
+    requires { before_run n sweeps matrix.now (length res.old) (length vectors.old) ≡ given tt }
+    ensures { outcome (completion_answered result) res.new vectors.new
+        ≡ handed_over (final_array n sweeps matrix.now) }
 {
     let start = Array::of_matrix(n, sweeps, matrix);
     let end = advance::to_the_end(start);

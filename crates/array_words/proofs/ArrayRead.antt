@@ -5,22 +5,22 @@ use mathlib.Core.List.{List}
 use borrow.Author.Tests.{lt-ltb, le-ltb}
 use lib.ListN.{get_or}
 use Rattle.lists.specs.Tabulate.{tabulate}
-use Rattle.sizes.specs.Sizes.{mostProcessors, mostCounted}
+use Rattle.sizes.specs.Sizes.{most_processors, most_counted}
 use Rattle.tile.specs.declared.Tile.{Tile}
 use Rattle.array.specs.declared.Array.{Array}
-use Rattle.array_words.specs.Words.{tileWords, countAt, tileIn, arrayIn}
+use Rattle.array_words.specs.Words.{tile_words, count_at, tile_in, array_in}
 
 module _ (l : List ℕ) (k : ℕ) {w : ℕ} (e : w ≡ get_or l k 0) where
-  pub count-above : mostCounted < w → mostCounted ≡ countAt l k
-  unfolding countAt
-  count-above h = rw (← e, lt-ltb mostCounted w h)
+  pub count_above : most_counted < w → most_counted ≡ count_at l k
+  unfolding count_at
+  count_above h = rw (← e, lt-ltb most_counted w h)
 
-  pub count-within : w ≤ mostCounted → w ≡ countAt l k
-  unfolding countAt
-  count-within h = rw (← e, le-ltb mostCounted w h)
+  pub count_within : w ≤ most_counted → w ≡ count_at l k
+  unfolding count_at
+  count_within h = rw (← e, le-ltb most_counted w h)
 
 pub loaded : (l : List ℕ) {n sweeps tick : ℕ} {tiles : List Tile} → n ≡ get_or l 0 0 → sweeps ≡ get_or l 1 0 → tick ≡ get_or l 2 0
-    → tiles ≡ tabulate (mostProcessors * mostProcessors) (λ i. tileIn l (3 + i * tileWords))
-    → ◌≡◌ {A = Array} (record { n = n; sweeps = sweeps; tick = tick; tiles = tiles }) (arrayIn l)
-unfolding arrayIn
+    → tiles ≡ tabulate (most_processors * most_processors) (λ i. tile_in l (3 + i * tile_words))
+    → ◌≡◌ {A = Array} (record { n = n; sweeps = sweeps; tick = tick; tiles = tiles }) (array_in l)
+unfolding array_in
 loaded l a b c d = rw (a, b, c, d)

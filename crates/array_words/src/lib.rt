@@ -1,8 +1,8 @@
 #![tactic(auto)]
 // The record of an array as words in a lent buffer.
 ghost use Rattle.std.specs.Prelude.{◌≡◌, ◌+◌, ◌≤◌, eqb, length, get_or};
-ghost use Rattle.array_words.specs.Words.{tileWords, arrayWords, quadWord, partWord, countsWord, tileWord, writtenAt};
-ghost use Rattle.array_words.specs.Words.{value_at, countAt, quadIn, partIn, countsIn, tileIn, arrayIn, storedIn};
+ghost use Rattle.array_words.specs.Words.{tile_words, array_words, quad_word, part_word, counts_word, tile_word, written_at};
+ghost use Rattle.array_words.specs.Words.{value_at, count_at, quad_in, part_in, counts_in, tile_in, array_in, stored_in};
 
 use array::Array;
 use runs::Counts;
@@ -18,14 +18,14 @@ pub const ARRAY: usize = 3 + MOST_TILES * TILE;
 
 // Whether so many words are those of an array.
 pub fn is_array(count: usize) -> bool
-    ensures { result ≡ eqb count arrayWords }
+    ensures { result ≡ eqb count array_words }
 {
     count == ARRAY
 }
 
 // The array in the words. A word beyond their end counts as 0.
 pub fn load(words: &[u64]) -> Array
-    ensures { result ≡ arrayIn words.now }
+    ensures { result ≡ array_in words.now }
 {
     let mut tiles = [tile_in(words, 3); MOST_TILES];
     for i in 0..MOST_TILES {
@@ -41,8 +41,8 @@ pub fn load(words: &[u64]) -> Array
 
 // The tile in the words from `at` on.
 fn tile_in(words: &[u64], at: usize) -> Tile
-    requires { at + tileWords ≤ arrayWords }
-    ensures { result ≡ tileIn words.now at }
+    requires { at + tile_words ≤ array_words }
+    ensures { result ≡ tile_in words.now at }
 {
     let counts = counts_in(words, at + 19);
     Tile {
@@ -56,8 +56,8 @@ fn tile_in(words: &[u64], at: usize) -> Tile
 }
 
 fn counts_in(words: &[u64], at: usize) -> Counts
-    requires { at + 2 ≤ arrayWords }
-    ensures { result ≡ countsIn words.now at }
+    requires { at + 2 ≤ array_words }
+    ensures { result ≡ counts_in words.now at }
 {
     Counts {
         turns: count_at(words, at),
@@ -66,8 +66,8 @@ fn counts_in(words: &[u64], at: usize) -> Counts
 }
 
 fn part_in(words: &[u64], at: usize) -> Part
-    requires { at + 8 ≤ arrayWords }
-    ensures { result ≡ partIn words.now at }
+    requires { at + 8 ≤ array_words }
+    ensures { result ≡ part_in words.now at }
 {
     Part {
         matrix: quad_in(words, at),
@@ -76,8 +76,8 @@ fn part_in(words: &[u64], at: usize) -> Part
 }
 
 fn quad_in(words: &[u64], at: usize) -> Quad
-    requires { at + 4 ≤ arrayWords }
-    ensures { result ≡ quadIn words.now at }
+    requires { at + 4 ≤ array_words }
+    ensures { result ≡ quad_in words.now at }
 {
     Quad {
         alpha: value_at(words, at),
@@ -95,7 +95,7 @@ fn value_at(words: &[u64], k: usize) -> f64
 
 // The count in the word at k. A word above the most that a tile counts to counts as the most.
 fn count_at(words: &[u64], k: usize) -> u16
-    ensures { result ≡ countAt words.now k }
+    ensures { result ≡ count_at words.now k }
 {
     let word = word_at(words, k);
     if word > MOST_COUNTED as u64 {
@@ -116,7 +116,7 @@ fn word_at(words: &[u64], k: usize) -> u64
 
 // Writes the words of an array. A slice of another length stays as it is.
 pub fn store(array: Array, words: &mut [u64])
-    ensures { words.new ≡ storedIn array words.old }
+    ensures { words.new ≡ stored_in array words.old }
 {
     if words.len() != ARRAY {
         return;
@@ -132,8 +132,8 @@ pub fn store(array: Array, words: &mut [u64])
 
 // Writes the words of a tile from `at` on.
 fn store_tile(tile: Tile, at: usize, words: &mut [u64])
-    requires { at + tileWords ≤ length words.old }
-    ensures { words.new ≡ writtenAt at tileWords (tileWord tile) words.old }
+    requires { at + tile_words ≤ length words.old }
+    ensures { words.new ≡ written_at at tile_words (tile_word tile) words.old }
 {
     let cells = tile.cells;
     let wires = tile.wires;
@@ -148,7 +148,7 @@ fn store_tile(tile: Tile, at: usize, words: &mut [u64])
 
 fn store_counts(counts: Counts, at: usize, words: &mut [u64])
     requires { at + 2 ≤ length words.old }
-    ensures { words.new ≡ writtenAt at 2 (countsWord counts) words.old }
+    ensures { words.new ≡ written_at at 2 (counts_word counts) words.old }
 {
     words[at] = counts.turns as u64;
     words[at + 1] = counts.rounded as u64;
@@ -156,7 +156,7 @@ fn store_counts(counts: Counts, at: usize, words: &mut [u64])
 
 fn store_part(part: Part, at: usize, words: &mut [u64])
     requires { at + 8 ≤ length words.old }
-    ensures { words.new ≡ writtenAt at 8 (partWord part) words.old }
+    ensures { words.new ≡ written_at at 8 (part_word part) words.old }
 {
     let matrix = part.matrix;
     let vectors = part.vectors;
@@ -166,7 +166,7 @@ fn store_part(part: Part, at: usize, words: &mut [u64])
 
 fn store_quad(quad: Quad, at: usize, words: &mut [u64])
     requires { at + 4 ≤ length words.old }
-    ensures { words.new ≡ writtenAt at 4 (quadWord quad) words.old }
+    ensures { words.new ≡ written_at at 4 (quad_word quad) words.old }
 {
     words[at] = float64::to_bits(quad.alpha);
     words[at + 1] = float64::to_bits(quad.beta);

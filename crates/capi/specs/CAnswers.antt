@@ -8,25 +8,25 @@ pub record CAnswer : Type 0 where
   pub row : ℕ
   pub column : ℕ
 
-abbrev pub cAnswer : ℕ → ℕ → ℕ → CAnswer
-cAnswer k i j = record { number = k; row = i; column = j }
+abbrev pub c_answer : ℕ → ℕ → ℕ → CAnswer
+c_answer k i j = record { number = k; row = i; column = j }
 
 -- A refusal that has a row and a column sets those that are lent, i and j; no other does.
-unfoldable pub placeOr : List ℕ → ℕ → ℕ → ℕ × ℕ
-placeOr [] i j = (i, j)
-placeOr (r ∷ []) i j = (i, j)
-placeOr (r ∷ (c ∷ values)) i j = (r, c)
+unfoldable pub place_or : List ℕ → ℕ → ℕ → ℕ × ℕ
+place_or [] i j = (i, j)
+place_or (r ∷ []) i j = (i, j)
+place_or (r ∷ (c ∷ values)) i j = (r, c)
 
 -- The refusal with the number k and these values.
-unfoldable pub refusedAs : ℕ → List ℕ → ℕ → ℕ → CAnswer
-refusedAs k values i j = cAnswer k (placeOr values i j).0 (placeOr values i j).1
+unfoldable pub refused_as : ℕ → List ℕ → ℕ → ℕ → CAnswer
+refused_as k values i j = c_answer k (place_or values i j).0 (place_or values i j).1
 
 -- 0 where nothing is refused.
-unfoldable pub cAnswerOf : {A : Type 0} → Answered A → ℕ → ℕ → CAnswer
-cAnswerOf (given x) i j = cAnswer 0 i j
-cAnswerOf (refused k values) i j = refusedAs k values i j
+unfoldable pub c_answer_of : {A : Type 0} → Answered A → ℕ → ℕ → CAnswer
+c_answer_of (given x) i j = c_answer 0 i j
+c_answer_of (refused k values) i j = refused_as k values i j
 
 -- The number alone.
-unfoldable pub numberAnswered : {A : Type 0} → Answered A → ℕ
-numberAnswered (given x) = 0
-numberAnswered (refused k values) = k
+unfoldable pub number_answered : {A : Type 0} → Answered A → ℕ
+number_answered (given x) = 0
+number_answered (refused k values) = k

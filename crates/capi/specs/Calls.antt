@@ -1,41 +1,41 @@
 -- What the C functions answer and leave, by the definitions of the calls. Definitions only.
 use Rattle.std.specs.Prelude.{ℕ, ◌*◌, ◌/◌, ◌%◌, Bool, cond, ◌||◌, ◌&&◌, List, [], ◌∷◌, ◌++◌, ltb, eqb, length, get_or, drop, Float}
-use Rattle.refusal.specs.Answers.{Answered, given, refused, valueOr, table}
+use Rattle.refusal.specs.Answers.{Answered, given, refused, value_or, table}
 use Rattle.refusal.specs.Refusal.{number_of}
 use Rattle.refusal.specs.declared.Refusal.TheVariants.{Length, TooShort}
 use Rattle.lists.specs.Tabulate.{tabulate}
 use Rattle.rotation.specs.declared.Parameters.{Parameters}
 use Rattle.rotation.specs.declared.Parameters.TheVariants.{Still, Turn}
 use Rattle.rotation.specs.declared.Found.{Found}
-use Rattle.sizes.specs.Sizes.{is_order, processorsOf, orderRow}
+use Rattle.sizes.specs.Sizes.{is_order, processors_of, order_row}
 use Rattle.forecast.specs.declared.Figures.{Figures}
-use Rattle.ordering.specs.Pairs.{orNone, registersAt}
-use Rattle.runs.specs.Outcome.{Outcome, Report, report, beforeRun}
+use Rattle.ordering.specs.Pairs.{or_none, registers_at}
+use Rattle.runs.specs.Outcome.{Outcome, Report, report, before_run}
 use Rattle.step_records.specs.declared.Record.{Record}
-use Rattle.step_records.specs.Records.{recordOf, recordAt, beforeRecords}
-use Rattle.tile_schedule.specs.Answers.{Tick, made, stopped, progressOf}
+use Rattle.step_records.specs.Records.{record_of, record_at, before_records}
+use Rattle.tile_schedule.specs.Answers.{Tick, made, stopped, progress_of}
 use Rattle.array.specs.declared.Array.{Array}
 use Rattle.array.specs.Arrays.{array_of}
-use Rattle.array.specs.Runs.{startAnswer, startedOf}
+use Rattle.array.specs.Runs.{start_answer, started_of}
 use Rattle.array_run.specs.Results.{WholeReport, reporting}
-use Rattle.array_words.specs.Words.{arrayWords, words_of, arrayIn}
+use Rattle.array_words.specs.Words.{array_words, words_of, array_in}
 use Rattle.sheet_reader.specs.Reader.{ReadOutcome}
 use Rattle.sheet_writer.specs.Writer.{WriteOutcome}
 use Rattle.listing.specs.Listing.{ListingOutcome}
-use Rattle.capi.specs.CAnswers.{CAnswer, cAnswerOf, numberAnswered}
+use Rattle.capi.specs.CAnswers.{CAnswer, c_answer_of, number_answered}
 
 -- What a lent byte holds for a flag.
-abbrev pub flagByte : Bool → ℕ
-flagByte b = cond b 1 0
+abbrev pub flag_byte : Bool → ℕ
+flag_byte b = cond b 1 0
 
 -- ---- a root: the number, and what is lent for the root and for its flag
-abbrev pub ofRoot : Answered (Float × Bool) → Float → ℕ → ℕ × Float × ℕ
-ofRoot (given y) x exact = (0, y.0, flagByte y.1)
-ofRoot (refused k values) x exact = (k, x, exact)
+abbrev pub of_root : Answered (Float × Bool) → Float → ℕ → ℕ × Float × ℕ
+of_root (given y) x exact = (0, y.0, flag_byte y.1)
+of_root (refused k values) x exact = (k, x, exact)
 
 -- ---- a forecast: the number, and what is lent for the value
-unfoldable pub numberAndValue : {A : Type 0} → Answered A → A → ℕ × A
-numberAndValue a y = (numberAnswered a, valueOr a y)
+unfoldable pub number_and_value : {A : Type 0} → Answered A → A → ℕ × A
+number_and_value a y = (number_answered a, value_or a y)
 
 -- The figures of a forecast as they are lent.
 abbrev pub figures : ℕ → ℕ → ℕ → Figures
@@ -46,85 +46,85 @@ abbrev pub turns : Parameters → ℕ
 turns Still = 0
 turns (Turn t c s) = 1
 
-unfoldable pub ofParameters : Found → ℕ × Float × Float × Float × ℕ
-ofParameters f = (turns f.parameters, (recordOf f).t, (recordOf f).c, (recordOf f).s, flagByte f.exact)
+unfoldable pub of_parameters : Found → ℕ × Float × Float × Float × ℕ
+of_parameters f = (turns f.parameters, (record_of f).t, (record_of f).c, (record_of f).s, flag_byte f.exact)
 
 -- ---- the list of pairs, in two lists: zeros above the last processor
-unfoldable pub pairsTooShort : ℕ → ℕ → ℕ → Bool
-pairsTooShort n lefts rights = is_order n && (ltb lefts (processorsOf n) || ltb rights (processorsOf n))
+unfoldable pub pairs_too_short : ℕ → ℕ → ℕ → Bool
+pairs_too_short n lefts rights = is_order n && (ltb lefts (processors_of n) || ltb rights (processors_of n))
 
-unfoldable pub listedIn : List ℕ → List ℕ → List ℕ
-listedIn registers l = tabulate (length l) (λ k. get_or registers k 0)
+unfoldable pub listed_in : List ℕ → List ℕ → List ℕ
+listed_in registers l = tabulate (length l) (λ k. get_or registers k 0)
 
-unfoldable pub pairsOf : ℕ → ℕ → List ℕ → List ℕ → ℕ × List ℕ × List ℕ
-pairsOf n step ls rs =
-    let R = orNone n (registersAt n step) in
-    cond (pairsTooShort n (length ls) (length rs)) (number_of TooShort, ls, rs)
-    (numberAnswered (table (orderRow n ∷ [])), listedIn R.left ls, listedIn R.right rs)
+unfoldable pub pairs_of : ℕ → ℕ → List ℕ → List ℕ → ℕ × List ℕ × List ℕ
+pairs_of n step ls rs =
+    let R = or_none n (registers_at n step) in
+    cond (pairs_too_short n (length ls) (length rs)) (number_of TooShort, ls, rs)
+    (number_answered (table (order_row n ∷ [])), listed_in R.left ls, listed_in R.right rs)
 
 -- ---- the records of a step: t, c and s of one processor after the other, and their flags in another list
 -- How many records there is room for.
-unfoldable pub recordsRoom : ℕ → ℕ → ℕ
-recordsRoom values flags = cond (ltb flags (values / 3)) flags (values / 3)
+unfoldable pub records_room : ℕ → ℕ → ℕ
+records_room values flags = cond (ltb flags (values / 3)) flags (values / 3)
 
-unfoldable pub recordField : Record → ℕ → Float
-recordField x k = cond (eqb k 0) x.t (cond (eqb k 1) x.c x.s)
+unfoldable pub record_field : Record → ℕ → Float
+record_field x k = cond (eqb k 0) x.t (cond (eqb k 1) x.c x.s)
 
-unfoldable pub recordFields : ℕ → List Float → ℕ → ℕ → Float
-recordFields n l step k = recordField (recordAt n l (registersAt n step) (k / 3)) (k % 3)
+unfoldable pub record_fields : ℕ → List Float → ℕ → ℕ → Float
+record_fields n l step k = record_field (record_at n l (registers_at n step) (k / 3)) (k % 3)
 
-abbrev pub recordsLeft : Answered Unit → ℕ → List Float → ℕ → List Float → List Float
-recordsLeft (given x) n l step row = tabulate (processorsOf n * 3) (recordFields n l step) ++ drop (processorsOf n * 3) row
-recordsLeft (refused k values) n l step row = row
+abbrev pub records_left : Answered Unit → ℕ → List Float → ℕ → List Float → List Float
+records_left (given x) n l step row = tabulate (processors_of n * 3) (record_fields n l step) ++ drop (processors_of n * 3) row
+records_left (refused k values) n l step row = row
 
-unfoldable pub recordFlag : ℕ → List Float → ℕ → ℕ → ℕ
-recordFlag n l step k = flagByte (recordAt n l (registersAt n step) k).exact
+unfoldable pub record_flag : ℕ → List Float → ℕ → ℕ → ℕ
+record_flag n l step k = flag_byte (record_at n l (registers_at n step) k).exact
 
-abbrev pub flagsLeft : Answered Unit → ℕ → List Float → ℕ → List ℕ → List ℕ
-flagsLeft (given x) n l step flags = tabulate (processorsOf n) (recordFlag n l step) ++ drop (processorsOf n) flags
-flagsLeft (refused k values) n l step flags = flags
+abbrev pub flags_left : Answered Unit → ℕ → List Float → ℕ → List ℕ → List ℕ
+flags_left (given x) n l step flags = tabulate (processors_of n) (record_flag n l step) ++ drop (processors_of n) flags
+flags_left (refused k values) n l step flags = flags
 
-unfoldable pub ofRecords : ℕ → List Float → ℕ → List Float → List ℕ → ℕ → ℕ → CAnswer × List Float × List ℕ
-ofRecords n l step row flags i j =
-    let a = beforeRecords n l (recordsRoom (length row) (length flags)) in (cAnswerOf a i j, recordsLeft a n l step row, flagsLeft a n l step flags)
+unfoldable pub of_records : ℕ → List Float → ℕ → List Float → List ℕ → ℕ → ℕ → CAnswer × List Float × List ℕ
+of_records n l step row flags i j =
+    let a = before_records n l (records_room (length row) (length flags)) in (c_answer_of a i j, records_left a n l step row, flags_left a n l step flags)
 
 -- ---- a run: the sweeps made, for the array's run the ticks, the pairs with a rounded root, and two results
-unfoldable pub ofRun : Outcome Report → ℕ → ℕ → ℕ → ℕ → CAnswer × ℕ × ℕ × List Float × List Float
-ofRun o sweeps rounded i j =
-    let r = valueOr o.answer (report sweeps rounded) in (cAnswerOf o.answer i j, r.sweeps, r.rounded, o.result, o.vectors)
+unfoldable pub of_run : Outcome Report → ℕ → ℕ → ℕ → ℕ → CAnswer × ℕ × ℕ × List Float × List Float
+of_run o sweeps rounded i j =
+    let r = value_or o.answer (report sweeps rounded) in (c_answer_of o.answer i j, r.sweeps, r.rounded, o.result, o.vectors)
 
-unfoldable pub ofWhole : Outcome WholeReport → ℕ → ℕ → ℕ → ℕ → ℕ → CAnswer × ℕ × ℕ × ℕ × List Float × List Float
-ofWhole o sweeps ticks rounded i j =
-    let r = valueOr o.answer (reporting (report sweeps rounded) ticks) in
-    (cAnswerOf o.answer i j, r.report.sweeps, r.ticks, r.report.rounded, o.result, o.vectors)
+unfoldable pub of_whole : Outcome WholeReport → ℕ → ℕ → ℕ → ℕ → ℕ → CAnswer × ℕ × ℕ × ℕ × List Float × List Float
+of_whole o sweeps ticks rounded i j =
+    let r = value_or o.answer (reporting (report sweeps rounded) ticks) in
+    (c_answer_of o.answer i j, r.report.sweeps, r.ticks, r.report.rounded, o.result, o.vectors)
 
 -- ---- a sheet: the order and the sweeps, the codes and the matrix; how many bytes are written, and the bytes
-unfoldable pub ofReading : ReadOutcome → ℕ → ℕ → ℕ → ℕ → CAnswer × (ℕ × ℕ) × List ℕ × List Float
-ofReading o n sweeps i j = (cAnswerOf o.answer i j, valueOr o.answer (n, sweeps), o.codes, o.matrix)
+unfoldable pub of_reading : ReadOutcome → ℕ → ℕ → ℕ → ℕ → CAnswer × (ℕ × ℕ) × List ℕ × List Float
+of_reading o n sweeps i j = (c_answer_of o.answer i j, value_or o.answer (n, sweeps), o.codes, o.matrix)
 
-abbrev pub ofWritten : Answered ℕ → ℕ → ℕ → ℕ → CAnswer × ℕ
-ofWritten a written i j = (cAnswerOf a i j, valueOr a written)
+abbrev pub of_written : Answered ℕ → ℕ → ℕ → ℕ → CAnswer × ℕ
+of_written a written i j = (c_answer_of a i j, value_or a written)
 
-unfoldable pub ofWriting : WriteOutcome → ℕ → ℕ → ℕ → CAnswer × ℕ × List ℕ
-ofWriting o written i j = (cAnswerOf o.answer i j, valueOr o.answer written, o.bytes)
+unfoldable pub of_writing : WriteOutcome → ℕ → ℕ → ℕ → CAnswer × ℕ × List ℕ
+of_writing o written i j = (c_answer_of o.answer i j, value_or o.answer written, o.bytes)
 
 -- ---- a listing: how many bytes are printed, and the text
-unfoldable pub ofListing : ListingOutcome → ℕ → ℕ → CAnswer × ℕ × List ℕ
-ofListing o i j = (cAnswerOf o.answer i j, o.count, o.bytes)
+unfoldable pub of_listing : ListingOutcome → ℕ → ℕ → CAnswer × ℕ × List ℕ
+of_listing o i j = (c_answer_of o.answer i j, o.count, o.bytes)
 
 -- ---- the array by hand, in words. Words of another length are refused by 3, as results would be.
-unfoldable pub ofStart : ℕ → ℕ → List Float → List ℕ → ℕ → ℕ → CAnswer × List ℕ
-ofStart n sweeps l w i j =
-    cond (eqb (length w) arrayWords) (cAnswerOf (startAnswer n sweeps l) i j, words_of (startedOf (startAnswer n sweeps l) n sweeps l))
-    (cAnswerOf (beforeRun n sweeps l 0 0) i j, w)
+unfoldable pub of_start : ℕ → ℕ → List Float → List ℕ → ℕ → ℕ → CAnswer × List ℕ
+of_start n sweeps l w i j =
+    cond (eqb (length w) array_words) (c_answer_of (start_answer n sweeps l) i j, words_of (started_of (start_answer n sweeps l) n sweeps l))
+    (c_answer_of (before_run n sweeps l 0 0) i j, w)
 
 -- 1 for a tick that is made and 0 for one that is stopped or refused, by what a tick of the array x answers
-abbrev pub tickedAs : Answered Tick → Array → List ℕ → ℕ × ℕ × List ℕ
-tickedAs (given made) x w = (0, 1, words_of (array_of (given made) x))
-tickedAs (given stopped) x w = (0, 0, w)
-tickedAs (refused k values) x w = (k, 0, w)
+abbrev pub ticked_as : Answered Tick → Array → List ℕ → ℕ × ℕ × List ℕ
+ticked_as (given made) x w = (0, 1, words_of (array_of (given made) x))
+ticked_as (given stopped) x w = (0, 0, w)
+ticked_as (refused k values) x w = (k, 0, w)
 
-unfoldable pub ofTick : List ℕ → ℕ × ℕ × List ℕ
-ofTick w =
-    let x = arrayIn w in
-    cond (eqb (length w) arrayWords) (tickedAs (progressOf x.n x.sweeps x.tick) x w) (number_of Length, 0, w)
+unfoldable pub of_tick : List ℕ → ℕ × ℕ × List ℕ
+of_tick w =
+    let x = array_in w in
+    cond (eqb (length w) array_words) (ticked_as (progress_of x.n x.sweeps x.tick) x w) (number_of Length, 0, w)

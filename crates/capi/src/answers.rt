@@ -2,14 +2,14 @@
 ghost use Rattle.std.specs.Prelude.{◌≡◌};
 ghost use Rattle.refusal.specs.Refusal.{number_of, values_of};
 ghost use Rattle.refusal.specs.Answers.{answered};
-ghost use Rattle.capi.specs.CAnswers.{cAnswer, placeOr, refusedAs, cAnswerOf, numberAnswered};
-ghost use Rattle.capi.specs.Calls.{flagByte};
+ghost use Rattle.capi.specs.CAnswers.{c_answer, place_or, refused_as, c_answer_of, number_answered};
+ghost use Rattle.capi.specs.Calls.{flag_byte};
 
 use refusal::{Answer, Place, Refusal};
 
 // The number of an answer, with the place of a refusal that has one.
 pub fn number_of(answer: Answer, row: &mut usize, column: &mut usize) -> u8
-    ensures { cAnswer result row.new column.new ≡ cAnswerOf (answered answer) row.old column.old }
+    ensures { c_answer result row.new column.new ≡ c_answer_of (answered answer) row.old column.old }
 {
     match answer {
         Answer::Accepted => 0,
@@ -19,7 +19,7 @@ pub fn number_of(answer: Answer, row: &mut usize, column: &mut usize) -> u8
 
 // The number of an answer alone.
 pub fn number_alone(answer: Answer) -> u8
-    ensures { result ≡ numberAnswered (answered answer) }
+    ensures { result ≡ number_answered (answered answer) }
 {
     match answer {
         Answer::Accepted => 0,
@@ -29,15 +29,15 @@ pub fn number_alone(answer: Answer) -> u8
 
 // The number of a refusal, with its place if it has one.
 pub fn refuse(refused: Refusal, row: &mut usize, column: &mut usize) -> u8
-    ensures { cAnswer result row.new column.new
-        ≡ refusedAs (number_of refused) (values_of refused) row.old column.old }
+    ensures { c_answer result row.new column.new
+        ≡ refused_as (number_of refused) (values_of refused) row.old column.old }
 {
     set_place(refused, row, column);
     refusal::number(refused)
 }
 
 fn set_place(refused: Refusal, row: &mut usize, column: &mut usize)
-    ensures { (row.new, column.new) ≡ placeOr (values_of refused) row.old column.old }
+    ensures { (row.new, column.new) ≡ place_or (values_of refused) row.old column.old }
 {
     match refusal::place_of(refused) {
         Place::At(i, j) => {
@@ -50,7 +50,7 @@ fn set_place(refused: Refusal, row: &mut usize, column: &mut usize)
 
 // 1 for true, 0 for false.
 pub fn flag_byte(flag: bool) -> u8
-    ensures { result ≡ flagByte flag }
+    ensures { result ≡ flag_byte flag }
 {
     if flag {
         return 1;

@@ -1,9 +1,9 @@
 // The plain run and the array's whole run.
 ghost use Rattle.std.specs.Prelude.{◌≡◌};
-ghost use Rattle.plain_run.specs.Quiet.{answeredRunOf};
+ghost use Rattle.plain_run.specs.Quiet.{answered_run_of};
 ghost use Rattle.array_run.specs.Whole.{whole_of};
-ghost use Rattle.capi.specs.CAnswers.{cAnswer};
-ghost use Rattle.capi.specs.Calls.{ofRun, ofWhole};
+ghost use Rattle.capi.specs.CAnswers.{c_answer};
+ghost use Rattle.capi.specs.Calls.{of_run, of_whole};
 
 use array_run::Completion;
 use plain_run::Ran;
@@ -20,8 +20,8 @@ pub extern "C" fn weimrukas_plain_run(
     row: &mut usize,
     column: &mut usize,
 ) -> u8
-    ensures { (cAnswer result row.new column.new, sweeps_made.new, rounded.new, res.new, vectors.new)
-        ≡ ofRun (answeredRunOf n sweeps matrix.now res.old vectors.old) sweeps_made.old
+    ensures { (c_answer result row.new column.new, sweeps_made.new, rounded.new, res.new, vectors.new)
+        ≡ of_run (answered_run_of n sweeps matrix.now res.old vectors.old) sweeps_made.old
         rounded.old row.old column.old }
 {
     match plain_run::run(n, sweeps, matrix, res, vectors) {
@@ -48,14 +48,14 @@ pub extern "C" fn weimrukas_array_run(
     column: &mut usize,
 ) -> u8
     ensures { (
-      cAnswer result row.new column.new,
+      c_answer result row.new column.new,
       sweeps_made.new,
       ticks.new,
       rounded.new,
       res.new,
       vectors.new,
     )
-        ≡ ofWhole (whole_of n sweeps matrix.now res.old vectors.old) sweeps_made.old ticks.old
+        ≡ of_whole (whole_of n sweeps matrix.now res.old vectors.old) sweeps_made.old ticks.old
         rounded.old row.old column.old }
 {
     match array_run::run(n, sweeps, matrix, res, vectors) {

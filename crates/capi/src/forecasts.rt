@@ -1,7 +1,7 @@
 // What a run of the array takes.
 ghost use Rattle.std.specs.Prelude.{◌≡◌};
-ghost use Rattle.forecast.specs.Forecast.{forecastOf};
-ghost use Rattle.capi.specs.Calls.{numberAndValue, figures};
+ghost use Rattle.forecast.specs.Forecast.{forecast_of};
+ghost use Rattle.capi.specs.Calls.{number_and_value, figures};
 
 use forecast::Forecast;
 
@@ -14,7 +14,7 @@ pub extern "C" fn weimrukas_forecast(
     parameters: &mut usize,
 ) -> u8
     ensures { (result, figures ticks.new values.new parameters.new)
-        ≡ numberAndValue (forecastOf n sweeps) (figures ticks.old values.old parameters.old) }
+        ≡ number_and_value (forecast_of n sweeps) (figures ticks.old values.old parameters.old) }
 {
     match forecast::of_run(n, sweeps) {
         Forecast::Given(figures) => {

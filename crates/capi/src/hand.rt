@@ -1,7 +1,7 @@
 // The array by hand: its record is kept in lent words between two calls.
 ghost use Rattle.std.specs.Prelude.{◌≡◌};
-ghost use Rattle.capi.specs.CAnswers.{cAnswer};
-ghost use Rattle.capi.specs.Calls.{ofStart, ofTick};
+ghost use Rattle.capi.specs.CAnswers.{c_answer};
+ghost use Rattle.capi.specs.Calls.{of_start, of_tick};
 
 use array::Array;
 use refusal::Refusal;
@@ -16,8 +16,8 @@ pub extern "C" fn weimrukas_array_start(
     row: &mut usize,
     column: &mut usize,
 ) -> u8
-    ensures { (cAnswer result row.new column.new, words.new)
-        ≡ ofStart n sweeps matrix.now words.old row.old column.old }
+    ensures { (c_answer result row.new column.new, words.new)
+        ≡ of_start n sweeps matrix.now words.old row.old column.old }
 {
     if !array_words::is_array(words.len()) {
         let refused = runs::verdict(n, sweeps, matrix, 0, 0);
@@ -32,7 +32,7 @@ pub extern "C" fn weimrukas_array_start(
 
 #[unsafe(no_mangle)]
 pub extern "C" fn weimrukas_array_tick(words: &mut [u64], made: &mut u8) -> u8
-    ensures { (result, made.new, words.new) ≡ ofTick words.old }
+    ensures { (result, made.new, words.new) ≡ of_tick words.old }
 {
     *made = 0;
     if !array_words::is_array(words.len()) {

@@ -1,8 +1,8 @@
 // The listing of a sheet.
 ghost use Rattle.std.specs.Prelude.{◌≡◌};
 ghost use Rattle.listing.specs.Listing.{list_of};
-ghost use Rattle.capi.specs.CAnswers.{cAnswer};
-ghost use Rattle.capi.specs.Calls.{ofListing};
+ghost use Rattle.capi.specs.CAnswers.{c_answer};
+ghost use Rattle.capi.specs.Calls.{of_listing};
 
 #[unsafe(no_mangle)]
 pub extern "C" fn weimrukas_list(
@@ -12,8 +12,8 @@ pub extern "C" fn weimrukas_list(
     row: &mut usize,
     column: &mut usize,
 ) -> u8
-    ensures { (cAnswer result row.new column.new, printed.new, text.new)
-        ≡ ofListing (list_of sheet.now text.old) row.old column.old }
+    ensures { (c_answer result row.new column.new, printed.new, text.new)
+        ≡ of_listing (list_of sheet.now text.old) row.old column.old }
 {
     let listed = listing::list(sheet, text);
     *printed = listed.count;

@@ -1,6 +1,6 @@
 // The list of pairs.
 ghost use Rattle.std.specs.Prelude.{◌≡◌, get_or};
-ghost use Rattle.capi.specs.Calls.{pairsTooShort, listedIn, pairsOf};
+ghost use Rattle.capi.specs.Calls.{pairs_too_short, listed_in, pairs_of};
 
 use refusal::Refusal;
 
@@ -11,7 +11,7 @@ pub extern "C" fn weimrukas_pairs(
     left: &mut [usize],
     right: &mut [usize],
 ) -> u8
-    ensures { (result, left.new, right.new) ≡ pairsOf n step left.old right.old }
+    ensures { (result, left.new, right.new) ≡ pairs_of n step left.old right.old }
 {
     if pairs_too_short(n, left.len(), right.len()) {
         return refusal::number(Refusal::TooShort);
@@ -28,7 +28,7 @@ pub extern "C" fn weimrukas_pairs(
 
 // Whether lists of these lengths cannot hold the registers of an order.
 fn pairs_too_short(n: usize, lefts: usize, rights: usize) -> bool
-    ensures { result ≡ pairsTooShort n lefts rights }
+    ensures { result ≡ pairs_too_short n lefts rights }
 {
     if !sizes::is_order(n) {
         return false;
@@ -42,7 +42,7 @@ fn pairs_too_short(n: usize, lefts: usize, rights: usize) -> bool
 
 // Writes registers to the front of a list, and zeros above them.
 fn put_registers(registers: &[usize], to: &mut [usize])
-    ensures { to.new ≡ listedIn registers.now to.old }
+    ensures { to.new ≡ listed_in registers.now to.old }
 {
     for k in 0..to.len() {
         to[k] = register_at(registers, k);

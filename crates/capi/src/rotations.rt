@@ -1,15 +1,15 @@
 // The square root and the parameters of a pair.
 ghost use Rattle.std.specs.Prelude.{◌≡◌};
-ghost use Rattle.root.specs.Exact.{sqrtAnswer};
-ghost use Rattle.rotation.specs.Exact.{foundOf};
-ghost use Rattle.capi.specs.Calls.{ofRoot, turns, ofParameters};
+ghost use Rattle.root.specs.Exact.{sqrt_answer};
+ghost use Rattle.rotation.specs.Exact.{found_of};
+ghost use Rattle.capi.specs.Calls.{of_root, turns, of_parameters};
 
 use root::Root;
 use rotation::Parameters;
 
 #[unsafe(no_mangle)]
 pub extern "C" fn weimrukas_root(x: f64, found: &mut f64, exact: &mut u8) -> u8
-    ensures { (result, found.new, exact.new) ≡ ofRoot (sqrtAnswer x) found.old exact.old }
+    ensures { (result, found.new, exact.new) ≡ of_root (sqrt_answer x) found.old exact.old }
 {
     match root::sqrt(x) {
         Root::Of(y, flag) => {
@@ -32,7 +32,7 @@ pub extern "C" fn weimrukas_parameters(
     s: &mut f64,
     exact: &mut u8,
 )
-    ensures { (turn.new, t.new, c.new, s.new, exact.new) ≡ ofParameters (foundOf a d b) }
+    ensures { (turn.new, t.new, c.new, s.new, exact.new) ≡ of_parameters (found_of a d b) }
 {
     let found = rotation::of_pair(a, d, b);
     let record = step_records::of_found(found);

@@ -1,9 +1,9 @@
 // The records of a step, three values and a flag a record.
 ghost use Rattle.std.specs.Prelude.{◌≡◌, ◌+◌, ◌*◌, ◌/◌, ◌≤◌, true, length, set};
 ghost use Rattle.refusal.specs.Answers.{given};
-ghost use Rattle.sizes.specs.Sizes.{is_order, processorsOf};
-ghost use Rattle.capi.specs.CAnswers.{cAnswer};
-ghost use Rattle.capi.specs.Calls.{recordsRoom, recordsLeft, flagsLeft, ofRecords};
+ghost use Rattle.sizes.specs.Sizes.{is_order, processors_of};
+ghost use Rattle.capi.specs.CAnswers.{c_answer};
+ghost use Rattle.capi.specs.Calls.{records_room, records_left, flags_left, of_records};
 
 use refusal::Answer;
 use step_records::Record;
@@ -18,8 +18,8 @@ pub extern "C" fn weimrukas_records(
     row: &mut usize,
     column: &mut usize,
 ) -> u8
-    ensures { (cAnswer result row.new column.new, values.new, exact.new)
-        ≡ ofRecords n matrix.now step values.old exact.old row.old column.old }
+    ensures { (c_answer result row.new column.new, values.new, exact.new)
+        ≡ of_records n matrix.now step values.old exact.old row.old column.old }
 {
     match step_records::verdict(n, matrix, records_room(values.len(), exact.len())) {
         Answer::Accepted => {
@@ -32,7 +32,7 @@ pub extern "C" fn weimrukas_records(
 
 // How many records there is room for in so many values and flags.
 fn records_room(values: usize, flags: usize) -> usize
-    ensures { result ≡ recordsRoom values flags }
+    ensures { result ≡ records_room values flags }
 {
     if flags < values / 3 {
         return flags;
@@ -42,9 +42,9 @@ fn records_room(values: usize, flags: usize) -> usize
 
 // Writes the values of the records one after the other, and their flags.
 fn put_records(n: usize, matrix: &[f64], step: usize, values: &mut [f64], exact: &mut [u8])
-    requires { (is_order n ≡ true) × (processorsOf n * 3 ≤ length values.old) × (processorsOf n ≤ length exact.old) }
-    ensures { (values.new ≡ recordsLeft (given tt) n matrix.now step values.old)
-        × (exact.new ≡ flagsLeft (given tt) n matrix.now step exact.old) }
+    requires { (is_order n ≡ true) × (processors_of n * 3 ≤ length values.old) × (processors_of n ≤ length exact.old) }
+    ensures { (values.new ≡ records_left (given tt) n matrix.now step values.old)
+        × (exact.new ≡ flags_left (given tt) n matrix.now step exact.old) }
 {
     let listed = ordering::pairs(n, step);
     let registers = listed.registers;

@@ -1,10 +1,10 @@
 // The reader and the writer of sheets, and the joining of two.
 ghost use Rattle.std.specs.Prelude.{◌≡◌};
 ghost use Rattle.sheet_reader.specs.Reader.{read_of};
-ghost use Rattle.sheet_writer.specs.Writer.{writingAnswered, writeOf};
+ghost use Rattle.sheet_writer.specs.Writer.{writing_answered, write_of};
 ghost use Rattle.sheet_join.specs.Join.{join_of};
-ghost use Rattle.capi.specs.CAnswers.{cAnswer};
-ghost use Rattle.capi.specs.Calls.{ofReading, ofWritten, ofWriting};
+ghost use Rattle.capi.specs.CAnswers.{c_answer};
+ghost use Rattle.capi.specs.Calls.{of_reading, of_written, of_writing};
 
 use sheet_reader::Reading;
 use sheet_writer::Writing;
@@ -19,8 +19,8 @@ pub extern "C" fn weimrukas_read_sheet(
     row: &mut usize,
     column: &mut usize,
 ) -> u8
-    ensures { (cAnswer result row.new column.new, (n.new, sweeps.new), codes.new, matrix.new)
-        ≡ ofReading (read_of sheet.now codes.old matrix.old) n.old sweeps.old row.old
+    ensures { (c_answer result row.new column.new, (n.new, sweeps.new), codes.new, matrix.new)
+        ≡ of_reading (read_of sheet.now codes.old matrix.old) n.old sweeps.old row.old
         column.old }
 {
     match sheet_reader::read(sheet, codes, matrix) {
@@ -44,8 +44,8 @@ pub extern "C" fn weimrukas_write_sheet(
     row: &mut usize,
     column: &mut usize,
 ) -> u8
-    ensures { (cAnswer result row.new column.new, written.new, sheet.new)
-        ≡ ofWriting (writeOf n sweeps codes.now matrix.now sheet.old) written.old row.old
+    ensures { (c_answer result row.new column.new, written.new, sheet.new)
+        ≡ of_writing (write_of n sweeps codes.now matrix.now sheet.old) written.old row.old
         column.old }
 {
     let writing = sheet_writer::write(n, sweeps, codes, matrix, sheet);
@@ -61,8 +61,8 @@ pub extern "C" fn weimrukas_join_sheets(
     row: &mut usize,
     column: &mut usize,
 ) -> u8
-    ensures { (cAnswer result row.new column.new, written.new, sheet.new)
-        ≡ ofWriting (join_of first.now second.now sheet.old) written.old row.old
+    ensures { (c_answer result row.new column.new, written.new, sheet.new)
+        ≡ of_writing (join_of first.now second.now sheet.old) written.old row.old
         column.old }
 {
     let writing = sheet_join::join(first, second, sheet);
@@ -71,8 +71,8 @@ pub extern "C" fn weimrukas_join_sheets(
 
 // How many bytes are written, or the number of the refusal.
 fn tell_written(writing: Writing, written: &mut usize, row: &mut usize, column: &mut usize) -> u8
-    ensures { (cAnswer result row.new column.new, written.new)
-        ≡ ofWritten (writingAnswered writing) written.old row.old column.old }
+    ensures { (c_answer result row.new column.new, written.new)
+        ≡ of_written (writing_answered writing) written.old row.old column.old }
 {
     match writing {
         Writing::Written(count) => {

@@ -1,35 +1,35 @@
 -- The demands are met. Assumes nothing.
-use Rattle.claims.proofs.Sizes.{sizes-as-stated}
+use Rattle.claims.proofs.Sizes.{sizes_as_stated}
 use Rattle.claims.specs.Demands.{Demands}
-use Rattle.claims.proofs.Refusals.{refused-as-tabled}
-use Rattle.claims.proofs.Report.{as-the-report}
-use Rattle.claims.proofs.Quotients.{quotients-as-stated}
-use Rattle.claims.proofs.Sheets.{sheets-kept}
-use Rattle.claims.proofs.JoinedSheets.{joinings-as-stated}
-use Rattle.claims.proofs.PlainRuns.{plain-runs-as-stated}
-use Rattle.claims.proofs.Tiles.{tiles-as-printed}
-use Rattle.claims.proofs.Listings.{listings-as-stated}
-use Rattle.claims.proofs.Histories.{one-history}
-use Rattle.claims.proofs.QuietRuns.{quiet-sweeps-as-stated}
-use Rattle.claims.proofs.ExactRoots.{exact-roots-as-stated}
-use Rattle.claims.proofs.Forecasts.{forecasts-as-stated}
-use Rattle.claims.proofs.Examples.{examples-hold}
+use Rattle.claims.proofs.Refusals.{refused_as_tabled}
+use Rattle.claims.proofs.Report.{as_the_report}
+use Rattle.claims.proofs.Quotients.{quotients_as_stated}
+use Rattle.claims.proofs.Sheets.{sheets_kept}
+use Rattle.claims.proofs.JoinedSheets.{joinings_as_stated}
+use Rattle.claims.proofs.PlainRuns.{plain_runs_as_stated}
+use Rattle.claims.proofs.Tiles.{tiles_as_printed}
+use Rattle.claims.proofs.Listings.{listings_as_stated}
+use Rattle.claims.proofs.Histories.{one_history}
+use Rattle.claims.proofs.QuietRuns.{quiet_sweeps_as_stated}
+use Rattle.claims.proofs.ExactRoots.{exact_roots_as_stated}
+use Rattle.claims.proofs.Forecasts.{forecasts_as_stated}
+use Rattle.claims.proofs.Examples.{examples_hold}
 
-pub demands-met : Demands
-demands-met =
+pub demands_met : Demands
+demands_met =
     record {
-      sizes = sizes-as-stated;
-      demand-1 = refused-as-tabled;
-      demand-2-numbers = as-the-report;
-      quotients = quotients-as-stated;
-      demand-2-runs = plain-runs-as-stated;
-      demand-2-tiles = tiles-as-printed;
-      demand-2-sheets = sheets-kept;
-      joinings = joinings-as-stated;
-      demand-2-listings = listings-as-stated;
-      demand-3 = one-history;
-      quiet-sweeps = quiet-sweeps-as-stated;
-      exact-roots = exact-roots-as-stated;
-      forecasts = forecasts-as-stated;
-      examples-hold = examples-hold;
+      sizes = sizes_as_stated;
+      demand_1 = refused_as_tabled;
+      demand_2_numbers = as_the_report;
+      quotients = quotients_as_stated;
+      demand_2_runs = plain_runs_as_stated;
+      demand_2_tiles = tiles_as_printed;
+      demand_2_sheets = sheets_kept;
+      joinings = joinings_as_stated;
+      demand_2_listings = listings_as_stated;
+      demand_3 = one_history;
+      quiet_sweeps = quiet_sweeps_as_stated;
+      exact_roots = exact_roots_as_stated;
+      forecasts = forecasts_as_stated;
+      examples_hold = examples_hold;
     }

@@ -6,147 +6,147 @@ use mathlib.Core.List.{List}
 use native.Mathlib.Omega.{arith}
 use lib.ListN.{length}
 use lib.Ieee.{Float}
-use Rattle.refusal.specs.Answers.{Answered, given, valueOr, answered}
-use Rattle.lists.proofs.Bounded.{count-ext}
-use Rattle.lists.proofs.Sums.{total-below}
-use Rattle.root.specs.Exact.{exactRoot, flagged}
+use Rattle.refusal.specs.Answers.{Answered, given, value_or, answered}
+use Rattle.lists.proofs.Bounded.{count_ext}
+use Rattle.lists.proofs.Sums.{total_below}
+use Rattle.root.specs.Exact.{exact_root, flagged}
 use Rattle.root.proofs.CorrectRounding.{RootOf}
-use Rattle.root.proofs.ExactRoots.{exact-flag, no-inexact}
-use Rattle.root.proofs.AnsweredRoots.{root-above}
-use Rattle.rotation.specs.Rotation.{quotient, tangentOf}
+use Rattle.root.proofs.ExactRoots.{exact_flag, no_inexact}
+use Rattle.root.proofs.AnsweredRoots.{root_above}
+use Rattle.rotation.specs.Rotation.{quotient, tangent_of}
 use Rattle.rotation.proofs.ExactPairs as pairs
 use Rattle.ordering.specs.declared.PairList.{PairList}
 use Rattle.ordering.specs.Pairs.{Lists}
-use Rattle.sizes.specs.Sizes.{is_order, processorsOf, steps_of}
-use Rattle.sizes.proofs.Orders.{steps-few}
-use Rattle.matrix.proofs.AcceptedEntries.{accepted-long}
+use Rattle.sizes.specs.Sizes.{is_order, processors_of, steps_of}
+use Rattle.sizes.proofs.Orders.{steps_few}
+use Rattle.matrix.proofs.AcceptedEntries.{accepted_long}
 use Rattle.runs.specs.State.{State, start_of}
 use Rattle.runs.specs.Outcome.{Report}
 use Rattle.runs.proofs.Verdicts.{Begins, begins}
-use Rattle.plain_run.specs.Met.{roundedIn, roundedOf, roundedBy}
-use Rattle.plain_run.specs.Quiet.{answeredRunOf}
-use Rattle.plain_run.proofs.RunResults.{accepted-run}
-use Rattle.plain_run.proofs.SweepsMade.{answered-given, report-sweeps, report-rounded}
-use Rattle.plain_run.proofs.RoundedPairs.{rounded-sum, rounded-made}
-use Rattle.tile.specs.Tiles.{theTile}
+use Rattle.plain_run.specs.Met.{rounded_in, rounded_of, rounded_by}
+use Rattle.plain_run.specs.Quiet.{answered_run_of}
+use Rattle.plain_run.proofs.RunResults.{accepted_run}
+use Rattle.plain_run.proofs.SweepsMade.{answered_given, report_sweeps, report_rounded}
+use Rattle.plain_run.proofs.RoundedPairs.{rounded_sum, rounded_made}
+use Rattle.tile.specs.Tiles.{the_tile}
 use Rattle.array.specs.declared.Array.{Array}
 use Rattle.array.specs.declared.Started.{Started}
 use Rattle.array.specs.declared.Ticked.{Ticked}
-use Rattle.array.specs.Arrays.{tileAt, theArray}
-use Rattle.array.specs.Runs.{startArray, ticked}
-use Rattle.array.proofs.MadeTicks.{is-given, started-array}
-use Rattle.array_run.specs.Results.{roundedPairs}
-use Rattle.array_agreement.specs.Hand.{lastArray, ByHand}
-use Rattle.array_agreement.proofs.Hand.{last-is}
-use Rattle.array_agreement.proofs.CountedRuns.{rounded-after, rounded-ended, counts-few}
+use Rattle.array.specs.Arrays.{tile_at, the_array}
+use Rattle.array.specs.Runs.{start_array, ticked}
+use Rattle.array.proofs.MadeTicks.{is_given_lem, started_array}
+use Rattle.array_run.specs.Results.{rounded_pairs}
+use Rattle.array_agreement.specs.Hand.{last_array, ByHand}
+use Rattle.array_agreement.proofs.Hand.{last_is}
+use Rattle.array_agreement.proofs.CountedRuns.{rounded_after_lem, rounded_ended, counts_few}
 use Rattle.claims.specs.Histories.{Binary64}
-use Rattle.claims.specs.ExactRoots.{Judged, RootsJudged, PairsJudged, roundedFor, roundedMet, RoundedReported, TilesCountRounded}
+use Rattle.claims.specs.ExactRoots.{Judged, RootsJudged, PairsJudged, rounded_for, rounded_met, RoundedReported, TilesCountRounded}
 use Rattle.claims.specs.ExactRoots.{CountedByHand, NeverNear, ExactRootsAsStated}
-use Rattle.claims.proofs.MetPairs.{exact-at-its-turn}
-use Rattle.claims.proofs.QuietRuns.{pairs-counted}
+use Rattle.claims.proofs.MetPairs.{exact_at_its_turn_lem}
+use Rattle.claims.proofs.QuietRuns.{pairs_counted}
 
 -- ---- the square root
-judged : (x r : Float) (exact : Bool) → RootOf x r → exactRoot x ≡ exact → Judged x r exact
+judged : (x r : Float) (exact : Bool) → RootOf x r → exact_root x ≡ exact → Judged x r exact
 judged x r exact w g =
     record {
-      exact-means = λ z. (exact-flag x r w).0 (g ∙ z);
-      square-exact = λ z. sym g ∙ (exact-flag x r w).1 z;
-      not-inexact = λ a b q p z. (no-inexact x r w a b q p).0 (g ∙ z);
-      same-exact = λ a b q p z. sym g ∙ (no-inexact x r w a b q p).1 z;
+      exact_means = λ z. (exact_flag x r w).0 (g ∙ z);
+      square_exact = λ z. sym g ∙ (exact_flag x r w).1 z;
+      not_inexact = λ a b q p z. (no_inexact x r w a b q p).0 (g ∙ z);
+      same_exact = λ a b q p z. sym g ∙ (no_inexact x r w a b q p).1 z;
     }
 
 roots : RootsJudged
 roots x r exact f t h e =
-    let w = root-above x f t h in
-    let same = ap (λ (a : Answered (Float × Bool)). valueOr a (r, exact)) (sym (ap (flagged (exactRoot x)) w.1.is) ∙ e) in
+    let w = root_above x f t h in
+    let same = ap (λ (a : Answered (Float × Bool)). value_or a (r, exact)) (sym (ap (flagged (exact_root x)) w.1.is) ∙ e) in
     judged x r exact (subst (RootOf x) (ap (λ (p : Float × Bool). p.0) same) w.1) (ap (λ (p : Float × Bool). p.1) same)
 
 -- ---- the parameters of a pair
-pairs-judged : PairsJudged
-unfolding quotient tangentOf
-pairs-judged =
+pairs_judged : PairsJudged
+unfolding quotient tangent_of
+pairs_judged =
     record {
       found = λ a d b. refl;
-      b-zero = pairs.zero-pair;
-      t-not-a-number = pairs.nan-pair;
-      both-roots = pairs.other-pair;
-      still-is-exact = pairs.still-exact;
-      rounded-turns = λ a d b h e. true≢false (sym (pairs.still-exact a d b e) ∙ h);
+      b_zero = pairs.zero_pair;
+      t_not_a_number = pairs.nan_pair;
+      both_roots = pairs.other_pair;
+      still_is_exact = pairs.still_exact;
+      rounded_turns = λ a d b h e. true≢false (sym (pairs.still_exact a d b e) ∙ h);
     }
 
 -- ---- the pairs that a run meets
 module _ (n : ℕ) (order : is_order n ≡ true) (list : ℕ → PairList) (lists : (step : ℕ) → Lists n step (list step)) (X : State) where
-  rounded-for : (K i : ℕ) → roundedFor n list K X (i + 1) ≡ roundedOf n K i X
-  unfolding roundedOf roundedIn
-  rounded-for K i = count-ext _ _ K (λ step. ap not (exact-at-its-turn n order list lists X step i))
+  rounded_for_lem : (K i : ℕ) → rounded_for n list K X (i + 1) ≡ rounded_of n K i X
+  unfolding rounded_of rounded_in
+  rounded_for_lem K i = count_ext _ _ K (λ step. ap not (exact_at_its_turn_lem n order list lists X step i))
 
-  rounded-met : (K : ℕ) → roundedMet n list K X ≡ roundedBy n K X
-  rounded-met K = total-below _ _ (processorsOf n) (λ i h. rounded-for K i) ∙ rounded-sum n K X
+  rounded_met_lem : (K : ℕ) → rounded_met n list K X ≡ rounded_by n K X
+  rounded_met_lem K = total_below _ _ (processors_of n) (λ i h. rounded_for_lem K i) ∙ rounded_sum n K X
 
-rounded-is : (n sweeps : ℕ) (l r v : List Float) (reported : Report) → (answeredRunOf n sweeps l r v).answer ≡ given reported
-    → (is_order n ≡ true) × (reported.rounded ≡ roundedBy n (steps_of n reported.sweeps) (start_of n l))
-    × (reported.rounded ≡ roundedBy n (steps_of n sweeps) (start_of n l))
-rounded-is n sweeps l r v reported e =
+rounded_is : (n sweeps : ℕ) (l r v : List Float) (reported : Report) → (answered_run_of n sweeps l r v).answer ≡ given reported
+    → (is_order n ≡ true) × (reported.rounded ≡ rounded_by n (steps_of n reported.sweeps) (start_of n l))
+    × (reported.rounded ≡ rounded_by n (steps_of n sweeps) (start_of n l))
+rounded_is n sweeps l r v reported e =
     let X = start_of n l in
-    let w = answered-given n sweeps l r v reported e in
-    let order = (accepted-run n sweeps l r v w.0).0.order in
-    let rounded = ap (λ (t : Report). t.rounded) w.1 ∙ report-rounded n sweeps X in
-    let made = ap (λ (t : Report). t.sweeps) w.1 ∙ report-sweeps n sweeps X in
-    (order, rounded ∙ ap (λ (m : ℕ). roundedBy n (steps_of n m) X) (sym made), rounded ∙ rounded-made n order sweeps X)
+    let w = answered_given n sweeps l r v reported e in
+    let order = (accepted_run n sweeps l r v w.0).0.order in
+    let rounded = ap (λ (t : Report). t.rounded) w.1 ∙ report_rounded n sweeps X in
+    let made = ap (λ (t : Report). t.sweeps) w.1 ∙ report_sweeps n sweeps X in
+    (order, rounded ∙ ap (λ (m : ℕ). rounded_by n (steps_of n m) X) (sym made), rounded ∙ rounded_made n order sweeps X)
 
-reported-rounded : RoundedReported
-reported-rounded n sweeps l r v list lists reported e =
-    let w = rounded-is n sweeps l r v reported e in
-    let met = rounded-met n w.0 list lists (start_of n l) in
+reported_rounded : RoundedReported
+reported_rounded n sweeps l r v list lists reported e =
+    let w = rounded_is n sweeps l r v reported e in
+    let met = rounded_met_lem n w.0 list lists (start_of n l) in
     (w.1 ∙ sym (met (steps_of n reported.sweeps)), w.2 ∙ sym (met (steps_of n sweeps)))
 
 -- ---- by hand
 module _ (n sweeps : ℕ) (l : List Float) (fit : Binary64 l) (t : Started) (rs : List Ticked) (h : ByHand n sweeps l t rs)
     (e : answered t.answer ≡ given tt) where
   begun : Begins n sweeps l (length l) (length l)
-  begun = begins n sweeps l _ _ (is-given n sweeps l t h.starts e)
+  begun = begins n sweeps l _ _ (is_given_lem n sweeps l t h.starts e)
 
   long : length l ≡ n * n
-  long = accepted-long n l fit begun.entries
+  long = accepted_long n l fit begun.entries
 
-  last-ticked : lastArray t rs ≡ ticked (length rs) (startArray n sweeps l)
-  last-ticked = last-is t rs h.ticks ∙ ap (ticked (length rs)) (started-array n sweeps l t h.starts e)
+  last_ticked : last_array t rs ≡ ticked (length rs) (start_array n sweeps l)
+  last_ticked = last_is t rs h.ticks ∙ ap (ticked (length rs)) (started_array n sweeps l t h.starts e)
 
-tiles-rounded : TilesCountRounded
-unfolding theArray theTile
-tiles-rounded n sweeps l fit list lists t rs h e z i hi within made no_more =
+tiles_rounded : TilesCountRounded
+unfolding the_array the_tile
+tiles_rounded n sweeps l fit list lists t rs h e z i hi within made no_more =
     let b = begun n sweeps l fit t rs h e in
-    ap (λ (x : Array). (tileAt x.tiles i i).counts.rounded) (last-ticked n sweeps l fit t rs h e)
-    ∙ rounded-after n sweeps l b.order b.few (long n sweeps l fit t rs h e) z i (length rs) hi (within, made, no_more)
-    ∙ sym (rounded-for n b.order list lists (start_of n l) z i)
+    ap (λ (x : Array). (tile_at x.tiles i i).counts.rounded) (last_ticked n sweeps l fit t rs h e)
+    ∙ rounded_after_lem n sweeps l b.order b.few (long n sweeps l fit t rs h e) z i (length rs) hi (within, made, no_more)
+    ∙ sym (rounded_for_lem n b.order list lists (start_of n l) z i)
 
 counted : CountedByHand
 counted n sweeps l fit list lists t rs h e all =
     let b = begun n sweeps l fit t rs h e in
     let summed =
-    sym (pairs-counted (processorsOf n) (lastArray t rs))
-    ∙ ap (λ (x : Array). roundedPairs (processorsOf n) x.tiles) (last-ticked n sweeps l fit t rs h e)
-    ∙ rounded-ended n sweeps l b.order b.few (long n sweeps l fit t rs h e) (length rs) all in (
-      summed ∙ sym (rounded-met n b.order list lists (start_of n l) (steps_of n sweeps)),
-      λ r v reported z. summed ∙ sym (rounded-is n sweeps l r v reported z).2,
+    sym (pairs_counted (processors_of n) (last_array t rs))
+    ∙ ap (λ (x : Array). rounded_pairs (processors_of n) x.tiles) (last_ticked n sweeps l fit t rs h e)
+    ∙ rounded_ended n sweeps l b.order b.few (long n sweeps l fit t rs h e) (length rs) all in (
+      summed ∙ sym (rounded_met_lem n b.order list lists (start_of n l) (steps_of n sweeps)),
+      λ r v reported z. summed ∙ sym (rounded_is n sweeps l r v reported z).2,
     )
 
-never-near : NeverNear
-unfolding theArray theTile
-never-near n sweeps l fit t rs h e i hi =
+never_near : NeverNear
+unfolding the_array the_tile
+never_near n sweeps l fit t rs h e i hi =
     let b = begun n sweeps l fit t rs h e in
-    let last = ap (λ (x : Array). (tileAt x.tiles i i).counts) (last-ticked n sweeps l fit t rs h e) in
-    let few = counts-few n sweeps l b.order b.few (long n sweeps l fit t rs h e) (length rs) i hi in
-    let most = steps-few n sweeps b.order b.few in
+    let last = ap (λ (x : Array). (tile_at x.tiles i i).counts) (last_ticked n sweeps l fit t rs h e) in
+    let few = counts_few n sweeps l b.order b.few (long n sweeps l fit t rs h e) (length rs) i hi in
+    let most = steps_few n sweeps b.order b.few in
     rw last (omega (arith, few.0, most), omega (arith, few.1, most))
 
-pub exact-roots-as-stated : ExactRootsAsStated
-exact-roots-as-stated =
+pub exact_roots_as_stated : ExactRootsAsStated
+exact_roots_as_stated =
     record {
-      roots-judged = roots;
-      pairs-judged = pairs-judged;
-      rounded-reported = reported-rounded;
-      tiles-count-rounded = tiles-rounded;
-      counted-by-hand = counted;
-      never-near = never-near;
+      roots_judged = roots;
+      pairs_judged = pairs_judged;
+      rounded_reported = reported_rounded;
+      tiles_count_rounded = tiles_rounded;
+      counted_by_hand = counted;
+      never_near = never_near;
     }

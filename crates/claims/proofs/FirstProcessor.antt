@@ -9,12 +9,12 @@ use lib.Dec.{eqb, ltb}
 use Rattle.sizes.specs.Sizes.{still_of}
 use Rattle.rotation.specs.declared.Parameters.{Parameters}
 use Rattle.rotation.specs.declared.Parameters.TheVariants.{Still}
-use Rattle.runs.specs.Blocks.{ruled, ruledExact}
+use Rattle.runs.specs.Blocks.{ruled, ruled_exact}
 use Rattle.claims.specs.Report.{FirstOfOdd}
 
 module _ (n k : ℕ) where
-  pub is-first : FirstOfOdd n k → k - 1 < still_of n
-  is-first f = omega (arith, f.0, f.1)
+  pub is_first : FirstOfOdd n k → k - 1 < still_of n
+  is_first f = omega (arith, f.0, f.1)
 
   pub not_first : 1 ≤ k → ¬ FirstOfOdd n k → still_of n ≤ k - 1
   not_first h f = go (ltb (k - 1) (still_of n)) refl
@@ -30,10 +30,10 @@ below (suc zero) zero h = refl
 below (suc zero) (suc i) h = le-ltb (suc i) 1 (omega arith) ∙ sym (ne_eqb (suc i) 0 (λ z. omega arith))
 below (suc (suc m)) i h = absurd (omega arith)
 
-pub ruled-exact-first : (n i : ℕ) (exact : Bool) → ruledExact n i exact ≡ (eqb (n % 2) 1 && eqb i 0 || exact)
-unfolding ruledExact
-ruled-exact-first n i exact = ap (λ (b : Bool). b || exact) (below (n % 2) i (mod-lt n (omega arith)))
+pub ruled_exact_first : (n i : ℕ) (exact : Bool) → ruled_exact n i exact ≡ (eqb (n % 2) 1 && eqb i 0 || exact)
+unfolding ruled_exact
+ruled_exact_first n i exact = ap (λ (b : Bool). b || exact) (below (n % 2) i (mod-lt n (omega arith)))
 
-pub ruled-first : (n i : ℕ) (P : Parameters) → ruled n i P ≡ cond (eqb (n % 2) 1 && eqb i 0) Still P
+pub ruled_first : (n i : ℕ) (P : Parameters) → ruled n i P ≡ cond (eqb (n % 2) 1 && eqb i 0) Still P
 unfolding ruled
-ruled-first n i P = ap (λ (b : Bool). cond b Still P) (below (n % 2) i (mod-lt n (omega arith)))
+ruled_first n i P = ap (λ (b : Bool). cond b Still P) (below (n % 2) i (mod-lt n (omega arith)))

@@ -11,137 +11,137 @@ use lib.ListN.{length}
 use lib.Ieee.{Float}
 use Rattle.refusal.specs.Answers.{given, answered}
 use Rattle.lists.specs.Bounded.{count}
-use Rattle.lists.proofs.Bounded.{count-all}
+use Rattle.lists.proofs.Bounded.{count_all}
 use Rattle.systolic.specs.Slots.{Side, left, right}
-use Rattle.systolic.specs.Traffic.{setsWire, receives, timesSetByTile, overTiles, wiresSet, tilesReceive}
+use Rattle.systolic.specs.Traffic.{sets_wire, receives, times_set_by_tile, over_tiles, wires_set, tiles_receive}
 use Rattle.systolic.proofs.Clock.{receiving}
 use Rattle.systolic.proofs.TileTicks as ticks
-use Rattle.systolic.proofs.TrafficCounts.{wire-times, receive-times}
-use Rattle.sizes.specs.Sizes.{is_order, processorsOf, sweepSteps, steps_of, ticksOf, sizesAnswer}
-use Rattle.sizes.proofs.Orders.{processors-end}
-use Rattle.forecast.specs.Forecast.{figuresOf, forecastOf}
-use Rattle.forecast.proofs.Answers.{forecast-given}
-use Rattle.forecast.proofs.Counted.{values-counted, parameters-counted}
+use Rattle.systolic.proofs.TrafficCounts.{wire_times, receive_times}
+use Rattle.sizes.specs.Sizes.{is_order, processors_of, sweep_steps, steps_of, ticks_of, sizes_answer}
+use Rattle.sizes.proofs.Orders.{processors_end}
+use Rattle.forecast.specs.Forecast.{figures_of, forecast_of}
+use Rattle.forecast.proofs.Answers.{forecast_given}
+use Rattle.forecast.proofs.Counted.{values_counted, parameters_counted}
 use Rattle.runs.specs.State.{State, start_of}
 use Rattle.runs.specs.Cells.{setting}
-use Rattle.plain_run.specs.Quiet.{quiet, sweepsMade}
-use Rattle.plain_run.proofs.SweepsMade.{Ends, with_all, when-quiet, made_ends, made-within, report-sweeps}
+use Rattle.plain_run.specs.Quiet.{quiet, sweeps_made}
+use Rattle.plain_run.proofs.SweepsMade.{Ends, with_all, when_quiet, made_ends, made_within, report_sweeps}
 use Rattle.tile.specs.Tiles.{operations}
 use Rattle.array.specs.declared.Started.{Started}
 use Rattle.array.specs.declared.Ticked.{Ticked}
-use Rattle.array.proofs.MadeTicks.{made-tile}
+use Rattle.array.proofs.MadeTicks.{made_tile}
 use Rattle.array_run.specs.Results.{WholeReport}
-use Rattle.array_agreement.specs.Hand.{ByHand, madeWhere}
-use Rattle.array_agreement.proofs.QuietRuns.{whole-given}
-use Rattle.array_agreement.proofs.HandCounts.{made-where, all-made-where}
+use Rattle.array_agreement.specs.Hand.{ByHand, made_where}
+use Rattle.array_agreement.proofs.QuietRuns.{whole_given}
+use Rattle.array_agreement.proofs.HandCounts.{made_where_lem, all_made_where}
 use Rattle.array_agreement.proofs.Neighbours as neighbours
-use Rattle.claims.specs.Tiles.{tileIn}
-use Rattle.claims.specs.Forecasts.{FiguresComputed, tickSets, tickReceives, setInRun, TicksCross, FiguresCounted, RunCounted}
+use Rattle.claims.specs.Tiles.{tile_in}
+use Rattle.claims.specs.Forecasts.{FiguresComputed, tick_sets, tick_receives, set_in_run, TicksCross, FiguresCounted, RunCounted}
 use Rattle.claims.specs.Forecasts.{RunsCounted, TicksOfWholeRun, Forecasted, ForecastsAsStated}
 
-figures-computed : FiguresComputed
-unfolding forecastOf figuresOf sizesAnswer is_order
-figures-computed = record { two-lines = refl; eight-lines = refl; seven-lines = refl; three-lines = refl; thirty-two-lines = refl }
+figures_computed : FiguresComputed
+unfolding forecast_of figures_of sizes_answer is_order
+figures_computed = record { two_lines = refl; eight_lines = refl; seven_lines = refl; three_lines = refl; thirty_two_lines = refl }
 
 -- ---- what crosses the wires
-ticks-cross : TicksCross
-ticks-cross x r p m i j hi hj =
+ticks_cross : TicksCross
+ticks_cross x r p m i j hi hj =
     let S = operations (setting x.n) in
-    let last = processorsOf x.n - 1 in
+    let last = processors_of x.n - 1 in
     let K = steps_of x.n x.sweeps in
-    let wire = ticks.wire-set S last K x.tick (tileIn x) i j in
-    let tile = made-tile x r p m i j hi hj in
+    let wire = ticks.wire_set S last K x.tick (tile_in x) i j in
+    let tile = made_tile x r p m i j hi hj in
     record {
       set = λ a b e. rw tile (wire a b ∙ rw e);
       not_set = λ a b e. rw tile (wire a b ∙ rw e);
-      off-diagonal = λ e. (receiving K x.tick i j e).off-diagonal;
-      received = λ e. rw tile (ticks.parameters-received S last K x.tick (tileIn x) i j e);
+      off_diagonal = λ e. (receiving K x.tick i j e).off_diagonal;
+      received = λ e. rw tile (ticks.parameters_received S last K x.tick (tile_in x) i j e);
     }
 
 module _ (n sweeps : ℕ) where
   -- where no sweep before the last is quiet all are made
   all_made : (X : State) → ((m : ℕ) → 1 ≤ m → m < sweeps → quiet n m X ≡ false) → {made : ℕ} → Ends n sweeps X made → made ≡ sweeps
   all_made X f (with_all none e) = e
-  all_made X f (when-quiet j h none q e) = e ∙ go (ltb (suc j) sweeps) refl
+  all_made X f (when_quiet j h none q e) = e ∙ go (ltb (suc j) sweeps) refl
     where
       go : (b : Bool) → ltb (suc j) sweeps ≡ b → suc j ≡ sweeps
       go true z = absurd (true≢false (sym q ∙ f (suc j) (omega arith) (ltb-true _ _ z)))
       go false z = let o = ltb-false (suc j) sweeps z in omega (arith, o)
 
-  whole_run : TicksOfWholeRun n sweeps (figuresOf n sweeps)
-  unfolding figuresOf
+  whole_run : TicksOfWholeRun n sweeps (figures_of n sweeps)
+  unfolding figures_of
   whole_run l r v fit reported e =
       let X = start_of n l in
-      let made = sweepsMade n sweeps X in
-      let ticks : reported.ticks ≡ ticksOf n made =
-      ap (λ (d : WholeReport). d.ticks) (whole-given n sweeps l r v fit reported e).1 ∙ ap (ticksOf n) (report-sweeps n sweeps X) in
-      let fewer : steps_of n made ≤ steps_of n sweeps = mul-le-mul_right (sweepSteps n) (made-within n X sweeps) in
-      (omega (arith, ticks, fewer), λ f. ticks ∙ ap (ticksOf n) (all_made X f (made_ends n X sweeps)))
+      let made = sweeps_made n sweeps X in
+      let ticks : reported.ticks ≡ ticks_of n made =
+      ap (λ (d : WholeReport). d.ticks) (whole_given n sweeps l r v fit reported e).1 ∙ ap (ticks_of n) (report_sweeps n sweeps X) in
+      let fewer : steps_of n made ≤ steps_of n sweeps = mul-le-mul_right (sweep_steps n) (made_within n X sweeps) in
+      (omega (arith, ticks, fewer), λ f. ticks ∙ ap (ticks_of n) (all_made X f (made_ends n X sweeps)))
 
   -- ---- the counts
   module _ (order : is_order n ≡ true) where
-    one_more : suc (processorsOf n - 1) ≡ processorsOf n
-    one_more = sym (processors-end n order)
+    one_more : suc (processors_of n - 1) ≡ processors_of n
+    one_more = sym (processors_end n order)
 
-    figures-counted : FiguresCounted n sweeps (figuresOf n sweeps)
-    unfolding figuresOf
-    figures-counted =
+    figures_counted : FiguresCounted n sweeps (figures_of n sweeps)
+    unfolding figures_of
+    figures_counted =
         record {
-          values = values-counted n sweeps order;
-          parameters = parameters-counted n sweeps order;
-          each-wire = λ a b i j hi hj. rw one_more at (wire-times (processorsOf n - 1) (steps_of n sweeps) i j (omega arith) (omega arith) a b);
-          each-tile = λ i j hi hj d.
-              let w = receive-times (processorsOf n - 1) (steps_of n sweeps) i j (omega arith) (omega arith) in rw (one_more, ne_eqb i j d) at w;
+          values = values_counted n sweeps order;
+          parameters = parameters_counted n sweeps order;
+          each_wire = λ a b i j hi hj. rw one_more at (wire_times (processors_of n - 1) (steps_of n sweeps) i j (omega arith) (omega arith) a b);
+          each_tile = λ i j hi hj d.
+              let w = receive_times (processors_of n - 1) (steps_of n sweeps) i j (omega arith) (omega arith) in rw (one_more, ne_eqb i j d) at w;
         }
 
     -- ---- over the ticks of a run by hand
     module _ (l : List Float) (s : Started) (rs : List Ticked) (h : ByHand n sweeps l s rs) (e : answered s.answer ≡ given tt) where
-      made-so-far : madeWhere (λ x. true) s rs ≡ min (ticksOf n sweeps) (length rs)
-      made-so-far = made-where n sweeps (λ x. true) (λ T. true) (λ x p q. refl) l s rs h e ∙ count-all _ _ (λ T z. refl)
+      made_so_far : made_where (λ x. true) s rs ≡ min (ticks_of n sweeps) (length rs)
+      made_so_far = made_where_lem n sweeps (λ x. true) (λ T. true) (λ x p q. refl) l s rs h e ∙ count_all _ _ (λ T z. refl)
 
-      module _ (all : ticksOf n sweeps ≤ length rs) where
-        set-in-run : (a b : Side) (i j : ℕ) → madeWhere (tickSets a b i j) s rs
-            ≡ count (λ T. setsWire (processorsOf n - 1) (steps_of n sweeps) T a b i j) (ticksOf n sweeps)
-        set-in-run a b i j = all-made-where n sweeps (tickSets a b i j) _ (λ x p q. rw (p, q)) l s rs h e all
+      module _ (all : ticks_of n sweeps ≤ length rs) where
+        set_in_run_lem : (a b : Side) (i j : ℕ) → made_where (tick_sets a b i j) s rs
+            ≡ count (λ T. sets_wire (processors_of n - 1) (steps_of n sweeps) T a b i j) (ticks_of n sweeps)
+        set_in_run_lem a b i j = all_made_where n sweeps (tick_sets a b i j) _ (λ x p q. rw (p, q)) l s rs h e all
 
-        received-in-run : (i j : ℕ) → madeWhere (tickReceives i j) s rs ≡ count (λ T. receives (steps_of n sweeps) T i j) (ticksOf n sweeps)
-        received-in-run i j = all-made-where n sweeps (tickReceives i j) _ (λ x p q. rw (p, q)) l s rs h e all
+        received_in_run : (i j : ℕ) → made_where (tick_receives i j) s rs ≡ count (λ T. receives (steps_of n sweeps) T i j) (ticks_of n sweeps)
+        received_in_run i j = all_made_where n sweeps (tick_receives i j) _ (λ x p q. rw (p, q)) l s rs h e all
 
-        tile-in-run : (i j : ℕ) → timesSetByTile (processorsOf n - 1) (steps_of n sweeps) (ticksOf n sweeps) i j ≡ setInRun s rs i j
-        tile-in-run i j = rw (set-in-run left left i j, set-in-run left right i j, set-in-run right left i j, set-in-run right right i j)
+        tile_in_run : (i j : ℕ) → times_set_by_tile (processors_of n - 1) (steps_of n sweeps) (ticks_of n sweeps) i j ≡ set_in_run s rs i j
+        tile_in_run i j = rw (set_in_run_lem left left i j, set_in_run_lem left right i j, set_in_run_lem right left i j, set_in_run_lem right right i j)
 
-        over-tiles : (f g : ℕ → ℕ → ℕ) → ((i j : ℕ) → f i j ≡ g i j) → 2 * overTiles (suc (processorsOf n - 1)) f ≡ 2 * overTiles (processorsOf n) g
-        over-tiles f g same = rw one_more (ap (λ h. 2 * overTiles (processorsOf n) h) (fun_ext (λ i. fun_ext (λ j. same i j))))
+        over_tiles_lem : (f g : ℕ → ℕ → ℕ) → ((i j : ℕ) → f i j ≡ g i j) → 2 * over_tiles (suc (processors_of n - 1)) f ≡ 2 * over_tiles (processors_of n) g
+        over_tiles_lem f g same = rw one_more (ap (λ h. 2 * over_tiles (processors_of n) h) (fun_ext (λ i. fun_ext (λ j. same i j))))
 
-        run-counted : RunCounted (processorsOf n) (figuresOf n sweeps) s rs
-        unfolding figuresOf wiresSet tilesReceive
-        run-counted =
+        run_counted : RunCounted (processors_of n) (figures_of n sweeps) s rs
+        unfolding figures_of wires_set tiles_receive
+        run_counted =
             record {
-              ticks = let w = made-so-far in omega arith;
-              values = values-counted n sweeps order ∙ over-tiles _ _ tile-in-run;
-              parameters = parameters-counted n sweeps order ∙ over-tiles _ _ (λ i j. sym (received-in-run i j));
+              ticks = let w = made_so_far in omega arith;
+              values = values_counted n sweeps order ∙ over_tiles_lem _ _ tile_in_run;
+              parameters = parameters_counted n sweeps order ∙ over_tiles_lem _ _ (λ i j. sym (received_in_run i j));
             }
 
-    runs-counted : RunsCounted n sweeps (figuresOf n sweeps)
-    unfolding figuresOf
-    runs-counted l s rs h e = record { made-so-far = made-so-far l s rs h e; once-all-made = λ w. run-counted l s rs h e (omega arith) }
+    runs_counted : RunsCounted n sweeps (figures_of n sweeps)
+    unfolding figures_of
+    runs_counted l s rs h e = record { made_so_far = made_so_far l s rs h e; once_all_made = λ w. run_counted l s rs h e (omega arith) }
 
-    forecasted : Forecasted n sweeps (figuresOf n sweeps)
+    forecasted : Forecasted n sweeps (figures_of n sweeps)
     forecasted =
         record {
-          figures-are = unfold figuresOf in record { ticks = refl; values = refl; parameters = refl };
-          figures-counted = figures-counted;
-          runs-counted = runs-counted;
-          ticks-of-whole-run = whole_run;
+          figures_are = unfold figures_of in record { ticks = refl; values = refl; parameters = refl };
+          figures_counted = figures_counted;
+          runs_counted = runs_counted;
+          ticks_of_whole_run = whole_run;
         }
 
-pub forecasts-as-stated : ForecastsAsStated
-unfolding forecastOf sizesAnswer
-forecasts-as-stated =
+pub forecasts_as_stated : ForecastsAsStated
+unfolding forecast_of sizes_answer
+forecasts_as_stated =
     record {
-      forecast-answers = λ n sweeps. refl;
-      figures-computed = figures-computed;
-      ticks-cross = ticks-cross;
-      nothing-else-received = λ x y e f g r s p q i j. neighbours.array-neighbourhood x y e f g i j (λ z. z) p q;
-      forecasted = λ n sweeps f e. let w = forecast-given n sweeps e in rw w.1 (forecasted n sweeps w.0);
+      forecast_answers = λ n sweeps. refl;
+      figures_computed = figures_computed;
+      ticks_cross = ticks_cross;
+      nothing_else_received = λ x y e f g r s p q i j. neighbours.array_neighbourhood x y e f g i j (λ z. z) p q;
+      forecasted = λ n sweeps f e. let w = forecast_given n sweeps e in rw w.1 (forecasted n sweeps w.0);
     }

@@ -2,25 +2,25 @@
 use Rattle.float64.proofs.Nan.{bits_of_nan}
 use Rattle.rotation.proofs.ReportFormulas as rotation
 use Rattle.claims.specs.Report.{AsTheReport}
-use Rattle.claims.proofs.RootAnswers.{root-rounds}
-use Rattle.claims.proofs.PairEntries.{paired, first-paired}
+use Rattle.claims.proofs.RootAnswers.{root_rounds}
+use Rattle.claims.proofs.PairEntries.{paired, first_paired}
 use Rattle.claims.proofs.Moves.{moved}
 
-pub as-the-report : AsTheReport
-as-the-report =
+pub as_the_report : AsTheReport
+as_the_report =
     record {
-      root-rounds-correctly = root-rounds;
-      rotation-is-the-reports =
+      root_rounds_correctly = root_rounds;
+      rotation_is_the_reports =
           record {
             turns = rotation.turns;
             pair = paired;
-            first-of-odd = first-paired;
+            first_of_odd = first_paired;
             still = rotation.still;
             sign_below = rotation.sign_below;
-            sign-of-zero = rotation.sign-of-zero;
+            sign_of_zero = rotation.sign_of_zero;
             sign_above = rotation.sign_above;
-            not-a-number = rotation.not-a-number;
-            nan-bits = bits_of_nan;
+            not_a_number = rotation.not_a_number;
+            nan_bits = bits_of_nan;
           };
-      pairing-is-the-reports = moved;
+      pairing_is_the_reports = moved;
     }

@@ -18,16 +18,16 @@ use Rattle.claims.specs.Examples.{All, examples}
 
 pub record Demands : Type 0 where
   pub sizes : SizesAsStated
-  pub demand-1 : RefusedAsTabled
-  pub demand-2-numbers : AsTheReport
+  pub demand_1 : RefusedAsTabled
+  pub demand_2_numbers : AsTheReport
   pub quotients : QuotientsAsStated
-  pub demand-2-runs : PlainRunsAsStated
-  pub demand-2-tiles : TilesAsPrinted
-  pub demand-2-sheets : SheetsKept
+  pub demand_2_runs : PlainRunsAsStated
+  pub demand_2_tiles : TilesAsPrinted
+  pub demand_2_sheets : SheetsKept
   pub joinings : JoiningsAsStated
-  pub demand-2-listings : ListingsAsStated
-  pub demand-3 : OneHistory
-  pub quiet-sweeps : QuietSweepsAsStated
-  pub exact-roots : ExactRootsAsStated
+  pub demand_2_listings : ListingsAsStated
+  pub demand_3 : OneHistory
+  pub quiet_sweeps : QuietSweepsAsStated
+  pub exact_roots : ExactRootsAsStated
   pub forecasts : ForecastsAsStated
-  pub examples-hold : All examples
+  pub examples_hold : All examples

@@ -5,13 +5,13 @@ use Rattle.std.specs.Float.{binary64}
 use Rattle.std.specs.Float.Ieee.{of_bits}
 use Rattle.lists.specs.Tabulate.{tabulate}
 use Rattle.refusal.specs.Answers.{given, answered}
-use Rattle.root.specs.Exact.{sqrtAnswer}
+use Rattle.root.specs.Exact.{sqrt_answer}
 use Rattle.ordering.specs.declared.Registers.{Registers}
 use Rattle.ordering.specs.declared.PairList.{PairList}
 use Rattle.ordering.specs.Pairs.{Lists}
-use Rattle.sizes.specs.Sizes.{mostProcessors}
+use Rattle.sizes.specs.Sizes.{most_processors}
 use Rattle.runs.specs.Outcome.{outcome, report}
-use Rattle.plain_run.specs.Quiet.{answeredRunOf}
+use Rattle.plain_run.specs.Quiet.{answered_run_of}
 
 pub data Example : Type 0 where
   -- the value with the first pattern has the root with the second, exact or not
@@ -28,24 +28,24 @@ values [] = []
 values (x ∷ xs) = of_bits binary64 x ∷ values xs
 
 -- Pairs as registers, left and right, zeros above the last.
-abbrev pub asRegisters : List (ℕ × ℕ) → Registers
-asRegisters ps =
+abbrev pub as_registers : List (ℕ × ℕ) → Registers
+as_registers ps =
     record {
-      left = tabulate mostProcessors (λ k. (get_or ps k (0, 0)).0);
-      right = tabulate mostProcessors (λ k. (get_or ps k (0, 0)).1);
+      left = tabulate most_processors (λ k. (get_or ps k (0, 0)).0);
+      right = tabulate most_processors (λ k. (get_or ps k (0, 0)).1);
     }
 
 abbrev pub Holds : Example → Type 0
-Holds (root x r exact) = sqrtAnswer (of_bits binary64 x) ≡ given (of_bits binary64 r, exact)
+Holds (root x r exact) = sqrt_answer (of_bits binary64 x) ≡ given (of_bits binary64 r, exact)
 Holds (pairs n step ps) =
     (r : PairList) → Lists n step r
-    → (answered r.answer ≡ given tt) × (r.registers ≡ asRegisters ps)
+    → (answered r.answer ≡ given tt) × (r.registers ≡ as_registers ps)
 Holds (run n sweeps made rounded a l e) =
     (r v : List Float) → length r ≡ n * n → length v ≡ n * n
-    → answeredRunOf n sweeps (values a) r v ≡ outcome (given (report made rounded)) (values l) (values e)
+    → answered_run_of n sweeps (values a) r v ≡ outcome (given (report made rounded)) (values l) (values e)
 
 -- Roots: 4 (it is 2), -0 (-0), 2, 2 ^ -1074 (2 ^ -537), 1 - 2 ^ -53 (itself), 1 + 2 ^ -52 (1); 4, -0 and 2 ^ -1074 are
--- exact. The run: diagonal 1 and 3, off-diagonal 0, one sweep: unchanged, identity. And the same for 16 sweeps, of
+-- exact. The run: diagonal 1 and 3, off_diagonal 0, one sweep: unchanged, identity. And the same for 16 sweeps, of
 -- which the first is quiet. No root in it is rounded.
 abbrev pub examples : List Example
 examples =

@@ -6,10 +6,10 @@ use Rattle.std.specs.Float.Ieee.{to_bits}
 use Rattle.refusal.specs.Answers.{given, refused}
 use Rattle.matrix.specs.Matrix.{at}
 use Rattle.sheet.specs.Codes.{width_for}
-use Rattle.sheet.specs.Format.{sheetLength, width_in, order_in}
-use Rattle.sheet_reader.specs.Reader.{readOutcome, read_of}
-use Rattle.sheet_writer.specs.Writer.{writeOutcome, writeOf}
-use Rattle.sheet_agreement.specs.ShortReader.{shortReadOf}
+use Rattle.sheet.specs.Format.{sheet_length, width_in, order_in}
+use Rattle.sheet_reader.specs.Reader.{read_outcome, read_of}
+use Rattle.sheet_writer.specs.Writer.{write_outcome, write_of}
+use Rattle.sheet_agreement.specs.ShortReader.{short_read_of}
 use Rattle.claims.specs.Histories.{Binary64}
 
 -- Every number is a byte's, as those of a lent slice are.
@@ -36,11 +36,11 @@ pub record FormsRead (b : List ℕ) : Type 0 where
 -- short form and two in the long form. Then the rows, row i being i entries of the lower triangle up to its diagonal, 8
 -- bytes each. Codes and entries have their highest byte first. Bytes are counted from 0; q is 0 for the highest.
 pub record SheetHolds (w : ℕ) (b : List ℕ) (n sweeps : ℕ) (codes : List ℕ) (l : List Float) : Type 0 where
-  pub short-order : w ≡ 1 → get_or b 0 0 ≡ n
+  pub short_order : w ≡ 1 → get_or b 0 0 ≡ n
   pub long_order : w ≡ 2 → get_or b 0 0 ≡ n + 128
-  pub sweep-count : get_or b 1 0 ≡ sweeps
-  pub short-code : w ≡ 1 → (k : ℕ) → 1 ≤ k → k ≤ n → get_or b (1 + k) 0 ≡ get_or codes (k - 1) 0
-  pub long-code : w ≡ 2 → (k : ℕ) → 1 ≤ k → k ≤ n → get_or b (2 * k) 0 * 256 + get_or b (2 * k + 1) 0 ≡ get_or codes (k - 1) 0
+  pub sweep_count : get_or b 1 0 ≡ sweeps
+  pub short_code : w ≡ 1 → (k : ℕ) → 1 ≤ k → k ≤ n → get_or b (1 + k) 0 ≡ get_or codes (k - 1) 0
+  pub long_code : w ≡ 2 → (k : ℕ) → 1 ≤ k → k ≤ n → get_or b (2 * k) 0 * 256 + get_or b (2 * k + 1) 0 ≡ get_or codes (k - 1) 0
   pub entry : (i j : ℕ) → 1 ≤ j → j ≤ i → i ≤ n
       → (q : ℕ) → q < 8
       → get_or b (2 + w * n + 8 * (i * (i - 1) / 2 + (j - 1)) + q) 0 ≡ to_bits binary64 (at n l i j) / 256 ^ (7 - q) % 256
@@ -50,8 +50,8 @@ abbrev pub WrittenInPlace : Type 0
 WrittenInPlace =
     (n sweeps : ℕ) (codes : List ℕ) (l : List Float) (b : List ℕ) (count : ℕ)
     → Codes codes
-    → (writeOf n sweeps codes l b).answer ≡ given count
-    → SheetHolds (width_for codes) (writeOf n sweeps codes l b).bytes n sweeps codes l
+    → (write_of n sweeps codes l b).answer ≡ given count
+    → SheetHolds (width_for codes) (write_of n sweeps codes l b).bytes n sweeps codes l
 
 -- A sheet that is not refused, and the lent codes and the lent matrix after its reading. Above the diagonal stand the
 -- mirror bits.
@@ -70,9 +70,9 @@ WrittenIsReadBack =
     (n sweeps : ℕ) (codes : List ℕ) (l : List Float) (b : List ℕ) (count : ℕ)
     → Codes codes
     → Binary64 l
-    → (writeOf n sweeps codes l b).answer ≡ given count
+    → (write_of n sweeps codes l b).answer ≡ given count
     → (c : List ℕ) (m : List Float) → length c ≡ n → length m ≡ n * n
-    → read_of (take count (writeOf n sweeps codes l b).bytes) c m ≡ readOutcome (given (n, sweeps)) codes l
+    → read_of (take count (write_of n sweeps codes l b).bytes) c m ≡ read_outcome (given (n, sweeps)) codes l
 
 -- A sheet accepted is written again, from what the reader left, as the same bytes.
 abbrev pub AcceptedIsWrittenAgain : Type 0
@@ -81,14 +81,14 @@ AcceptedIsWrittenAgain =
     → (c : List ℕ) (m : List Float) (n sweeps : ℕ)
     → (read_of b c m).answer ≡ given (n, sweeps)
     → (lent : List ℕ) → length b ≤ length lent
-    → writeOf n sweeps (read_of b c m).codes (read_of b c m).matrix lent
-    ≡ writeOutcome (given (length b)) (b ++ drop (length b) lent)
+    → write_of n sweeps (read_of b c m).codes (read_of b c m).matrix lent
+    ≡ write_outcome (given (length b)) (b ++ drop (length b) lent)
 
 -- Two contents of a sheet are one.
 pub record SameContent (n n' sweeps sweeps' : ℕ) (codes codes' : List ℕ) (l l' : List Float) : Type 0 where
   pub orders : n ≡ n'
-  pub sweep-counts : sweeps ≡ sweeps'
-  pub code-lists : codes ≡ codes'
+  pub sweep_counts : sweeps ≡ sweeps'
+  pub code_lists : codes ≡ codes'
   pub matrices : l ≡ l'
 
 -- Two different accepted contents have different sheets: what is written alike is one.
@@ -99,9 +99,9 @@ OneContentASheet =
     → Binary64 l'
     → Codes codes
     → Codes codes'
-    → (writeOf n sweeps codes l b).answer ≡ given count
-    → (writeOf n' sweeps' codes' l' b').answer ≡ given count'
-    → take count (writeOf n sweeps codes l b).bytes ≡ take count' (writeOf n' sweeps' codes' l' b').bytes
+    → (write_of n sweeps codes l b).answer ≡ given count
+    → (write_of n' sweeps' codes' l' b').answer ≡ given count'
+    → take count (write_of n sweeps codes l b).bytes ≡ take count' (write_of n' sweeps' codes' l' b').bytes
     → SameContent n n' sweeps sweeps' codes codes' l l'
 
 -- Each set of codes has one form: two accepted sheets that are read alike are one.
@@ -117,31 +117,31 @@ OneSheetAContent =
     → b ≡ b'
 
 -- ---- before document 02 (i)
--- `shortReadOf` is the reader of document 01, but for odd orders, which it accepts as (ii) does
+-- `short_read_of` is the reader of document 01, but for odd orders, which it accepts as (ii) does
 -- (crates/sheet_agreement/specs/ShortReader.antt). A first byte without the 128 reads as before, and old readers refuse
 -- the long form by 1.
 pub record ReadAsBefore : Type 0 where
-  pub short : (b c : List ℕ) (m : List Float) → get_or b 0 0 < 128 → read_of b c m ≡ shortReadOf b c m
+  pub short : (b c : List ℕ) (m : List Float) → get_or b 0 0 < 128 → read_of b c m ≡ short_read_of b c m
   pub long : (b c : List ℕ) (m : List Float) → 2 ≤ length b → 128 ≤ get_or b 0 0
-      → shortReadOf b c m ≡ readOutcome (refused 1 []) c m
+      → short_read_of b c m ≡ read_outcome (refused 1 []) c m
 
 -- ---- lengths
 -- Length 2 + n + 4 n (n + 1): 28 bytes for n = 2, 4,258 for n = 32. In the long form it grows by n.
 pub record LengthsAsStated : Type 0 where
-  pub short : (n : ℕ) → sheetLength 1 n ≡ 2 + n + 4 * n * (n + 1)
-  pub long : (n : ℕ) → sheetLength 2 n ≡ sheetLength 1 n + n
-  pub shortest : sheetLength 1 2 ≡ 28
-  pub longest : sheetLength 1 32 ≡ 4258
-  pub longest-long : sheetLength 2 32 ≡ 4290
+  pub short : (n : ℕ) → sheet_length 1 n ≡ 2 + n + 4 * n * (n + 1)
+  pub long : (n : ℕ) → sheet_length 2 n ≡ sheet_length 1 n + n
+  pub shortest : sheet_length 1 2 ≡ 28
+  pub longest : sheet_length 1 32 ≡ 4258
+  pub longest_long : sheet_length 2 32 ≡ 4290
 
 pub record SheetsKept : Type 0 where
-  pub forms-written : (codes : List ℕ) → FormsWritten codes
-  pub forms-read : (b : List ℕ) → FormsRead b
-  pub written-in-place : WrittenInPlace
-  pub read-in-place : ReadInPlace
-  pub written-is-read-back : WrittenIsReadBack
-  pub accepted-is-written-again : AcceptedIsWrittenAgain
-  pub one-content-a-sheet : OneContentASheet
-  pub one-sheet-a-content : OneSheetAContent
-  pub read-as-before : ReadAsBefore
-  pub lengths-as-stated : LengthsAsStated
+  pub forms_written : (codes : List ℕ) → FormsWritten codes
+  pub forms_read : (b : List ℕ) → FormsRead b
+  pub written_in_place : WrittenInPlace
+  pub read_in_place : ReadInPlace
+  pub written_is_read_back : WrittenIsReadBack
+  pub accepted_is_written_again : AcceptedIsWrittenAgain
+  pub one_content_a_sheet : OneContentASheet
+  pub one_sheet_a_content : OneSheetAContent
+  pub read_as_before : ReadAsBefore
+  pub lengths_as_stated : LengthsAsStated

@@ -10,28 +10,28 @@ use lib.IntN.{ℤ, pos}
 use lib.Ieee.Fits.{down_pos}
 use lib.Ieee.Scale.{round_same}
 use lib.Ieee.{Float, nan, inf, fin, binary64, up, down, span, climb, size, odd, units, round, neg, sum, add, sub, eq, of_bits}
-use Rattle.float64.specs.Values.{plusZero, finite}
+use Rattle.float64.specs.Values.{plus_zero, finite}
 
-zero-rounds : (c : ℕ) → 0 < c → round binary64 false 0 c ≡ fin false 0 (pos 0)
+zero_rounds : (c : ℕ) → 0 < c → round binary64 false 0 c ≡ fin false 0 (pos 0)
 unfolding round units size odd span climb
-zero-rounds c h = round_same binary64 false 0 c 0 1 h (lit< tt) (omega arith)
+zero_rounds c h = round_same binary64 false 0 c 0 1 h (lit< tt) (omega arith)
 
-finite-minus-itself : (s : Bool) (m : ℕ) (e : ℤ) → sub binary64 (fin s m e) (fin s m e) ≡ fin false 0 (pos 0)
+finite_minus_itself : (s : Bool) (m : ℕ) (e : ℤ) → sub binary64 (fin s m e) (fin s m e) ≡ fin false 0 (pos 0)
 unfolding sub add neg sum
-finite-minus-itself true m e = simp (le-ltb (m * up e * down e) (m * up e * down e) (le_refl _), sub_self) (zero-rounds _ (mul-pos (down_pos e) (down_pos e)))
-finite-minus-itself false m e = simp (le-ltb (m * up e * down e) (m * up e * down e) (le_refl _), sub_self) (zero-rounds _ (mul-pos (down_pos e) (down_pos e)))
+finite_minus_itself true m e = simp (le-ltb (m * up e * down e) (m * up e * down e) (le_refl _), sub_self) (zero_rounds _ (mul-pos (down_pos e) (down_pos e)))
+finite_minus_itself false m e = simp (le-ltb (m * up e * down e) (m * up e * down e) (le_refl _), sub_self) (zero_rounds _ (mul-pos (down_pos e) (down_pos e)))
 
-nan-minus-itself : sub binary64 nan nan ≡ nan
+nan_minus_itself : sub binary64 nan nan ≡ nan
 unfolding sub add neg
-nan-minus-itself = refl
+nan_minus_itself = refl
 
-infinity-minus-itself : (s : Bool) → sub binary64 (inf s) (inf s) ≡ nan
+infinity_minus_itself : (s : Bool) → sub binary64 (inf s) (inf s) ≡ nan
 unfolding sub add neg
-infinity-minus-itself true = refl
-infinity-minus-itself false = refl
+infinity_minus_itself true = refl
+infinity_minus_itself false = refl
 
-pub finite-by-difference : (x : Float) → eq (sub binary64 x x) plusZero ≡ finite x
+pub finite_by_difference : (x : Float) → eq (sub binary64 x x) plus_zero ≡ finite x
 unfolding finite eq of_bits
-finite-by-difference nan = rw nan-minus-itself
-finite-by-difference (inf s) = rw infinity-minus-itself
-finite-by-difference (fin s m e) = rw finite-minus-itself
+finite_by_difference nan = rw nan_minus_itself
+finite_by_difference (inf s) = rw infinity_minus_itself
+finite_by_difference (fin s m e) = rw finite_minus_itself

@@ -15,24 +15,24 @@ pub record Grid (n : ℕ) : Type 0 where
   pub is : n ≡ digits * 2 ^ shift
   pub small : digits < 2 ^ 53
 
-pub zero-grid : Grid 0
-zero-grid = record { digits = 0; shift = 0; is = refl; small = lit< tt }
+pub zero_grid : Grid 0
+zero_grid = record { digits = 0; shift = 0; is = refl; small = lit< tt }
 
-pub power-grid : (k : ℕ) → Grid (2 ^ k)
-power-grid k = record { digits = 1; shift = k; is = sym (one-mul (2 ^ k)); small = lit< tt }
+pub power_grid : (k : ℕ) → Grid (2 ^ k)
+power_grid k = record { digits = 1; shift = k; is = sym (one-mul (2 ^ k)); small = lit< tt }
 
 -- ---- powers of two
-pub power-split : (j k : ℕ) → k ≤ j → 2 ^ j ≡ 2 ^ (j - k) * 2 ^ k
-power-split j k h = ap (λ (x : ℕ). 2 ^ x) (same j k h) ∙ pow-add 2 (j - k) k
+pub power_split : (j k : ℕ) → k ≤ j → 2 ^ j ≡ 2 ^ (j - k) * 2 ^ k
+power_split j k h = ap (λ (x : ℕ). 2 ^ x) (same j k h) ∙ pow-add 2 (j - k) k
   where
     same : (j k : ℕ) → k ≤ j → j ≡ j - k + k
     same j k h = omega arith
 
-pub power-le-back : (a l : ℕ) → 2 ^ a ≤ 2 ^ l → a ≤ l
-power-le-back a l h = le_of_suc-le-suc (lt_of_not-le (λ (g : suc l ≤ a). lt_irrefl (2 ^ l) (lt_of_lt_of_le (pow-lt g) h)))
+pub power_le_back : (a l : ℕ) → 2 ^ a ≤ 2 ^ l → a ≤ l
+power_le_back a l h = le_of_suc-le-suc (lt_of_not-le (λ (g : suc l ≤ a). lt_irrefl (2 ^ l) (lt_of_lt_of_le (pow-lt g) h)))
 
-pub power-lt-back : (a l : ℕ) → 2 ^ a < 2 ^ l → a < l
-power-lt-back a l h = lt_of_not-le (λ (g : l ≤ a). lt_irrefl (2 ^ a) (lt_of_lt_of_le h (pow_mono g)))
+pub power_lt_back : (a l : ℕ) → 2 ^ a < 2 ^ l → a < l
+power_lt_back a l h = lt_of_not-le (λ (g : l ≤ a). lt_irrefl (2 ^ a) (lt_of_lt_of_le h (pow_mono g)))
 
 -- ---- the next values above and below q * 2 ^ k, for a q of 53 digits
 -- n is a multiple of 2 ^ k, or below 2 ^ 52 * 2 ^ k
@@ -56,19 +56,19 @@ place n k g = go (dec_le k g.shift)
     go : Dec (k ≤ g.shift) → Place n k
     go (yes l) =
         multiple (g.digits * 2 ^ (g.shift - k))
-        (g.is ∙ ap (λ (x : ℕ). g.digits * x) (power-split g.shift k l) ∙ sym (mul_assoc g.digits (2 ^ (g.shift - k)) (2 ^ k)))
+        (g.is ∙ ap (λ (x : ℕ). g.digits * x) (power_split g.shift k l) ∙ sym (mul_assoc g.digits (2 ^ (g.shift - k)) (2 ^ k)))
     go (no f) = below (subst (λ (x : ℕ). x < 2 ^ 52 * 2 ^ k) (sym g.is) (finer g.digits g.shift k g.small (lt_of_not-le f)))
 
-pub next-above : (q k n : ℕ) → 2 ^ 52 ≤ q → Grid n → q * 2 ^ k < n → suc q * 2 ^ k ≤ n
-next-above q k n lo g h = go (place n k g)
+pub next_above : (q k n : ℕ) → 2 ^ 52 ≤ q → Grid n → q * 2 ^ k < n → suc q * 2 ^ k ≤ n
+next_above q k n lo g h = go (place n k g)
   where
     go : Place n k → suc q * 2 ^ k ≤ n
     go (multiple a e) =
         subst (λ (x : ℕ). suc q * 2 ^ k ≤ x) (sym e) (mul-le-mul_right (2 ^ k) (lt_of_mul-lt-mul_right (2 ^ k) (subst (λ (x : ℕ). q * 2 ^ k < x) e h)))
     go (below l) = let b : 2 ^ 52 * 2 ^ k ≤ q * 2 ^ k = mul-le-mul_right (2 ^ k) lo in absurd (omega arith)
 
-pub next-below : (q k n : ℕ) → 2 ^ 52 < q → Grid n → n < q * 2 ^ k → n + 2 ^ k ≤ q * 2 ^ k
-next-below q k n lo g h = go (place n k g)
+pub next_below : (q k n : ℕ) → 2 ^ 52 < q → Grid n → n < q * 2 ^ k → n + 2 ^ k ≤ q * 2 ^ k
+next_below q k n lo g h = go (place n k g)
   where
     go : Place n k → n + 2 ^ k ≤ q * 2 ^ k
     go (multiple a e) =
@@ -85,20 +85,20 @@ pub record Top (n : ℕ) : Type 0 where
   pub m : ℕ
   pub z : ℕ
   pub is : n * 2 ^ 53 ≡ m * 2 ^ z
-  pub m-ge : 2 ^ 52 ≤ m
-  pub m-lt : m < 2 ^ 53
-  pub z-ge : 1 ≤ z
+  pub m_ge : 2 ^ 52 ≤ m
+  pub m_lt : m < 2 ^ 53
+  pub z_ge : 1 ≤ z
 
 record Raised (d a : ℕ) : Type 0 where
   m : ℕ
   by : ℕ
   by_le : by ≤ d
   is : m ≡ a * 2 ^ by
-  m-ge : 2 ^ 52 ≤ m
-  m-lt : m < 2 ^ 53
+  m_ge : 2 ^ 52 ≤ m
+  m_lt : m < 2 ^ 53
 
 raised : (d a : ℕ) → 2 ^ 52 ≤ a * 2 ^ d → a < 2 ^ 53 → Raised d a
-raised zero a lo hi = record { m = a; by = 0; by_le = omega arith; is = sym (mul-one a); m-ge = omega (arith, mul-one a); m-lt = hi }
+raised zero a lo hi = record { m = a; by = 0; by_le = omega arith; is = sym (mul-one a); m_ge = omega (arith, mul-one a); m_lt = hi }
 raised (suc d) a lo hi = go (dec_le (2 ^ 52) a) (λ (l : a < 2 ^ 52). raised d (a * 2) (subst (λ (x : ℕ). 2 ^ 52 ≤ x) (sym (twice d)) lo) (room a l))
   where
     room : (a : ℕ) → a < 2 ^ 52 → a * 2 < 2 ^ 53
@@ -108,10 +108,10 @@ raised (suc d) a lo hi = go (dec_le (2 ^ 52) a) (λ (l : a < 2 ^ 52). raised d (
     twice d = mul_assoc a 2 (2 ^ d) ∙ ap (λ (x : ℕ). a * x) (sym (pow-succ' 2 d))
 
     go : Dec (2 ^ 52 ≤ a) → (a < 2 ^ 52 → Raised d (a * 2)) → Raised (suc d) a
-    go (yes l) rest = record { m = a; by = 0; by_le = omega arith; is = sym (mul-one a); m-ge = l; m-lt = hi }
+    go (yes l) rest = record { m = a; by = 0; by_le = omega arith; is = sym (mul-one a); m_ge = l; m_lt = hi }
     go (no f) rest =
         let r = rest (lt_of_not-le f) in
-        record { m = r.m; by = suc r.by; by_le = omega (arith, r.by_le); is = r.is ∙ twice r.by; m-ge = r.m-ge; m-lt = r.m-lt }
+        record { m = r.m; by = suc r.by; by_le = omega (arith, r.by_le); is = r.is ∙ twice r.by; m_ge = r.m_ge; m_lt = r.m_lt }
 
 pub top_of : (n : ℕ) → 0 < n → Grid n → Top n
 top_of n h g =
@@ -128,9 +128,9 @@ top_of n h g =
           ∙ ap (λ (x : ℕ). a * x) (sym (pow-add 2 g.shift 53) ∙ ap (λ (x : ℕ). 2 ^ x) (sums g.shift c r.by_le) ∙ pow-add 2 c z)
           ∙ sym (mul_assoc a (2 ^ c) (2 ^ z))
           ∙ ap (λ (x : ℕ). x * 2 ^ z) (sym r.is);
-      m-ge = r.m-ge;
-      m-lt = r.m-lt;
-      z-ge = omega (arith, r.by_le);
+      m_ge = r.m_ge;
+      m_lt = r.m_lt;
+      z_ge = omega (arith, r.by_le);
     }
   where
     many : (a : ℕ) → 0 < a → 2 ^ 52 ≤ a * 2 ^ 52

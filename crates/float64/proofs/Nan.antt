@@ -24,21 +24,21 @@ pub bits_of_nan : to_bits binary64 nan ≡ 0x7ff8_0000_0000_0000
 unfolding to_bits
 bits_of_nan = refl
 
-pub nan-bits : (x : Float) → ne x x ≡ true → 0x7ff8_0000_0000_0000 ≡ to_bits binary64 x
-nan-bits x h = rw (differs_from_itself x (subst T (sym h) tt), bits_of_nan)
+pub nan_bits : (x : Float) → ne x x ≡ true → 0x7ff8_0000_0000_0000 ≡ to_bits binary64 x
+nan_bits x h = rw (differs_from_itself x (subst T (sym h) tt), bits_of_nan)
 
 -- a pattern without its sign bit is a NaN's where it is above +infinity's
-pub no-nan-pattern : (b : ℕ) → b % 0x8000_0000_0000_0000 ≤ 0x7ff0_0000_0000_0000 → T (not (nan_bits binary64 b))
-no-nan-pattern b h = subst T (sym (ap not (nan_bits_above binary64 b ∙ le-ltb _ _ h))) tt
+pub no_nan_pattern : (b : ℕ) → b % 0x8000_0000_0000_0000 ≤ 0x7ff0_0000_0000_0000 → T (not (nan_bits binary64 b))
+no_nan_pattern b h = subst T (sym (ap not (nan_bits_above binary64 b ∙ le-ltb _ _ h))) tt
 
-pub no-nan-below : (b : ℕ) → b < 0x7ff0_0000_0000_0000 → T (not (nan_bits binary64 b))
-no-nan-below b h = no-nan-pattern b (omega arith)
+pub no_nan_below : (b : ℕ) → b < 0x7ff0_0000_0000_0000 → T (not (nan_bits binary64 b))
+no_nan_below b h = no_nan_pattern b (omega arith)
 
-is-nan : (x : Float) → is_nan x ≡ true → x ≡ nan
+is_nan_lem : (x : Float) → is_nan x ≡ true → x ≡ nan
 unfolding is_nan
-is-nan nan e = refl
-is-nan (inf s) e = absurd (true≢false (sym e))
-is-nan (fin s m k) e = absurd (true≢false (sym e))
+is_nan_lem nan e = refl
+is_nan_lem (inf s) e = absurd (true≢false (sym e))
+is_nan_lem (fin s m k) e = absurd (true≢false (sym e))
 
 pub nan_pattern : (b : ℕ) → 0x7ff0_0000_0000_0000 < b % 0x8000_0000_0000_0000 → nan ≡ of_bits binary64 b
-nan_pattern b h = sym (is-nan (of_bits binary64 b) (sym (nan_bits_is binary64 b) ∙ nan_bits_above binary64 b ∙ lt-ltb _ _ h))
+nan_pattern b h = sym (is_nan_lem (of_bits binary64 b) (sym (nan_bits_is binary64 b) ∙ nan_bits_above binary64 b ∙ lt-ltb _ _ h))

@@ -13,32 +13,32 @@ neither : (b : Bool) (x y : Float) → finite x ≡ false → finite y ≡ false
 neither true x y f g e = absurd (true≢false (sym e ∙ f))
 neither false x y f g e = absurd (true≢false (sym e ∙ g))
 
-pub product-operands : (x y : Float) → finite (mul binary64 x y) ≡ true → BothFinite x y
+pub product_operands : (x y : Float) → finite (mul binary64 x y) ≡ true → BothFinite x y
 unfolding finite mul
-product-operands nan y e = absurd (true≢false (sym e))
-product-operands (inf s) nan e = absurd (true≢false (sym e))
-product-operands (inf s) (inf t) e = absurd (true≢false (sym e))
-product-operands (inf s) (fin t n d) e = neither (eqb n 0) nan (inf (unlike s t)) refl refl e
-product-operands (fin s m k) nan e = absurd (true≢false (sym e))
-product-operands (fin s m k) (inf t) e = neither (eqb m 0) nan (inf (unlike s t)) refl refl e
-product-operands (fin s m k) (fin t n d) e = (refl, refl)
+product_operands nan y e = absurd (true≢false (sym e))
+product_operands (inf s) nan e = absurd (true≢false (sym e))
+product_operands (inf s) (inf t) e = absurd (true≢false (sym e))
+product_operands (inf s) (fin t n d) e = neither (eqb n 0) nan (inf (unlike s t)) refl refl e
+product_operands (fin s m k) nan e = absurd (true≢false (sym e))
+product_operands (fin s m k) (inf t) e = neither (eqb m 0) nan (inf (unlike s t)) refl refl e
+product_operands (fin s m k) (fin t n d) e = (refl, refl)
 
-pub sum-operands : (x y : Float) → finite (add binary64 x y) ≡ true → BothFinite x y
+pub sum_operands : (x y : Float) → finite (add binary64 x y) ≡ true → BothFinite x y
 unfolding finite add
-sum-operands nan y e = absurd (true≢false (sym e))
-sum-operands (inf s) nan e = absurd (true≢false (sym e))
-sum-operands (inf s) (inf t) e = neither (beq s t) (inf s) nan refl refl e
-sum-operands (inf s) (fin t n d) e = absurd (true≢false (sym e))
-sum-operands (fin s m k) nan e = absurd (true≢false (sym e))
-sum-operands (fin s m k) (inf t) e = absurd (true≢false (sym e))
-sum-operands (fin s m k) (fin t n d) e = (refl, refl)
+sum_operands nan y e = absurd (true≢false (sym e))
+sum_operands (inf s) nan e = absurd (true≢false (sym e))
+sum_operands (inf s) (inf t) e = neither (beq s t) (inf s) nan refl refl e
+sum_operands (inf s) (fin t n d) e = absurd (true≢false (sym e))
+sum_operands (fin s m k) nan e = absurd (true≢false (sym e))
+sum_operands (fin s m k) (inf t) e = absurd (true≢false (sym e))
+sum_operands (fin s m k) (fin t n d) e = (refl, refl)
 
-pub difference-operands : (x y : Float) → finite (sub binary64 x y) ≡ true → BothFinite x y
+pub difference_operands : (x y : Float) → finite (sub binary64 x y) ≡ true → BothFinite x y
 unfolding finite sub add neg
-difference-operands nan y e = absurd (true≢false (sym e))
-difference-operands (inf s) nan e = absurd (true≢false (sym e))
-difference-operands (inf s) (inf t) e = neither (beq s (not t)) (inf s) nan refl refl e
-difference-operands (inf s) (fin t n d) e = absurd (true≢false (sym e))
-difference-operands (fin s m k) nan e = absurd (true≢false (sym e))
-difference-operands (fin s m k) (inf t) e = absurd (true≢false (sym e))
-difference-operands (fin s m k) (fin t n d) e = (refl, refl)
+difference_operands nan y e = absurd (true≢false (sym e))
+difference_operands (inf s) nan e = absurd (true≢false (sym e))
+difference_operands (inf s) (inf t) e = neither (beq s (not t)) (inf s) nan refl refl e
+difference_operands (inf s) (fin t n d) e = absurd (true≢false (sym e))
+difference_operands (fin s m k) nan e = absurd (true≢false (sym e))
+difference_operands (fin s m k) (inf t) e = absurd (true≢false (sym e))
+difference_operands (fin s m k) (fin t n d) e = (refl, refl)

@@ -10,7 +10,7 @@ use lib.Ieee.Fits.{down_pos, odd-fits}
 use lib.Ieee.Exact.{HasValue, odd_sign}
 use lib.Ieee.Order.{transfer, le_of_values}
 use Rattle.float64.specs.Values.{finite, sign_of}
-use Rattle.float64.specs.Units.{unitsOf}
+use Rattle.float64.specs.Units.{units_of}
 use Rattle.float64.proofs.Units.{held}
 
 pub cross : (a b : ℕ) → T (ltb a b || (eqb a b && true)) → a ≤ b
@@ -34,29 +34,29 @@ pub record Magnitude (x : Float) : Type 0 where
   pub is_held : T (fits binary64 x)
 
 -- the value of q * 2 ^ k units
-pub odd-magnitude : (q k : ℕ) → q < 2 ^ 53 → q * 2 ^ k < 2 ^ 2098 → Magnitude (odd 53 false q k 1074)
-odd-magnitude q k h l =
+pub odd_magnitude : (q k : ℕ) → q < 2 ^ 53 → q * 2 ^ k < 2 ^ 2098 → Magnitude (odd 53 false q k 1074)
+odd_magnitude q k h l =
     let p = shown (odd 53 false q k 1074) (q * 2 ^ k) (2 ^ 1074) (odd_sign 53 false q k 1074) in
     record { is_finite = p.0; unsigned = p.1; is_held = odd-fits binary64 53 false q k h (le_of_lt h) l }
 
-pub value_of : (x : Float) → Magnitude x → HasValue x false (unitsOf x) (2 ^ 1074)
-value_of x p = subst (λ (s : Bool). HasValue x s (unitsOf x) (2 ^ 1074)) p.unsigned (held x p.is_finite p.is_held).value
+pub value_of : (x : Float) → Magnitude x → HasValue x false (units_of x) (2 ^ 1074)
+value_of x p = subst (λ (s : Bool). HasValue x s (units_of x) (2 ^ 1074)) p.unsigned (held x p.is_finite p.is_held).value
 
-pub le-of-units : (x y : Float) → Magnitude x → Magnitude y → unitsOf x ≤ unitsOf y → T (le x y)
-le-of-units x y p q h =
-    le_of_values x y (unitsOf x) (2 ^ 1074) (unitsOf y) (2 ^ 1074) (pow_pos 1074) (pow_pos 1074) (value_of x p) (value_of y q) (mul-le-mul_right (2 ^ 1074) h)
+pub le_of_units : (x y : Float) → Magnitude x → Magnitude y → units_of x ≤ units_of y → T (le x y)
+le_of_units x y p q h =
+    le_of_values x y (units_of x) (2 ^ 1074) (units_of y) (2 ^ 1074) (pow_pos 1074) (pow_pos 1074) (value_of x p) (value_of y q) (mul-le-mul_right (2 ^ 1074) h)
 
-pub units-of-le : (x y : Float) → Magnitude x → Magnitude y → T (le x y) → unitsOf x ≤ unitsOf y
+pub units_of_le : (x y : Float) → Magnitude x → Magnitude y → T (le x y) → units_of x ≤ units_of y
 unfolding le finite
-units-of-le nan y p q h = absurd p.is_finite
-units-of-le (inf s) y p q h = absurd p.is_finite
-units-of-le (fin true m e) y p q h = absurd (true≢false p.unsigned)
-units-of-le (fin false m e) nan p q h = absurd q.is_finite
-units-of-le (fin false m e) (inf t) p q h = absurd q.is_finite
-units-of-le (fin false m e) (fin true n d) p q h = absurd (true≢false q.unsigned)
-units-of-le (fin false m e) (fin false n d) p q h =
+units_of_le nan y p q h = absurd p.is_finite
+units_of_le (inf s) y p q h = absurd p.is_finite
+units_of_le (fin true m e) y p q h = absurd (true≢false p.unsigned)
+units_of_le (fin false m e) nan p q h = absurd q.is_finite
+units_of_le (fin false m e) (inf t) p q h = absurd q.is_finite
+units_of_le (fin false m e) (fin true n d) p q h = absurd (true≢false q.unsigned)
+units_of_le (fin false m e) (fin false n d) p q h =
     le_of_mul-le-mul_right
-    (transfer (unitsOf (fin false m e)) (unitsOf (fin false n d)) (2 ^ 1074) (2 ^ 1074) (m * up e) (n * up d) (down e) (down d) (down_pos e) (down_pos d)
+    (transfer (units_of (fin false m e)) (units_of (fin false n d)) (2 ^ 1074) (2 ^ 1074) (m * up e) (n * up d) (down e) (down d) (down_pos e) (down_pos d)
     (sym (value_of (fin false m e) p).1) (sym (value_of (fin false n d) q).1)
     (cross (m * up e * down d) (n * up d * down e) h))
     (pow_pos 1074)

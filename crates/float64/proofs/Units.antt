@@ -15,19 +15,19 @@ use lib.Ieee.Bits.{of_bits-to_bits}
 use lib.Ieee.Exact.{HasValue}
 use lib.Ieee.Positive.{positive, first_pos}
 use Rattle.float64.specs.Values.{finite, sign_of}
-use Rattle.float64.specs.Units.{unitsOf}
-use Rattle.float64.proofs.Grid.{Grid, zero-grid, power-split, power-le-back}
+use Rattle.float64.specs.Units.{units_of}
+use Rattle.float64.proofs.Grid.{Grid, zero_grid, power_split, power_le_back}
 
-pub units-is : (x : Float) (n : ℕ) → Equals x n (2 ^ 1074) → unitsOf x ≡ n
-units-is nan n h = absurd h
-units-is (inf s) n h = absurd h
-units-is (fin s m e) n h = ap (λ (x : ℕ). x / down e) h ∙ mul-div_cancel n (down_pos e)
+pub units_is : (x : Float) (n : ℕ) → Equals x n (2 ^ 1074) → units_of x ≡ n
+units_is nan n h = absurd h
+units_is (inf s) n h = absurd h
+units_is (fin s m e) n h = ap (λ (x : ℕ). x / down e) h ∙ mul-div_cancel n (down_pos e)
 
-zero-value : (e : ℤ) → 0 * up e * 2 ^ 1074 ≡ 0 * down e
-zero-value e = ap (λ (x : ℕ). x * 2 ^ 1074) (zero-mul (up e)) ∙ zero-mul (2 ^ 1074) ∙ sym (zero-mul (down e))
+zero_value : (e : ℤ) → 0 * up e * 2 ^ 1074 ≡ 0 * down e
+zero_value e = ap (λ (x : ℕ). x * 2 ^ 1074) (zero-mul (up e)) ∙ zero-mul (2 ^ 1074) ∙ sym (zero-mul (down e))
 
-pub zero-units : (s : Bool) (e : ℤ) → unitsOf (fin s 0 e) ≡ 0
-zero-units s e = units-is (fin s 0 e) 0 (zero-value e)
+pub zero_units : (s : Bool) (e : ℤ) → units_of (fin s 0 e) ≡ 0
+zero_units s e = units_is (fin s 0 e) 0 (zero_value e)
 
 -- ---- what `fits` says of a value
 record Fitted (m : ℕ) (e : ℤ) : Type 0 where
@@ -49,33 +49,33 @@ fitted s m e t =
     }
 
 -- 2 ^ e is 2 ^ j units
-power-units : (e : ℤ) → down e ≤ 2 ^ 1074 → (j : ℕ) × (up e * 2 ^ 1074 ≡ 2 ^ j * down e)
-power-units (pos k) h = (k + 1074, sym (pow-add 2 k 1074) ∙ sym (mul-one (2 ^ (k + 1074))))
-power-units (negsuc k) h = (1074 - suc k, one-mul (2 ^ 1074) ∙ power-split 1074 (suc k) (power-le-back (suc k) 1074 h))
+power_units : (e : ℤ) → down e ≤ 2 ^ 1074 → (j : ℕ) × (up e * 2 ^ 1074 ≡ 2 ^ j * down e)
+power_units (pos k) h = (k + 1074, sym (pow-add 2 k 1074) ∙ sym (mul-one (2 ^ (k + 1074))))
+power_units (negsuc k) h = (1074 - suc k, one-mul (2 ^ 1074) ∙ power_split 1074 (suc k) (power_le_back (suc k) 1074 h))
 
 pub record Held (x : Float) : Type 0 where
-  pub grid : Grid (unitsOf x)
-  pub value : HasValue x (sign_of x) (unitsOf x) (2 ^ 1074)
-  pub below : unitsOf x < 2 ^ 2098
+  pub grid : Grid (units_of x)
+  pub value : HasValue x (sign_of x) (units_of x) (2 ^ 1074)
+  pub below : units_of x < 2 ^ 2098
 
 pub held : (x : Float) → T (finite x) → T (fits binary64 x) → Held x
 unfolding finite
 held nan f t = absurd f
 held (inf s) f t = absurd f
 held (fin s zero e) f t =
-    let u : 0 ≡ unitsOf (fin s zero e) = sym (zero-units s e) in
+    let u : 0 ≡ units_of (fin s zero e) = sym (zero_units s e) in
     record {
-      grid = subst Grid u zero-grid;
-      value = (refl, zero-value e ∙ ap (λ (x : ℕ). x * down e) u);
+      grid = subst Grid u zero_grid;
+      value = (refl, zero_value e ∙ ap (λ (x : ℕ). x * down e) u);
       below = subst (λ (x : ℕ). x < 2 ^ 2098) u (pow_pos 2098);
     }
 held (fin s (suc m) e) f t =
     let p = fitted s m e t in
-    let q = power-units e p.lowest in
+    let q = power_units e p.lowest in
     let n = suc m * 2 ^ q.0 in
     let v : suc m * up e * 2 ^ 1074 ≡ n * down e =
     mul_assoc (suc m) (up e) (2 ^ 1074) ∙ ap (λ (x : ℕ). suc m * x) q.1 ∙ sym (mul_assoc (suc m) (2 ^ q.0) (down e)) in
-    let u : n ≡ unitsOf (fin s (suc m) e) = sym (units-is (fin s (suc m) e) n v) in
+    let u : n ≡ units_of (fin s (suc m) e) = sym (units_is (fin s (suc m) e) n v) in
     let l : suc m * up e * 2 ^ 1074 < 2 ^ 1024 * down e * 2 ^ 1074 = mul-lt-mul_of_pos_right p.highest (pow_pos 1074) in
     let b : n < 2 ^ 2098 =
     lt_of_mul-lt-mul_right (down e)
@@ -88,50 +88,50 @@ held (fin s (suc m) e) f t =
 
 -- ---- by sign and units
 -- the pattern without its sign bit
-abbrev pub patternOf : ℕ → ℕ
-patternOf n = let k = size n - 53 in k * 2 ^ 52 + n / 2 ^ k
+abbrev pub pattern_of : ℕ → ℕ
+pattern_of n = let k = size n - 53 in k * 2 ^ 52 + n / 2 ^ k
 
-pub bits-by-units : (x : Float) → T (finite x) → to_bits binary64 x ≡ cond (sign_of x) (2 ^ 63) 0 + patternOf (unitsOf x)
+pub bits_by_units : (x : Float) → T (finite x) → to_bits binary64 x ≡ cond (sign_of x) (2 ^ 63) 0 + pattern_of (units_of x)
 unfolding to_bits finite
-bits-by-units nan f = absurd f
-bits-by-units (inf s) f = absurd f
-bits-by-units (fin true m e) f = add_assoc _ _ _
-bits-by-units (fin false m e) f = add_assoc _ _ _
+bits_by_units nan f = absurd f
+bits_by_units (inf s) f = absurd f
+bits_by_units (fin true m e) f = add_assoc _ _ _
+bits_by_units (fin false m e) f = add_assoc _ _ _
 
-pub same_units : (x y : Float) → T (finite x) → T (finite y) → T (fits binary64 x) → T (fits binary64 y) → sign_of x ≡ sign_of y → unitsOf x ≡ unitsOf y → x ≡ y
+pub same_units : (x y : Float) → T (finite x) → T (finite y) → T (fits binary64 x) → T (fits binary64 y) → sign_of x ≡ sign_of y → units_of x ≡ units_of y → x ≡ y
 same_units x y f g h k s u =
     sym (of_bits-to_bits binary64 x h)
     ∙ ap (of_bits binary64)
-    (bits-by-units x f ∙ ap (λ (b : Bool). cond b (2 ^ 63) 0 + patternOf (unitsOf x)) s
-    ∙ ap (λ (n : ℕ). cond (sign_of y) (2 ^ 63) 0 + patternOf n) u ∙ sym (bits-by-units y g))
+    (bits_by_units x f ∙ ap (λ (b : Bool). cond b (2 ^ 63) 0 + pattern_of (units_of x)) s
+    ∙ ap (λ (n : ℕ). cond (sign_of y) (2 ^ 63) 0 + pattern_of n) u ∙ sym (bits_by_units y g))
     ∙ of_bits-to_bits binary64 y k
 
 -- ---- finite and above zero
-pub units-above : (x : Float) → T (positive x) → T (fits binary64 x) → 0 < unitsOf x
+pub units_above : (x : Float) → T (positive x) → T (fits binary64 x) → 0 < units_of x
 unfolding finite
-units-above nan p t = absurd p
-units-above (inf s) p t = absurd p
-units-above (fin true m e) p t = absurd p
-units-above (fin false m e) p t =
-    first_pos (unitsOf (fin false m e)) (down e)
+units_above nan p t = absurd p
+units_above (inf s) p t = absurd p
+units_above (fin true m e) p t = absurd p
+units_above (fin false m e) p t =
+    first_pos (units_of (fin false m e)) (down e)
     (subst (λ (x : ℕ). 0 < x) (held (fin false m e) tt t).value.1 (mul-pos (mul-pos (ltb→lt 0 m p) (up_pos e)) (pow_pos 1074)))
 
-pattern-above : (n : ℕ) → 0 < n → 0 < patternOf n
-pattern-above n h = go (size n - 53)
+pattern_above : (n : ℕ) → 0 < n → 0 < pattern_of n
+pattern_above n h = go (size n - 53)
   where
     go : (k : ℕ) → 0 < k * 2 ^ 52 + n / 2 ^ k
     go zero = omega arith
     go (suc k) = omega arith
 
-pattern-below : (n : ℕ) → n < 2 ^ 2098 → patternOf n < 0x7ff0_0000_0000_0000
-pattern-below n h = let a = size-le n 2098 h in let b = kept-lt 53 n in omega arith
+pattern_below : (n : ℕ) → n < 2 ^ 2098 → pattern_of n < 0x7ff0_0000_0000_0000
+pattern_below n h = let a = size-le n 2098 h in let b = kept-lt 53 n in omega arith
 
-pub positive-pattern : (x : Float) → T (positive x) → T (fits binary64 x) → (0 < to_bits binary64 x) × (to_bits binary64 x < 0x7ff0_0000_0000_0000)
+pub positive_pattern : (x : Float) → T (positive x) → T (fits binary64 x) → (0 < to_bits binary64 x) × (to_bits binary64 x < 0x7ff0_0000_0000_0000)
 unfolding finite
-positive-pattern nan p t = absurd p
-positive-pattern (inf s) p t = absurd p
-positive-pattern (fin true m e) p t = absurd p
-positive-pattern (fin false m e) p t =
+positive_pattern nan p t = absurd p
+positive_pattern (inf s) p t = absurd p
+positive_pattern (fin true m e) p t = absurd p
+positive_pattern (fin false m e) p t =
     let x = fin false m e in
-    subst (λ (b : ℕ). (0 < b) × (b < 0x7ff0_0000_0000_0000)) (sym (bits-by-units x tt ∙ zero-add _))
-    (pattern-above (unitsOf x) (units-above x p t), pattern-below (unitsOf x) (held x tt t).below)
+    subst (λ (b : ℕ). (0 < b) × (b < 0x7ff0_0000_0000_0000)) (sym (bits_by_units x tt ∙ zero-add _))
+    (pattern_above (units_of x) (units_above x p t), pattern_below (units_of x) (held x tt t).below)

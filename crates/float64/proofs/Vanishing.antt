@@ -15,70 +15,70 @@ use Rattle.float64.specs.Values.{finite, is_zero}
 abbrev pub Zero : Float → Type 0
 Zero x = is_zero x ≡ true
 
-zero-value : (x : Float) (s : Bool) (den : ℕ) → 0 < den → HasValue x s 0 den → Zero x
-zero-value nan s den h v = absurd v
-zero-value (inf t) s den h v = absurd v
-zero-value (fin t zero e) s den h v = refl
-zero-value (fin t (suc m) e) s den h v =
+zero_value : (x : Float) (s : Bool) (den : ℕ) → 0 < den → HasValue x s 0 den → Zero x
+zero_value nan s den h v = absurd v
+zero_value (inf t) s den h v = absurd v
+zero_value (fin t zero e) s den h v = refl
+zero_value (fin t (suc m) e) s den h v =
     let p : 0 < suc m * up e * den = mul-pos (mul-pos (zero-lt-suc m) (up_pos e)) h in
     let z : suc m * up e * den ≡ 0 * down e = v.1 in
     absurd (omega arith)
 
-round-zero : (s : Bool) (num den : ℕ) → 0 < den → num ≡ 0 → Zero (round binary64 s num den)
-round-zero s num den h e =
+round_zero : (s : Bool) (num den : ℕ) → 0 < den → num ≡ 0 → Zero (round binary64 s num den)
+round_zero s num den h e =
     rw e
-    (zero-value (round binary64 s 0 den) s den h
+    (zero_value (round binary64 s 0 den) s den h
     (round_exact binary64 s 0 den 0 0 h (pow_pos (prec binary64)) (pow_pos (low binary64 + suc (emax binary64))) (sym (zero-mul den))))
 
 either : (b : Bool) (x y : Float) → Zero x → Zero y → Zero (cond b x y)
 either true x y f g = f
 either false x y f g = g
 
-sum-zero : (s t : Bool) (a b c : ℕ) → 0 < c → a ≡ 0 → b ≡ 0 → Zero (sum binary64 s a t b c)
+sum_zero : (s t : Bool) (a b c : ℕ) → 0 < c → a ≡ 0 → b ≡ 0 → Zero (sum binary64 s a t b c)
 unfolding sum
-sum-zero s t a b c h e f =
-    either (beq s t) (round binary64 s (a + b) c) _ (round-zero s (a + b) c h (omega arith))
+sum_zero s t a b c h e f =
+    either (beq s t) (round binary64 s (a + b) c) _ (round_zero s (a + b) c h (omega arith))
     (either (ltb a b) (round binary64 t (b - a) c) (round binary64 (s && ltb b a) (a - b) c)
-    (round-zero t (b - a) c h (omega arith)) (round-zero (s && ltb b a) (a - b) c h (omega arith)))
+    (round_zero t (b - a) c h (omega arith)) (round_zero (s && ltb b a) (a - b) c h (omega arith)))
 
-no-digits : (m u v : ℕ) → eqb m 0 ≡ true → m * u * v ≡ 0
-no-digits m u v e = rw (eqb-true m 0 e) (omega arith)
+no_digits : (m u v : ℕ) → eqb m 0 ≡ true → m * u * v ≡ 0
+no_digits m u v e = rw (eqb-true m 0 e) (omega arith)
 
-no-digits-after : (v n u : ℕ) → eqb n 0 ≡ true → v * (n * u) ≡ 0
-no-digits-after v n u e = rw (eqb-true n 0 e) (omega arith)
+no_digits_after : (v n u : ℕ) → eqb n 0 ≡ true → v * (n * u) ≡ 0
+no_digits_after v n u e = rw (eqb-true n 0 e) (omega arith)
 
-pub product-zero : (c x : Float) → finite c ≡ true → Zero x → Zero (mul binary64 c x)
+pub product_zero : (c x : Float) → finite c ≡ true → Zero x → Zero (mul binary64 c x)
 unfolding mul finite
-product-zero nan x f z = absurd (true≢false (sym f))
-product-zero (inf s) x f z = absurd (true≢false (sym f))
-product-zero (fin s m e) nan f z = absurd (true≢false (sym z))
-product-zero (fin s m e) (inf t) f z = absurd (true≢false (sym z))
-product-zero (fin s m e) (fin t n d) f z =
-    round-zero (unlike s t) (m * up e * (n * up d)) (down e * down d) (mul-pos (down_pos e) (down_pos d)) (no-digits-after (m * up e) n (up d) z)
+product_zero nan x f z = absurd (true≢false (sym f))
+product_zero (inf s) x f z = absurd (true≢false (sym f))
+product_zero (fin s m e) nan f z = absurd (true≢false (sym z))
+product_zero (fin s m e) (inf t) f z = absurd (true≢false (sym z))
+product_zero (fin s m e) (fin t n d) f z =
+    round_zero (unlike s t) (m * up e * (n * up d)) (down e * down d) (mul-pos (down_pos e) (down_pos d)) (no_digits_after (m * up e) n (up d) z)
 
-pub sum-of-zeros : (x y : Float) → Zero x → Zero y → Zero (add binary64 x y)
+pub sum_of_zeros : (x y : Float) → Zero x → Zero y → Zero (add binary64 x y)
 unfolding add
-sum-of-zeros nan y f z = absurd (true≢false (sym f))
-sum-of-zeros (inf s) y f z = absurd (true≢false (sym f))
-sum-of-zeros (fin s m e) nan f z = absurd (true≢false (sym z))
-sum-of-zeros (fin s m e) (inf t) f z = absurd (true≢false (sym z))
-sum-of-zeros (fin s m e) (fin t n d) f z =
-    sum-zero s t (m * up e * down d) (n * up d * down e) (down e * down d) (mul-pos (down_pos e) (down_pos d)) (no-digits m (up e) (down d) f)
-    (no-digits n (up d) (down e) z)
+sum_of_zeros nan y f z = absurd (true≢false (sym f))
+sum_of_zeros (inf s) y f z = absurd (true≢false (sym f))
+sum_of_zeros (fin s m e) nan f z = absurd (true≢false (sym z))
+sum_of_zeros (fin s m e) (inf t) f z = absurd (true≢false (sym z))
+sum_of_zeros (fin s m e) (fin t n d) f z =
+    sum_zero s t (m * up e * down d) (n * up d * down e) (down e * down d) (mul-pos (down_pos e) (down_pos d)) (no_digits m (up e) (down d) f)
+    (no_digits n (up d) (down e) z)
 
-neg-zero : (x : Float) → Zero x → Zero (neg x)
+neg_zero : (x : Float) → Zero x → Zero (neg x)
 unfolding neg
-neg-zero nan z = z
-neg-zero (inf s) z = z
-neg-zero (fin s m e) z = z
+neg_zero nan z = z
+neg_zero (inf s) z = z
+neg_zero (fin s m e) z = z
 
-pub difference-of-zeros : (x y : Float) → Zero x → Zero y → Zero (sub binary64 x y)
+pub difference_of_zeros : (x y : Float) → Zero x → Zero y → Zero (sub binary64 x y)
 unfolding sub
-difference-of-zeros x y f z = sum-of-zeros x (neg y) f (neg-zero y z)
+difference_of_zeros x y f z = sum_of_zeros x (neg y) f (neg_zero y z)
 
 -- a zero is finite
-pub zero-finite : (x : Float) → Zero x → finite x ≡ true
+pub zero_finite : (x : Float) → Zero x → finite x ≡ true
 unfolding finite
-zero-finite nan z = z
-zero-finite (inf s) z = z
-zero-finite (fin s m e) z = refl
+zero_finite nan z = z
+zero_finite (inf s) z = z
+zero_finite (fin s m e) z = refl

@@ -10,47 +10,47 @@ use lib.IntN.{ℤ, pos}
 use lib.Ieee.{Float, nan, inf, fin, binary64, fits, up, down, neg, lt, eq, of_bits}
 use lib.Ieee.Fits.{up_pos}
 use lib.Ieee.Positive.{above}
-use Rattle.float64.specs.Values.{plusZero, is_zero, magnitude, sign_of, finite}
-use Rattle.float64.proofs.Units.{zero-units, same_units}
+use Rattle.float64.specs.Values.{plus_zero, is_zero, magnitude, sign_of, finite}
+use Rattle.float64.proofs.Units.{zero_units, same_units}
 
-product-above : (m : ℕ) (e : ℤ) → 0 < suc m * up e * 1
-product-above m e = mul-pos (mul-pos (zero-lt-suc m) (up_pos e)) (zero-lt-suc 0)
+product_above : (m : ℕ) (e : ℤ) → 0 < suc m * up e * 1
+product_above m e = mul-pos (mul-pos (zero-lt-suc m) (up_pos e)) (zero-lt-suc 0)
 
 -- x > 0.0
-pub above_zero : (x : Float) → lt plusZero x ≡ above x
+pub above_zero : (x : Float) → lt plus_zero x ≡ above x
 unfolding lt of_bits
 above_zero nan = refl
 above_zero (inf s) = refl
 above_zero (fin true m e) = refl
 above_zero (fin false zero e) = le-ltb (0 * 1 * down e) (0 * up e * 1) (omega arith)
 above_zero (fin false (suc m) e) =
-    let p = product-above m e in lt-ltb (0 * 1 * down e) (suc m * up e * 1) (omega arith) ∙ sym (lt-ltb 0 (suc m) (zero-lt-suc m))
+    let p = product_above m e in lt-ltb (0 * 1 * down e) (suc m * up e * 1) (omega arith) ∙ sym (lt-ltb 0 (suc m) (zero-lt-suc m))
 
 -- x < 0.0
-pub below-zero : (x : Float) → lt x plusZero ≡ above (neg x)
+pub below_zero : (x : Float) → lt x plus_zero ≡ above (neg x)
 unfolding lt of_bits neg
-below-zero nan = refl
-below-zero (inf true) = refl
-below-zero (inf false) = refl
-below-zero (fin true zero e) = le-ltb 0 (0 * up e * 1 + 0 * 1 * down e) (omega arith)
-below-zero (fin true (suc m) e) =
-    let p = product-above m e in lt-ltb 0 (suc m * up e * 1 + 0 * 1 * down e) (omega arith) ∙ sym (lt-ltb 0 (suc m) (zero-lt-suc m))
-below-zero (fin false m e) = le-ltb (m * up e * 1) (0 * 1 * down e) (omega arith)
+below_zero nan = refl
+below_zero (inf true) = refl
+below_zero (inf false) = refl
+below_zero (fin true zero e) = le-ltb 0 (0 * up e * 1 + 0 * 1 * down e) (omega arith)
+below_zero (fin true (suc m) e) =
+    let p = product_above m e in lt-ltb 0 (suc m * up e * 1 + 0 * 1 * down e) (omega arith) ∙ sym (lt-ltb 0 (suc m) (zero-lt-suc m))
+below_zero (fin false m e) = le-ltb (m * up e * 1) (0 * 1 * down e) (omega arith)
 
 -- x == 0.0
-pub equal-zero : (x : Float) → eq x plusZero ≡ is_zero x
+pub equal_zero : (x : Float) → eq x plus_zero ≡ is_zero x
 unfolding eq of_bits
-equal-zero nan = refl
-equal-zero (inf s) = refl
-equal-zero (fin s zero e) =
+equal_zero nan = refl
+equal_zero (inf s) = refl
+equal_zero (fin s zero e) =
     both (eqb (0 * up e * 1) (0 * 1 * down e)) (eqb (0 * up e * 1) 0) (beq s false)
     (eq-eqb (0 * up e * 1) (0 * 1 * down e) (omega arith)) (eq-eqb (0 * up e * 1) 0 (omega arith))
   where
     both : (p q s : Bool) → p ≡ true → q ≡ true → p && (s || q) ≡ true
     both p q true e f = ap (λ (b : Bool). b && true) e
     both p q false e f = ap (λ (b : Bool). b && q) e ∙ f
-equal-zero (fin s (suc m) e) =
-    let p = product-above m e in
+equal_zero (fin s (suc m) e) =
+    let p = product_above m e in
     ap (λ (b : Bool). b && (beq s false || eqb (suc m * up e * 1) 0)) (ne_eqb (suc m * up e * 1) (0 * 1 * down e) (λ h. omega arith))
     ∙ sym (ne_eqb (suc m) 0 (λ h. omega arith))
 
@@ -63,53 +63,53 @@ unsigned (inf false) h = refl
 unsigned (fin true m e) h = absurd (true≢false h)
 unsigned (fin false m e) h = refl
 
-pub unsigned-not-below : (x : Float) → sign_of x ≡ false → lt x plusZero ≡ false
-unsigned-not-below x h = below-zero x ∙ unsigned x h
+pub unsigned_not_below : (x : Float) → sign_of x ≡ false → lt x plus_zero ≡ false
+unsigned_not_below x h = below_zero x ∙ unsigned x h
 
-above-unsigned : (x : Float) → above x ≡ true → sign_of x ≡ false
-above-unsigned nan h = refl
-above-unsigned (inf true) h = sym h
-above-unsigned (inf false) h = refl
-above-unsigned (fin true m e) h = sym h
-above-unsigned (fin false m e) h = refl
+above_unsigned : (x : Float) → above x ≡ true → sign_of x ≡ false
+above_unsigned nan h = refl
+above_unsigned (inf true) h = sym h
+above_unsigned (inf false) h = refl
+above_unsigned (fin true m e) h = sym h
+above_unsigned (fin false m e) h = refl
 
-pub above-not-below : (x : Float) → lt plusZero x ≡ true → lt x plusZero ≡ false
-above-not-below x h = unsigned-not-below x (above-unsigned x (sym (above_zero x) ∙ h))
+pub above_not_below : (x : Float) → lt plus_zero x ≡ true → lt x plus_zero ≡ false
+above_not_below x h = unsigned_not_below x (above_unsigned x (sym (above_zero x) ∙ h))
 
-zero-not-above : (x : Float) → is_zero x ≡ true → above (neg x) ≡ false
+zero_not_above : (x : Float) → is_zero x ≡ true → above (neg x) ≡ false
 unfolding neg
-zero-not-above nan h = refl
-zero-not-above (inf s) h = absurd (true≢false (sym h))
-zero-not-above (fin true m e) h = let w : m ≡ 0 = eqb-true m 0 h in le-ltb 0 m (omega arith)
-zero-not-above (fin false m e) h = refl
+zero_not_above nan h = refl
+zero_not_above (inf s) h = absurd (true≢false (sym h))
+zero_not_above (fin true m e) h = let w : m ≡ 0 = eqb-true m 0 h in le-ltb 0 m (omega arith)
+zero_not_above (fin false m e) h = refl
 
-pub zero-not-below : (x : Float) → is_zero x ≡ true → lt x plusZero ≡ false
-zero-not-below x h = below-zero x ∙ zero-not-above x h
+pub zero_not_below : (x : Float) → is_zero x ≡ true → lt x plus_zero ≡ false
+zero_not_below x h = below_zero x ∙ zero_not_above x h
 
 -- ---- the absolute value, by its two tests
-pub magnitude-below : (x : Float) → lt x plusZero ≡ true → neg x ≡ magnitude x
+pub magnitude_below : (x : Float) → lt x plus_zero ≡ true → neg x ≡ magnitude x
 unfolding neg
-magnitude-below nan h = refl
-magnitude-below (inf true) h = refl
-magnitude-below (inf false) h = absurd (true≢false (sym h ∙ below-zero (inf false)))
-magnitude-below (fin true m e) h = refl
-magnitude-below (fin false m e) h = absurd (true≢false (sym h ∙ below-zero (fin false m e)))
+magnitude_below nan h = refl
+magnitude_below (inf true) h = refl
+magnitude_below (inf false) h = absurd (true≢false (sym h ∙ below_zero (inf false)))
+magnitude_below (fin true m e) h = refl
+magnitude_below (fin false m e) h = absurd (true≢false (sym h ∙ below_zero (fin false m e)))
 
-zero-magnitude : (s : Bool) (e : ℤ) → T (fits binary64 (fin s 0 e)) → plusZero ≡ fin false 0 e
+zero_magnitude : (s : Bool) (e : ℤ) → T (fits binary64 (fin s 0 e)) → plus_zero ≡ fin false 0 e
 unfolding finite fits of_bits
-zero-magnitude s e f = same_units plusZero (fin false 0 e) tt tt tt f refl (zero-units false (pos 0) ∙ sym (zero-units false e))
+zero_magnitude s e f = same_units plus_zero (fin false 0 e) tt tt tt f refl (zero_units false (pos 0) ∙ sym (zero_units false e))
 
-pub magnitude-zero : (x : Float) → T (fits binary64 x) → eq x plusZero ≡ true → plusZero ≡ magnitude x
-magnitude-zero nan f h = absurd (true≢false (sym h ∙ equal-zero nan))
-magnitude-zero (inf s) f h = absurd (true≢false (sym h ∙ equal-zero (inf s)))
-magnitude-zero (fin s zero e) f h = zero-magnitude s e f
-magnitude-zero (fin s (suc m) e) f h = absurd (true≢false (sym h ∙ equal-zero (fin s (suc m) e) ∙ ne_eqb (suc m) 0 (λ z. omega arith)))
+pub magnitude_zero : (x : Float) → T (fits binary64 x) → eq x plus_zero ≡ true → plus_zero ≡ magnitude x
+magnitude_zero nan f h = absurd (true≢false (sym h ∙ equal_zero nan))
+magnitude_zero (inf s) f h = absurd (true≢false (sym h ∙ equal_zero (inf s)))
+magnitude_zero (fin s zero e) f h = zero_magnitude s e f
+magnitude_zero (fin s (suc m) e) f h = absurd (true≢false (sym h ∙ equal_zero (fin s (suc m) e) ∙ ne_eqb (suc m) 0 (λ z. omega arith)))
 
-pub magnitude-above : (x : Float) → lt x plusZero ≡ false → eq x plusZero ≡ false → x ≡ magnitude x
+pub magnitude_above : (x : Float) → lt x plus_zero ≡ false → eq x plus_zero ≡ false → x ≡ magnitude x
 unfolding neg
-magnitude-above nan h k = refl
-magnitude-above (inf true) h k = absurd (true≢false (sym (below-zero (inf true)) ∙ h))
-magnitude-above (inf false) h k = refl
-magnitude-above (fin true zero e) h k = absurd (true≢false (sym (equal-zero (fin true zero e)) ∙ k))
-magnitude-above (fin true (suc m) e) h k = absurd (true≢false (sym (lt-ltb 0 (suc m) (zero-lt-suc m)) ∙ sym (below-zero (fin true (suc m) e)) ∙ h))
-magnitude-above (fin false m e) h k = refl
+magnitude_above nan h k = refl
+magnitude_above (inf true) h k = absurd (true≢false (sym (below_zero (inf true)) ∙ h))
+magnitude_above (inf false) h k = refl
+magnitude_above (fin true zero e) h k = absurd (true≢false (sym (equal_zero (fin true zero e)) ∙ k))
+magnitude_above (fin true (suc m) e) h k = absurd (true≢false (sym (lt-ltb 0 (suc m) (zero-lt-suc m)) ∙ sym (below_zero (fin true (suc m) e)) ∙ h))
+magnitude_above (fin false m e) h k = refl

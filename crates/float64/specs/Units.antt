@@ -4,7 +4,7 @@ use Rattle.std.specs.Float.{nan, inf, fin}
 use Rattle.std.specs.Float.Ieee.{up, down}
 
 -- A finite value of binary64 is a whole number of units; 0 stands for the NaN and the infinities.
-abbrev pub unitsOf : Float → ℕ
-unitsOf nan = 0
-unitsOf (inf s) = 0
-unitsOf (fin s m e) = m * up e * 2 ^ 1074 / down e
+abbrev pub units_of : Float → ℕ
+units_of nan = 0
+units_of (inf s) = 0
+units_of (fin s m e) = m * up e * 2 ^ 1074 / down e

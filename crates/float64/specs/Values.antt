@@ -3,8 +3,8 @@ use Rattle.std.specs.Prelude.{Bool, true, false, eqb, Float}
 use Rattle.std.specs.Float.{nan, inf, fin, binary64}
 use Rattle.std.specs.Float.Ieee.{of_bits, to_bits}
 
-abbrev pub plusZero : Float
-plusZero = of_bits binary64 0
+abbrev pub plus_zero : Float
+plus_zero = of_bits binary64 0
 
 abbrev pub one : Float
 one = of_bits binary64 0x3ff0_0000_0000_0000
@@ -36,5 +36,5 @@ sign_of (inf s) = s
 sign_of (fin s m e) = s
 
 -- All 64 bits are equal. The NaN has one pattern here.
-abbrev pub sameBits : Float → Float → Bool
-sameBits x y = eqb (to_bits binary64 x) (to_bits binary64 y)
+abbrev pub same_bits : Float → Float → Bool
+same_bits x y = eqb (to_bits binary64 x) (to_bits binary64 y)

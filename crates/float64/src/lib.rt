@@ -4,7 +4,7 @@
 ghost use Rattle.std.specs.Prelude.{◌≡◌};
 ghost use Rattle.std.specs.Float.{nan, binary64};
 ghost use Rattle.std.specs.Float.Ieee.{to_bits, of_bits};
-ghost use Rattle.float64.specs.Values.{finite, magnitude, sameBits};
+ghost use Rattle.float64.specs.Values.{finite, magnitude, same_bits};
 
 // Whether x is neither a NaN nor an infinity.
 pub fn is_finite(x: f64) -> bool
@@ -49,7 +49,7 @@ pub fn is_finite_pattern(b: u64) -> bool
 
 // Whether x and y have the same pattern: +0 and -0 differ.
 pub fn same_bits(x: f64, y: f64) -> bool
-    ensures { result ≡ sameBits x y }
+    ensures { result ≡ same_bits x y }
 {
     to_bits(x) == to_bits(y)
 }

@@ -1,8 +1,8 @@
 #![tactic(auto)]
 // What a run of the array takes, told from its order and its sweeps alone (document 02 (iii)).
 ghost use Rattle.std.specs.Prelude.{◌≡◌, true, ◌≤◌};
-ghost use Rattle.sizes.specs.Sizes.{mostSweeps, is_order};
-ghost use Rattle.forecast.specs.Forecast.{forecastAnswered, figuresOf, forecastOf};
+ghost use Rattle.sizes.specs.Sizes.{most_sweeps, is_order};
+ghost use Rattle.forecast.specs.Forecast.{forecast_answered, figures_of, forecast_of};
 
 use refusal::{Answer, Refusal};
 
@@ -24,7 +24,7 @@ pub enum Forecast {
 
 // The figures of a run of order n.
 pub fn of_run(n: usize, sweeps: usize) -> Forecast
-    ensures { forecastAnswered result ≡ forecastOf n sweeps }
+    ensures { forecast_answered result ≡ forecast_of n sweeps }
 {
     match sizes::tested(n, sweeps) {
         Answer::Accepted => Forecast::Given(figures_of(n, sweeps)),
@@ -35,8 +35,8 @@ pub fn of_run(n: usize, sweeps: usize) -> Forecast
 // The figures of a run that is not refused. In a step every tile rotates once and sets four wires, which carry two values each, and
 // a tile off the diagonal receives two parameters.
 fn figures_of(n: usize, sweeps: usize) -> Figures
-    requires { (is_order n ≡ true) × (sweeps ≤ mostSweeps) }
-    ensures { result ≡ figuresOf n sweeps }
+    requires { (is_order n ≡ true) × (sweeps ≤ most_sweeps) }
+    ensures { result ≡ figures_of n sweeps }
 {
     let processors = sizes::processors_of(n);
     let steps = sizes::steps_of(n, sweeps);

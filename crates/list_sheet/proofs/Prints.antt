@@ -10,34 +10,34 @@ use Rattle.refusal.specs.Refusal.{number_of}
 use Rattle.refusal.specs.declared.Refusal.{Refusal}
 use Rattle.refusal.specs.declared.Answer.{Answer}
 use Rattle.refusal.specs.declared.Answer.TheVariants.{Accepted, Refused}
-use Rattle.listing_text.specs.Printed.{Printing, printing, refusalOf}
-use Rattle.listing_text.proofs.Room.{Within, refusal-within}
+use Rattle.listing_text.specs.Printed.{Printing, printing, refusal_of}
+use Rattle.listing_text.proofs.Room.{Within, refusal_within}
 use Rattle.listing.specs.Listing.{ListingOutcome, listed, list_of}
-use Rattle.listing.proofs.ListingParts.{listing-within}
+use Rattle.listing.proofs.ListingParts.{listing_within}
 use Rattle.list_sheet.specs.declared.Input.{Input}
 use Rattle.list_sheet.specs.declared.Input.TheVariants.{Read}
-use Rattle.list_sheet.specs.Program.{printsBy, printsOf, ReadWithin}
+use Rattle.list_sheet.specs.Program.{prints_by, prints_of, ReadWithin}
 
-pub read-within : {most bytes : ℕ} (x : Input) → x ≡ Read bytes → ReadWithin most x → bytes ≤ most
-read-within {most} x z h = subst (ReadWithin most) z h
+pub read_within : {most bytes : ℕ} (x : Input) → x ≡ Read bytes → ReadWithin most x → bytes ≤ most
+read_within {most} x z h = subst (ReadWithin most) z h
 
-by-within : (a : Answered Unit) (o : ListingOutcome) → o.count ≤ length o.bytes → Within (printsBy a o)
-by-within (given x) o h = h
-by-within (refused k values) o h = refusal-within k o.bytes
+by_within : (a : Answered Unit) (o : ListingOutcome) → o.count ≤ length o.bytes → Within (prints_by a o)
+by_within (given x) o h = h
+by_within (refused k values) o h = refusal_within k o.bytes
 
 module _ (b t : List ℕ) where
-  prints-within : Within (printsOf b t)
-  unfolding printsOf
-  prints-within = by-within (list_of b t).answer (list_of b t) (listing-within b t)
+  prints_within : Within (prints_of b t)
+  unfolding prints_of
+  prints_within = by_within (list_of b t).answer (list_of b t) (listing_within b t)
 
-  pub prints-counted : {k : ℕ} {l : List ℕ} → printing k l ≡ printsOf b t → (printing k l ≡ printsOf b t) × IsPrefixLen k l
-  prints-counted {k} {l} e = (e, prefix_len_of_le k l (rw (← e) at prints-within))
+  pub prints_counted : {k : ℕ} {l : List ℕ} → printing k l ≡ prints_of b t → (printing k l ≡ prints_of b t) × IsPrefixLen k l
+  prints_counted {k} {l} e = (e, prefix_len_of_le k l (rw (← e) at prints_within))
 
   module _ (x : Answer) {k : ℕ} {l : List ℕ} (h : listed (answered x) (printing k l) ≡ list_of b t) where
-    pub accepted-printed : x ≡ Accepted → printing k l ≡ printsOf b t
-    unfolding printsOf
-    accepted-printed z = ap (λ (o : ListingOutcome). printsBy o.answer o) (rw z at h)
+    pub accepted_printed : x ≡ Accepted → printing k l ≡ prints_of b t
+    unfolding prints_of
+    accepted_printed z = ap (λ (o : ListingOutcome). prints_by o.answer o) (rw z at h)
 
-    pub refused-printed : (r : Refusal) {p : Printing} → x ≡ Refused r → p ≡ refusalOf (number_of r) l → p ≡ printsOf b t
-    unfolding printsOf
-    refused-printed r z e = e ∙ ap (λ (o : ListingOutcome). printsBy o.answer o) (rw z at h)
+    pub refused_printed : (r : Refusal) {p : Printing} → x ≡ Refused r → p ≡ refusal_of (number_of r) l → p ≡ prints_of b t
+    unfolding prints_of
+    refused_printed r z e = e ∙ ap (λ (o : ListingOutcome). prints_by o.answer o) (rw z at h)

@@ -1,18 +1,18 @@
 -- Document 01, "The printed sheet": how much the program reads, and what it prints. Definitions only.
 use Rattle.std.specs.Prelude.{ℕ, ◌≤◌, List}
 use Rattle.refusal.specs.Answers.{Answered, given, refused}
-use Rattle.listing_text.specs.Printed.{Printing, printing, refusalOf}
+use Rattle.listing_text.specs.Printed.{Printing, printing, refusal_of}
 use Rattle.listing.specs.Listing.{ListingOutcome, list_of}
 use Rattle.list_sheet.specs.declared.Input.{Input}
 use Rattle.list_sheet.specs.declared.Input.TheVariants.{Read, Failed}
 
-abbrev pub printsBy : Answered Unit → ListingOutcome → Printing
-printsBy (given x) o = printing o.count o.bytes
-printsBy (refused k values) o = refusalOf k o.bytes
+abbrev pub prints_by : Answered Unit → ListingOutcome → Printing
+prints_by (given x) o = printing o.count o.bytes
+prints_by (refused k values) o = refusal_of k o.bytes
 
 -- Of the sheet b, in bytes that hold t: its listing, or the text line of its refusal.
-unfoldable pub printsOf : List ℕ → List ℕ → Printing
-printsOf b t = let o = list_of b t in printsBy o.answer o
+unfoldable pub prints_of : List ℕ → List ℕ → Printing
+prints_of b t = let o = list_of b t in prints_by o.answer o
 
 -- No more bytes are read than there is room for.
 abbrev pub ReadWithin : ℕ → Input → Type 0

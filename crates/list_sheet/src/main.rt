@@ -4,7 +4,7 @@
 ghost use Rattle.std.specs.Prelude.{◌≡◌, length};
 ghost use Rattle.io.specs.Counts.{IsPrefixLen};
 ghost use Rattle.listing_text.specs.Printed.{printing};
-ghost use Rattle.list_sheet.specs.Program.{printsOf, ReadWithin};
+ghost use Rattle.list_sheet.specs.Program.{prints_of, ReadWithin};
 
 use libc::{STDERR_FILENO, STDIN_FILENO, STDOUT_FILENO};
 use refusal::Answer;
@@ -102,7 +102,7 @@ fn list(sheet: &[u8]) {
 
 // Prints a sheet, or the text line of its refusal, into lent bytes, and answers how many they are.
 fn print(sheet: &[u8], text: &mut [u8]) -> usize
-    ensures text_after { printing result text.new ≡ printsOf sheet.now text.old }
+    ensures text_after { printing result text.new ≡ prints_of sheet.now text.old }
     ensures prefix_len { IsPrefixLen result text.new }
 {
     let listed = listing::list(sheet, text);

@@ -1,12 +1,12 @@
 #![tactic(auto)]
 // The listing of a sheet: read, run by the array and printed (document 01, "The printed sheet").
 ghost use Rattle.std.specs.Prelude.{◌≡◌, true, cond, ◌*◌, ◌≤◌, ltb, length};
-ghost use Rattle.refusal.specs.Answers.{given, refusedBy, answered};
-ghost use Rattle.sizes.specs.Sizes.{is_order, largestOrder};
+ghost use Rattle.refusal.specs.Answers.{given, refused_by, answered};
+ghost use Rattle.sizes.specs.Sizes.{is_order, largest_order};
 ghost use Rattle.array_run.specs.Whole.{whole_of};
 ghost use Rattle.sheet.specs.Format.{order_in};
 ghost use Rattle.listing_text.specs.Printed.{printing};
-ghost use Rattle.listing.specs.Listing.{listed, listedUnless, list_of};
+ghost use Rattle.listing.specs.Listing.{listed, listed_unless, list_of};
 
 use array_run::Completion;
 use refusal::{Answer, Refusal};
@@ -43,7 +43,7 @@ pub fn list(sheet: &[u8], text: &mut [u8]) -> Listing
 
 // The order in a sheet, 0 where there is none up to the largest.
 fn order(sheet: &[u8]) -> usize
-    ensures { result ≡ cond (ltb largestOrder (order_in sheet.now)) 0 (order_in sheet.now) }
+    ensures { result ≡ cond (ltb largest_order (order_in sheet.now)) 0 (order_in sheet.now) }
 {
     let n = sheet::order_in(sheet);
     if n > LARGEST_ORDER {
@@ -83,9 +83,9 @@ fn run(
     vectors: &mut [f64],
     text: &mut [u8],
 ) -> Listing
-    requires { n ≤ largestOrder }
+    requires { n ≤ largest_order }
     ensures { listed (answered result.answer) (printing result.count text.new)
-        ≡ listedUnless (given tt) n sweeps codes.now
+        ≡ listed_unless (given tt) n sweeps codes.now
         (whole_of n sweeps matrix.now res.old vectors.old) text.old }
 {
     if text.len() < listing_text::room_for(n) {
@@ -102,7 +102,7 @@ fn run(
 
 // A refusal, which prints nothing.
 fn refuse(refused: Refusal) -> Listing
-    ensures { (answered result.answer ≡ refusedBy refused) × (result.count ≡ 0) }
+    ensures { (answered result.answer ≡ refused_by refused) × (result.count ≡ 0) }
 {
     Listing {
         answer: Answer::Refused(refused),

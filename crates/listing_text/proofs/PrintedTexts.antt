@@ -8,14 +8,14 @@ use lib.ListN.{length, drop}
 use lib.Ieee.{Float}
 use Rattle.sizes.specs.Sizes.{is_order}
 use Rattle.matrix.specs.Matrix.{at}
-use Rattle.listing_text.specs.Printed.{printedOf, roomFor, printable, printing, printOf}
+use Rattle.listing_text.specs.Printed.{printed_of, room_for, printable, printing, print_of}
 
-pub all-printed : (n sweeps ticks : ℕ) (codes : List ℕ) (l e : List Float) (b : List ℕ) → is_order n ≡ true → sweeps < 10000 → ticks < 10000
-    → length codes ≡ n → length l ≡ n * n → length e ≡ n * n → roomFor n ≤ length b
-    → (let s = printedOf n sweeps ticks codes (at n l) (at n e) in
-    printOf n sweeps ticks codes l e b ≡ printing (length s) (s ++ drop (length s) b))
-unfolding printOf printable
-all-printed n sweeps ticks codes l e b order few fewer hc hl he room =
+pub all_printed : (n sweeps ticks : ℕ) (codes : List ℕ) (l e : List Float) (b : List ℕ) → is_order n ≡ true → sweeps < 10000 → ticks < 10000
+    → length codes ≡ n → length l ≡ n * n → length e ≡ n * n → room_for n ≤ length b
+    → (let s = printed_of n sweeps ticks codes (at n l) (at n e) in
+    print_of n sweeps ticks codes l e b ≡ printing (length s) (s ++ drop (length s) b))
+unfolding print_of printable
+all_printed n sweeps ticks codes l e b order few fewer hc hl he room =
     rw (
       order,
       lt-ltb sweeps 10000 few,
@@ -23,5 +23,5 @@ all-printed n sweeps ticks codes l e b order few fewer hc hl he room =
       eq-eqb (length codes) n hc,
       eq-eqb (length l) (n * n) hl,
       eq-eqb (length e) (n * n) he,
-      le-leb (roomFor n) (length b) room,
+      le-leb (room_for n) (length b) room,
     )

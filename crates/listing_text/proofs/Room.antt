@@ -9,41 +9,41 @@ use native.Mathlib.Omega.{arith}
 use lib.Dec.{ltb}
 use lib.ListN.{length, drop, length-append}
 use lib.Ieee.{Float}
-use Rattle.sizes.specs.Sizes.{largestOrder}
+use Rattle.sizes.specs.Sizes.{largest_order}
 use Rattle.matrix.specs.Matrix.{at}
-use Rattle.listing_text.specs.Printed.{textLineRoom, printable, Printing, printing, printedOf, printOf, refusedText, refusalOf}
+use Rattle.listing_text.specs.Printed.{text_line_room, printable, Printing, printing, printed_of, print_of, refused_text, refusal_of}
 
-pub text-line-more : (k n : ℕ) → (k + 1) * textLineRoom n ≡ k * textLineRoom n + textLineRoom n
-text-line-more k n = rw add-one (suc-mul k (textLineRoom n))
+pub text_line_more : (k n : ℕ) → (k + 1) * text_line_room n ≡ k * text_line_room n + text_line_room n
+text_line_more k n = rw add-one (suc-mul k (text_line_room n))
 
 -- while text lines are left there is room for one
-pub text-line-fits : (k n : ℕ) → k < n → k * textLineRoom n + textLineRoom n ≤ n * textLineRoom n
-text-line-fits k n h = rw (suc-mul k (textLineRoom n)) at (mul-le-mul_right (textLineRoom n) h)
+pub text_line_fits : (k n : ℕ) → k < n → k * text_line_room n + text_line_room n ≤ n * text_line_room n
+text_line_fits k n h = rw (suc-mul k (text_line_room n)) at (mul-le-mul_right (text_line_room n) h)
 
-pub text-lines-fit : (n : ℕ) → n ≤ largestOrder → n * textLineRoom n ≤ largestOrder * textLineRoom largestOrder
-text-lines-fit n h = let w : textLineRoom n ≤ textLineRoom largestOrder = omega arith in mul-le-mul h w
+pub text_lines_fit : (n : ℕ) → n ≤ largest_order → n * text_line_room n ≤ largest_order * text_line_room largest_order
+text_lines_fit n h = let w : text_line_room n ≤ text_line_room largest_order = omega arith in mul-le-mul h w
 
 -- ---- within the lent bytes
 abbrev pub Within : Printing → Type 0
 Within p = p.count ≤ length p.bytes
 
-put-within : (s b : List ℕ) → Within (printing (length s) (s ++ drop (length s) b))
-put-within s b = rw (length-append s (drop (length s) b)) (omega arith)
+put_within : (s b : List ℕ) → Within (printing (length s) (s ++ drop (length s) b))
+put_within s b = rw (length-append s (drop (length s) b)) (omega arith)
 
-either-within : (a : Bool) (p q : Printing) → Within p → Within q → Within (cond a p q)
-either-within true p q h k = h
-either-within false p q h k = k
+either_within : (a : Bool) (p q : Printing) → Within p → Within q → Within (cond a p q)
+either_within true p q h k = h
+either_within false p q h k = k
 
 module _ (n sweeps ticks : ℕ) (codes : List ℕ) (l e : List Float) (b : List ℕ) where
-  pub print-within : Within (printOf n sweeps ticks codes l e b)
-  unfolding printOf
-  print-within =
-      let s = printedOf n sweeps ticks codes (at n l) (at n e) in
-      either-within (printable n sweeps ticks (length codes) (length l) (length e) (length b)) (printing (length s) (s ++ drop (length s) b)) (printing 0 b)
-      (put-within s b) (omega arith)
+  pub print_within : Within (print_of n sweeps ticks codes l e b)
+  unfolding print_of
+  print_within =
+      let s = printed_of n sweeps ticks codes (at n l) (at n e) in
+      either_within (printable n sweeps ticks (length codes) (length l) (length e) (length b)) (printing (length s) (s ++ drop (length s) b)) (printing 0 b)
+      (put_within s b) (omega arith)
 
-pub refusal-within : (k : ℕ) (b : List ℕ) → Within (refusalOf k b)
-unfolding refusalOf
-refusal-within k b =
-    let s = refusedText k in
-    either-within (ltb (length b) 13) (printing 0 b) (printing (length s) (s ++ drop (length s) b)) (omega arith) (put-within s b)
+pub refusal_within : (k : ℕ) (b : List ℕ) → Within (refusal_of k b)
+unfolding refusal_of
+refusal_within k b =
+    let s = refused_text k in
+    either_within (ltb (length b) 13) (printing 0 b) (printing (length s) (s ++ drop (length s) b)) (omega arith) (put_within s b)

@@ -3,10 +3,10 @@
 ghost use Rattle.std.specs.Prelude.{◌≡◌, ◌+◌, ◌*◌, ◌<◌, ◌≤◌, length};
 ghost use Rattle.refusal.specs.Refusal.{number_of};
 ghost use Rattle.matrix.specs.Matrix.{at};
-ghost use Rattle.sizes.specs.Sizes.{largestOrder};
+ghost use Rattle.sizes.specs.Sizes.{largest_order};
 ghost use Rattle.text.specs.Text.{Put};
-ghost use Rattle.listing_text.specs.Printed.{valueField, columnOf, head_of, textLineOf, textLinesOf, textLineRoom};
-ghost use Rattle.listing_text.specs.Printed.{roomFor, printable, printing, printOf, refusedWord, refusalOf};
+ghost use Rattle.listing_text.specs.Printed.{value_field, column_of, head_of, text_line_of, text_lines_of, text_line_room};
+ghost use Rattle.listing_text.specs.Printed.{room_for, printable, printing, print_of, refused_word, refusal_of};
 
 use refusal::Refusal;
 use sizes::LARGEST_ORDER;
@@ -26,7 +26,7 @@ pub fn print(
     out: &mut [u8],
 ) -> usize
     ensures { printing result out.new
-        ≡ printOf n sweeps ticks codes.now matrix.now vectors.now out.old }
+        ≡ print_of n sweeps ticks codes.now matrix.now vectors.now out.old }
 {
     if !is_printable(
         n,
@@ -45,7 +45,7 @@ pub fn print(
 
 // Prints a refusal into lent bytes, and answers how many they are. Nothing is printed where there may be too little room.
 pub fn print_refusal(refused: Refusal, out: &mut [u8]) -> usize
-    ensures { printing result out.new ≡ refusalOf (number_of refused) out.old }
+    ensures { printing result out.new ≡ refusal_of (number_of refused) out.old }
 {
     if out.len() < 13 {
         return 0;
@@ -57,8 +57,8 @@ pub fn print_refusal(refused: Refusal, out: &mut [u8]) -> usize
 
 // The bytes that are enough for the printed sheet of an order.
 pub fn room_for(n: usize) -> usize
-    requires { n ≤ largestOrder }
-    ensures { result ≡ roomFor n }
+    requires { n ≤ largest_order }
+    ensures { result ≡ room_for n }
 {
     15 + n * (23 + 17 * n)
 }
@@ -66,7 +66,7 @@ pub fn room_for(n: usize) -> usize
 // The word refused, and a space.
 fn put_word(out: &mut [u8]) -> usize
     requires { 8 ≤ length out.old }
-    ensures put { Put out.old 0 refusedWord out.new result }
+    ensures put { Put out.old 0 refused_word out.new result }
     ensures value { result ≡ 8 }
 {
     let mut end = text::put(b'r', 0, out);
@@ -136,9 +136,9 @@ fn put_text_lines(
     out: &mut [u8],
 ) -> usize
     requires { (length codes.now ≡ n) × (length matrix.now ≡ n * n) × (length vectors.now ≡ n * n)
-        × (from + n * textLineRoom n ≤ length out.old) }
+        × (from + n * text_line_room n ≤ length out.old) }
     ensures { Put out.old from
-        (textLinesOf n codes.now (at n matrix.now) (at n vectors.now) n) out.new result }
+        (text_lines_of n codes.now (at n matrix.now) (at n vectors.now) n) out.new result }
 {
     let mut end = from;
     for k in 0..n {
@@ -158,10 +158,10 @@ fn put_text_line(
     out: &mut [u8],
 ) -> usize
     requires { (1 ≤ k) × (k ≤ n) × (length matrix.now ≡ n * n) × (length vectors.now ≡ n * n)
-        × (from + textLineRoom n ≤ length out.old) }
+        × (from + text_line_room n ≤ length out.old) }
     ensures put { Put out.old from
-        (textLineOf n code (at n matrix.now) (at n vectors.now) k) out.new result }
-    ensures upper_bound { result ≤ from + textLineRoom n }
+        (text_line_of n code (at n matrix.now) (at n vectors.now) k) out.new result }
+    ensures upper_bound { result ≤ from + text_line_room n }
 {
     let number = text::put_decimal(code as u64, from, out);
     let diagonal = put_field(matrix::entry(n, k, k, matrix), number, out);
@@ -172,7 +172,7 @@ fn put_text_line(
 // The bits of the values in column c, from the top.
 fn put_column(n: usize, c: usize, vectors: &[f64], from: usize, out: &mut [u8]) -> usize
     requires { (1 ≤ c) × (c ≤ n) × (length vectors.now ≡ n * n) × (from + 17 * n ≤ length out.old) }
-    ensures put { Put out.old from (columnOf (at n vectors.now) c n) out.new result }
+    ensures put { Put out.old from (column_of (at n vectors.now) c n) out.new result }
     ensures value { result ≡ from + 17 * n }
 {
     let mut end = from;
@@ -185,7 +185,7 @@ fn put_column(n: usize, c: usize, vectors: &[f64], from: usize, out: &mut [u8]) 
 // A space and the bits of a value.
 fn put_field(x: f64, from: usize, out: &mut [u8]) -> usize
     requires { from + 17 ≤ length out.old }
-    ensures put { Put out.old from (valueField x) out.new result }
+    ensures put { Put out.old from (value_field x) out.new result }
     ensures value { result ≡ from + 17 }
 {
     let digits = text::put(b' ', from, out);

@@ -35,5 +35,5 @@ module _ {A : Type 0} {z : A} {f : ℕ → A} {n : ℕ} where
         go i b o true y = let w : i ≡ k = eqb-true _ _ y in rw w (get_or-set_same l k x z inside ∙ e)
         go i b o false y = let w : ¬ (i ≡ k) = eqb-false _ _ y in get_or-set_other l k i x z w ∙ h.filled i b (omega arith)
 
-  pub filled-all : (k : ℕ) (l : List A) → Filled z f n k l → n ≤ k → l ≡ tabulate n f
-  filled-all k l h o = tabulated n f l z h.long (λ i b. h.filled i zero-le (omega arith))
+  pub filled_all : (k : ℕ) (l : List A) → Filled z f n k l → n ≤ k → l ≡ tabulate n f
+  filled_all k l h o = tabulated n f l z h.long (λ i b. h.filled i zero-le (omega arith))

@@ -26,11 +26,11 @@ pub record Replaced {A : Type 0} (z : A) (f : ℕ → A) (old : List A) (k : ℕ
   pub kept : (i : ℕ) → k ≤ i → get_or l i z ≡ get_or old i z
 
 module _ {A : Type 0} {z : A} {f : ℕ → A} {old : List A} where
-  pub replaced-none : Replaced z f old 0 old
-  replaced-none = record { long = refl; done = λ i h. absurd (omega arith); kept = λ i h. refl }
+  pub replaced_none : Replaced z f old 0 old
+  replaced_none = record { long = refl; done = λ i h. absurd (omega arith); kept = λ i h. refl }
 
-  pub replaced-next : (k : ℕ) (l : List A) (x : A) → Replaced z f old k l → k < length old → x ≡ f k → Replaced z f old (k + 1) (set l k x)
-  replaced-next k l x h below e =
+  pub replaced_next : (k : ℕ) (l : List A) (x : A) → Replaced z f old k l → k < length old → x ≡ f k → Replaced z f old (k + 1) (set l k x)
+  replaced_next k l x h below e =
       record {
         long = length-set l k x ∙ h.long;
         done = λ i b. up_to (λ i. get_or (set l k x) i z ≡ f i) k i b (λ o. other i (λ y. omega arith) ∙ h.done i o) (get_or-set_same l k x z inside ∙ e);
@@ -44,36 +44,36 @@ module _ {A : Type 0} {z : A} {f : ℕ → A} {old : List A} where
       other i n = get_or-set_other l k i x z n
 
   -- an element that stays
-  pub replaced-skip : (k : ℕ) (l : List A) → Replaced z f old k l → get_or old k z ≡ f k → Replaced z f old (k + 1) l
-  replaced-skip k l h e =
+  pub replaced_skip : (k : ℕ) (l : List A) → Replaced z f old k l → get_or old k z ≡ f k → Replaced z f old (k + 1) l
+  replaced_skip k l h e =
       record {
         long = h.long;
         done = λ i b. up_to (λ i. get_or l i z ≡ f i) k i b (h.done i) (h.kept k (omega arith) ∙ e);
         kept = λ i o. h.kept i (omega arith);
       }
 
-  pub replaced-each : (k : ℕ) (l : List A) → Replaced z f old k l → ((i : ℕ) → k ≤ i → get_or old i z ≡ f i) → (i : ℕ) → get_or l i z ≡ f i
-  replaced-each k l h rest i = go (ltb i k) refl
+  pub replaced_each : (k : ℕ) (l : List A) → Replaced z f old k l → ((i : ℕ) → k ≤ i → get_or old i z ≡ f i) → (i : ℕ) → get_or l i z ≡ f i
+  replaced_each k l h rest i = go (ltb i k) refl
     where
       go : (b : Bool) → ltb i k ≡ b → get_or l i z ≡ f i
       go true y = h.done i (ltb-true _ _ y)
       go false y = let w : k ≤ i = ltb-false _ _ y in h.kept i w ∙ rest i w
 
-  pub replaced-all : (k : ℕ) (l : List A) → Replaced z f old k l → ((i : ℕ) → k ≤ i → get_or old i z ≡ f i) → l ≡ tabulate (length old) f
-  replaced-all k l h rest = tabulated (length old) f l z h.long (λ i o. replaced-each k l h rest i)
+  pub replaced_all : (k : ℕ) (l : List A) → Replaced z f old k l → ((i : ℕ) → k ≤ i → get_or old i z ≡ f i) → l ≡ tabulate (length old) f
+  replaced_all k l h rest = tabulated (length old) f l z h.long (λ i o. replaced_each k l h rest i)
 
   -- a part that the formula leaves alone
-  pub replaced-part : {B : Type 0} (g : A → B) (k : ℕ) (l : List A) (i : ℕ) → g (f i) ≡ g (get_or old i z) → Replaced z f old k l
+  pub replaced_part : {B : Type 0} (g : A → B) (k : ℕ) (l : List A) (i : ℕ) → g (f i) ≡ g (get_or old i z) → Replaced z f old k l
       → g (get_or l i z) ≡ g (get_or old i z)
-  replaced-part g k l i e h = go (ltb i k) refl
+  replaced_part g k l i e h = go (ltb i k) refl
     where
       go : (b : Bool) → ltb i k ≡ b → g (get_or l i z) ≡ g (get_or old i z)
       go true y = ap g (h.done i (ltb-true _ _ y)) ∙ e
       go false y = ap g (h.kept i (ltb-false _ _ y))
 
   -- the new elements, and the old ones after them
-  pub replaced-over : (m : ℕ) (l : List A) → Replaced z f old m l → m ≤ length old → l ≡ tabulate m f ++ drop m old
-  replaced-over m l h o = sym (take-append-drop m l) ∙ ap (λ (x : List A). x ++ drop m l) front ∙ ap (λ (x : List A). tabulate m f ++ x) back
+  pub replaced_over : (m : ℕ) (l : List A) → Replaced z f old m l → m ≤ length old → l ≡ tabulate m f ++ drop m old
+  replaced_over m l h o = sym (take-append-drop m l) ∙ ap (λ (x : List A). x ++ drop m l) front ∙ ap (λ (x : List A). tabulate m f ++ x) back
     where
       front : take m l ≡ tabulate m f
       front =

@@ -10,99 +10,99 @@ use lib.Arith.{digits_lt}
 use lib.Dec.{eqb, leb}
 use lib.ListN.{length, get_or}
 use lib.Ieee.{Float, nan}
-use Rattle.matrix.specs.Matrix.{at, is_line, isPlace, entry_of}
+use Rattle.matrix.specs.Matrix.{at, is_line, is_place, entry_of}
 
 -- ---- the length of a matrix
 pub too_large : (n d : ℕ) → 0xffff_ffff < n → d < 2 ^ 64 → false ≡ eqb d (n * n)
 too_large n d h k = let w : 0x1_0000_0000 * 0x1_0000_0000 ≤ n * n = mul-le-mul h h in sym (ne_eqb d (n * n) (λ e. omega arith))
 
-pub square-fits : (n : ℕ) → n ≤ 0xffff_ffff → n * n < 2 ^ 64
-square-fits n h = let w : n * n ≤ 0xffff_ffff * 0xffff_ffff = mul-le-mul h h in omega arith
+pub square_fits : (n : ℕ) → n ≤ 0xffff_ffff → n * n < 2 ^ 64
+square_fits n h = let w : n * n ≤ 0xffff_ffff * 0xffff_ffff = mul-le-mul h h in omega arith
 
 -- ---- one line
-pub line-zero : (n p : ℕ) → p ≡ 0 → false ≡ is_line n p
-line-zero n p e = rw e
+pub line_zero : (n p : ℕ) → p ≡ 0 → false ≡ is_line n p
+line_zero n p e = rw e
 
 pub line_other : (n p : ℕ) → ¬ (p ≡ 0) → leb p n ≡ is_line n p
 line_other n p e = rw (ne_eqb p 0 e)
 
 -- ---- a place
-pub line-is : (n p : ℕ) → is_line n p ≡ true → (1 ≤ p) × (p ≤ n)
-line-is n p e = go (eqb p 0) refl e
+pub line_is : (n p : ℕ) → is_line n p ≡ true → (1 ≤ p) × (p ≤ n)
+line_is n p e = go (eqb p 0) refl e
   where
     go : (b : Bool) → eqb p 0 ≡ b → cond b false (leb p n) ≡ true → (1 ≤ p) × (p ≤ n)
     go true z y = absurd (true≢false (sym y))
     go false z y = let w : ¬ (p ≡ 0) = eqb-false _ _ z in (omega arith, leb-true _ _ y)
 
-is-line : (n p : ℕ) → 1 ≤ p → p ≤ n → is_line n p ≡ true
-is-line n p h k = rw (ne_eqb p 0 (λ e. omega arith)) (le-leb p n k)
+is_line_lem : (n p : ℕ) → 1 ≤ p → p ≤ n → is_line n p ≡ true
+is_line_lem n p h k = rw (ne_eqb p 0 (λ e. omega arith)) (le-leb p n k)
 
 pub record Place (n r c d : ℕ) : Type 0 where
-  pub row-above : 1 ≤ r
+  pub row_above : 1 ≤ r
   pub row_within : r ≤ n
-  pub column-above : 1 ≤ c
-  pub column-within : c ≤ n
+  pub column_above : 1 ≤ c
+  pub column_within : c ≤ n
   pub square : d ≡ n * n
 
 module _ (n r c d : ℕ) where
-  pub no_row : is_line n r ≡ false → false ≡ isPlace n r c d
-  unfolding isPlace
+  pub no_row : is_line n r ≡ false → false ≡ is_place n r c d
+  unfolding is_place
   no_row e = rw e
 
-  pub no-column : is_line n r ≡ true → is_line n c ≡ false → false ≡ isPlace n r c d
-  unfolding isPlace
-  no-column e f = rw (e, f)
+  pub no_column : is_line n r ≡ true → is_line n c ≡ false → false ≡ is_place n r c d
+  unfolding is_place
+  no_column e f = rw (e, f)
 
-  pub by_length : is_line n r ≡ true → is_line n c ≡ true → eqb d (n * n) ≡ isPlace n r c d
-  unfolding isPlace
+  pub by_length : is_line n r ≡ true → is_line n c ≡ true → eqb d (n * n) ≡ is_place n r c d
+  unfolding is_place
   by_length e f = rw (e, f)
 
-  pub are-place : isPlace n r c d ≡ true → Place n r c d
-  unfolding isPlace
-  are-place e = go (is_line n r) (is_line n c) (eqb d (n * n)) refl refl refl e
+  pub are_place : is_place n r c d ≡ true → Place n r c d
+  unfolding is_place
+  are_place e = go (is_line n r) (is_line n c) (eqb d (n * n)) refl refl refl e
     where
       go : (a b s : Bool) → is_line n r ≡ a → is_line n c ≡ b → eqb d (n * n) ≡ s → (a && (b && s)) ≡ true → Place n r c d
       go false b s x y w e = absurd (true≢false (sym e))
       go true false s x y w e = absurd (true≢false (sym e))
       go true true false x y w e = absurd (true≢false (sym e))
       go true true true x y w e =
-          let u = line-is n r x in
-          let v = line-is n c y in
-          record { row-above = u.0; row_within = u.1; column-above = v.0; column-within = v.1; square = eqb-true _ _ w }
+          let u = line_is n r x in
+          let v = line_is n c y in
+          record { row_above = u.0; row_within = u.1; column_above = v.0; column_within = v.1; square = eqb-true _ _ w }
 
-  pub place_is : Place n r c d → isPlace n r c d ≡ true
-  unfolding isPlace
-  place_is t = rw (is-line n r t.row-above t.row_within, is-line n c t.column-above t.column-within, eq-eqb d (n * n) t.square)
+  pub place_is : Place n r c d → is_place n r c d ≡ true
+  unfolding is_place
+  place_is t = rw (is_line_lem n r t.row_above t.row_within, is_line_lem n c t.column_above t.column_within, eq-eqb d (n * n) t.square)
 
 -- ---- an entry
 module _ (n r c : ℕ) (l : List Float) where
-  pub entry-none : isPlace n r c (length l) ≡ false → nan ≡ entry_of n l r c
+  pub entry_none : is_place n r c (length l) ≡ false → nan ≡ entry_of n l r c
   unfolding entry_of
-  entry-none e = rw e
+  entry_none e = rw e
 
-  pub entry_at : isPlace n r c (length l) ≡ true → entry_of n l r c ≡ at n l r c
+  pub entry_at : is_place n r c (length l) ≡ true → entry_of n l r c ≡ at n l r c
   unfolding entry_of
   entry_at e = rw e
 
-  pub entry_read : isPlace n r c (length l) ≡ true → get_or l ((r - 1) * n + (c - 1)) nan ≡ entry_of n l r c
+  pub entry_read : is_place n r c (length l) ≡ true → get_or l ((r - 1) * n + (c - 1)) nan ≡ entry_of n l r c
   unfolding at
   entry_read e = sym (entry_at e)
 
-  pub place-within : Place n r c (length l) → (r - 1) * n + (c - 1) < length l
-  place-within t =
-      let a = t.row-above in
+  pub place_within : Place n r c (length l) → (r - 1) * n + (c - 1) < length l
+  place_within t =
+      let a = t.row_above in
       let b = t.row_within in
-      let f = t.column-above in
-      let g = t.column-within in
+      let f = t.column_above in
+      let g = t.column_within in
       rw t.square (digits_lt {q = r - 1} {m = n} {r = c - 1} {c = n} (omega arith) (omega arith))
 
 pub entry_in : (n i j : ℕ) (l : List Float) → length l ≡ n * n → i < n → j < n → entry_of n l (i + 1) (j + 1) ≡ at n l (i + 1) (j + 1)
 entry_in n i j l long hi hj =
     entry_at n (i + 1) (j + 1) l
     (place_is n (i + 1) (j + 1) (length l) (record {
-      row-above = omega arith;
+      row_above = omega arith;
       row_within = omega arith;
-      column-above = omega arith;
-      column-within = omega arith;
+      column_above = omega arith;
+      column_within = omega arith;
       square = long;
     }))

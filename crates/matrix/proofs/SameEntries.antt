@@ -8,7 +8,7 @@ use lib.ListN.{length}
 use lib.Ieee.{Float}
 use Rattle.float64.specs.Values.{finite}
 use Rattle.matrix.specs.Matrix.{at, flat}
-use Rattle.matrix.proofs.Flat.{at-flat, flat-is, flat-length}
+use Rattle.matrix.proofs.Flat.{at_flat, flat_is, flat_length}
 
 -- p is one of the lines 1 to n
 abbrev pub Line : ℕ → ℕ → Type 0
@@ -34,15 +34,15 @@ module _ (n : ℕ) where
   read_again A r c hr hc =
       let e : r - 1 + 1 ≡ r = omega arith in
       let f : c - 1 + 1 ≡ c = omega arith in
-      rw (e, f) at (at-flat n A (r - 1) (c - 1) (omega arith) (omega arith))
+      rw (e, f) at (at_flat n A (r - 1) (c - 1) (omega arith) (omega arith))
 
-  pub flat-same : (A B : ℕ → ℕ → Float) → Same n A B → flat n A ≡ flat n B
-  flat-same A B h = flat-is n B (flat n A) (flat-length n A) (λ i j hi hj. at-flat n A i j hi hj ∙ h (i + 1) (j + 1) (offset i hi) (offset j hj))
+  pub flat_same : (A B : ℕ → ℕ → Float) → Same n A B → flat n A ≡ flat n B
+  flat_same A B h = flat_is n B (flat n A) (flat_length n A) (λ i j hi hj. at_flat n A i j hi hj ∙ h (i + 1) (j + 1) (offset i hi) (offset j hj))
 
-  pub flat-again : (l : List Float) → length l ≡ n * n → l ≡ flat n (at n l)
-  flat-again l e = flat-is n (at n l) l e (λ i j hi hj. refl)
+  pub flat_again : (l : List Float) → length l ≡ n * n → l ≡ flat n (at n l)
+  flat_again l e = flat_is n (at n l) l e (λ i j hi hj. refl)
 
   -- what is done to A is done to the list of A
   pub one_more : {l l' : List Float} (A : ℕ → ℕ → Float) (F : (ℕ → ℕ → Float) → ℕ → ℕ → Float)
       → ((A B : ℕ → ℕ → Float) → Same n A B → Same n (F A) (F B)) → l ≡ flat n A → l' ≡ flat n (F (at n l)) → l' ≡ flat n (F A)
-  one_more A F keeps e f = f ∙ flat-same _ _ (keeps _ _ (λ r c hr hc. ap (λ (l : List Float). at n l r c) e ∙ read_again A r c hr hc))
+  one_more A F keeps e f = f ∙ flat_same _ _ (keeps _ _ (λ r c hr hc. ap (λ (l : List Float). at n l r c) e ∙ read_again A r c hr hc))

@@ -13,27 +13,27 @@ use lib.ListN.{length, get_or, length-set}
 use lib.Seq.{get_or-set_same, get_or-set_other, lt-length-set}
 use lib.Ieee.{Float, nan}
 use Rattle.matrix.specs.Matrix.{at, flat}
-use Rattle.matrix.specs.Transposed.{transposed, transposedIn, across, up_to, exchanged}
-use Rattle.matrix.proofs.Flat.{index-one, at_offset, flat-length, at-flat, flat-is}
-use Rattle.matrix.proofs.SameEntries.{flat-same, flat-again, one_more}
+use Rattle.matrix.specs.Transposed.{transposed, transposed_in, across, up_to, exchanged}
+use Rattle.matrix.proofs.Flat.{index_one, at_offset, flat_length, at_flat, flat_is}
+use Rattle.matrix.proofs.SameEntries.{flat_same, flat_again, one_more}
 
 -- ---- two values
 module _ (p q : ℕ) (l : List Float) where
-  pub exchanged-length : length (exchanged p q l) ≡ length l
+  pub exchanged_length : length (exchanged p q l) ≡ length l
   unfolding exchanged
-  exchanged-length = simp length-set
+  exchanged_length = simp length-set
 
-  exchanged-first : p ≢ q → p < length l → get_or (exchanged p q l) p nan ≡ get_or l q nan
+  exchanged_first : p ≢ q → p < length l → get_or (exchanged p q l) p nan ≡ get_or l q nan
   unfolding exchanged
-  exchanged-first h b = rw (get_or-set_other, get_or-set_same)
+  exchanged_first h b = rw (get_or-set_other, get_or-set_same)
 
-  exchanged-second : q < length l → get_or (exchanged p q l) q nan ≡ get_or l p nan
+  exchanged_second : q < length l → get_or (exchanged p q l) q nan ≡ get_or l p nan
   unfolding exchanged
-  exchanged-second b = rw (get_or-set_same, lt-length-set)
+  exchanged_second b = rw (get_or-set_same, lt-length-set)
 
-  exchanged-other : (k : ℕ) → k ≢ p → k ≢ q → get_or (exchanged p q l) k nan ≡ get_or l k nan
+  exchanged_other : (k : ℕ) → k ≢ p → k ≢ q → get_or (exchanged p q l) k nan ≡ get_or l k nan
   unfolding exchanged
-  exchanged-other k h g = rw (get_or-set_other, get_or-set_other)
+  exchanged_other k h g = rw (get_or-set_other, get_or-set_other)
 
 -- ---- which entries are exchanged: x is the larger line, y the smaller
 abbrev reached : ℕ → ℕ → ℕ → ℕ → Bool
@@ -47,16 +47,16 @@ no_place i x y h = rw (lt-leb y 0 h) (go (leb x i) (eqb x (i + 1)))
     go false true = refl
     go false false = refl
 
-whole-line : (i x y : ℕ) → y < x → reached i i x y ≡ leb x (i + 1)
-whole-line i x y h = go (leb x i) (eqb x (i + 1)) refl refl
+whole_line : (i x y : ℕ) → y < x → reached i i x y ≡ leb x (i + 1)
+whole_line i x y h = go (leb x i) (eqb x (i + 1)) refl refl
   where
     go : (a b : Bool) → leb x i ≡ a → eqb x (i + 1) ≡ b → (a || (b && leb y i)) ≡ leb x (i + 1)
     go true b e f = let z : x ≤ i = leb-true _ _ e in sym (le-leb x (i + 1) (omega arith))
     go false true e f = let z : x ≡ i + 1 = eqb-true _ _ f in le-leb y i (omega arith) ∙ sym (le-leb x (i + 1) (omega arith))
     go false false e f = let z : i < x = leb-false _ _ e in let w : ¬ (x ≡ i + 1) = eqb-false _ _ f in sym (lt-leb x (i + 1) (omega arith))
 
-another-place : (i j x y : ℕ) → (x ≡ i + 1 → y ≢ j + 1) → reached i j x y ≡ reached i (j + 1) x y
-another-place i j x y h = go (eqb x (i + 1)) (leb y j) refl refl
+another_place : (i j x y : ℕ) → (x ≡ i + 1 → y ≢ j + 1) → reached i j x y ≡ reached i (j + 1) x y
+another_place i j x y h = go (eqb x (i + 1)) (leb y j) refl refl
   where
     go : (b d : Bool) → eqb x (i + 1) ≡ b → leb y j ≡ d → (leb x i || (b && d)) ≡ (leb x i || (b && leb y (j + 1)))
     go false d e f = refl
@@ -64,9 +64,9 @@ another-place i j x y h = go (eqb x (i + 1)) (leb y j) refl refl
     go true false e f = let z : j < y = leb-false _ _ f in let w : ¬ (y ≡ j + 1) = h (eqb-true _ _ e) in rw (lt-leb y (j + 1) (omega arith))
 
 -- ---- one exchange more
-up-mirrored : (i j r c : ℕ) → up_to i j r c ≡ up_to i j c r
+up_mirrored : (i j r c : ℕ) → up_to i j r c ≡ up_to i j c r
 unfolding up_to
-up-mirrored i j r c = rw (max_comm r c, min_comm r c)
+up_mirrored i j r c = rw (max_comm r c, min_comm r c)
 
 module _ (i j k : ℕ) (below : j < i) where
   at_pair : up_to i k (i + 1) (j + 1) ≡ leb (j + 1) k
@@ -76,24 +76,24 @@ module _ (i j k : ℕ) (below : j < i) where
       rw (max-eq_left h, min-eq_right h, lt-leb (i + 1) i (omega arith), eq-eqb (i + 1) (i + 1) refl)
 
 module _ (n i j : ℕ) (inside : i < n) (below : j < i) where
-  pub first-within : i * n + j < n * n
-  first-within = digits_lt inside (omega arith)
+  pub first_within : i * n + j < n * n
+  first_within = digits_lt inside (omega arith)
 
-  pub second-within : j * n + i < n * n
-  second-within = digits_lt {q = j} {m = n} {r = i} {c = n} (omega arith) inside
+  pub second_within : j * n + i < n * n
+  second_within = digits_lt {q = j} {m = n} {r = i} {c = n} (omega arith) inside
 
   apart : i * n + j ≢ j * n + i
-  apart e = let z = (index-one n i j j i (omega arith) inside e).0 in omega arith
+  apart e = let z = (index_one n i j j i (omega arith) inside e).0 in omega arith
 
   module _ (A : ℕ → ℕ → Float) where
     abbrev before : List Float
     before = flat n (across (up_to i j) A)
 
     long : length before ≡ n * n
-    long = flat-length n _
+    long = flat_length n _
 
     stood : (r c : ℕ) → r < n → c < n → get_or before (r * n + c) nan ≡ across (up_to i j) A (r + 1) (c + 1)
-    stood r c hr hc = sym (at_offset n before r c) ∙ at-flat n _ r c hr hc
+    stood r c hr hc = sym (at_offset n before r c) ∙ at_flat n _ r c hr hc
 
     kept : (r c : ℕ) → up_to i j r c ≡ false → across (up_to i j) A r c ≡ A r c
     unfolding across
@@ -106,13 +106,13 @@ module _ (n i j : ℕ) (inside : i < n) (below : j < i) where
     not_yet : up_to i j (i + 1) (j + 1) ≡ false
     not_yet = at_pair i j j below ∙ lt-leb (j + 1) j (omega arith)
 
-    by-now : up_to i (j + 1) (i + 1) (j + 1) ≡ true
-    by-now = at_pair i j (j + 1) below ∙ le-leb (j + 1) (j + 1) (omega arith)
+    by_now : up_to i (j + 1) (i + 1) (j + 1) ≡ true
+    by_now = at_pair i j (j + 1) below ∙ le-leb (j + 1) (j + 1) (omega arith)
 
     -- the lines r and c are not those of the pair
     elsewhere : (r c : ℕ) → r * n + c ≢ i * n + j → r * n + c ≢ j * n + i → up_to i j (r + 1) (c + 1) ≡ up_to i (j + 1) (r + 1) (c + 1)
     unfolding up_to
-    elsewhere r c f g = another-place i j (max (r + 1) (c + 1)) (min (r + 1) (c + 1)) (λ x y. go x y (leb c r) refl)
+    elsewhere r c f g = another_place i j (max (r + 1) (c + 1)) (min (r + 1) (c + 1)) (λ x y. go x y (leb c r) refl)
       where
         go : max (r + 1) (c + 1) ≡ i + 1 → min (r + 1) (c + 1) ≡ j + 1 → (b : Bool) → leb c r ≡ b → ⊥
         go x y true e =
@@ -126,40 +126,40 @@ module _ (n i j : ℕ) (inside : i < n) (below : j < i) where
             let v : r ≡ j = omega arith in
             g (rw (u, v))
 
-    pair-crossed : exchanged (i * n + j) (j * n + i) before ≡ flat n (across (up_to i (j + 1)) A)
-    pair-crossed =
-        flat-is n _ _ (exchanged-length _ _ before ∙ long)
+    pair_crossed : exchanged (i * n + j) (j * n + i) before ≡ flat n (across (up_to i (j + 1)) A)
+    pair_crossed =
+        flat_is n _ _ (exchanged_length _ _ before ∙ long)
         (λ r c hr hc. at_offset n _ r c ∙ go r c hr hc (eqb (r * n + c) (i * n + j)) (eqb (r * n + c) (j * n + i)) refl refl)
       where
         go : (r c : ℕ) → r < n → c < n → (a b : Bool) → eqb (r * n + c) (i * n + j) ≡ a → eqb (r * n + c) (j * n + i) ≡ b
             → get_or (exchanged (i * n + j) (j * n + i) before) (r * n + c) nan ≡ across (up_to i (j + 1)) A (r + 1) (c + 1)
         go r c hr hc true b e f =
-            let z = index-one n r c i j hc (omega arith) (eqb-true _ _ e) in
+            let z = index_one n r c i j hc (omega arith) (eqb-true _ _ e) in
             rw (z.0, z.1)
-            (exchanged-first _ _ before apart (rw long first-within) ∙ stood j i (omega arith) inside
-            ∙ kept _ _ (up-mirrored i j _ _ ∙ not_yet) ∙ sym (crossed _ _ by-now))
+            (exchanged_first _ _ before apart (rw long first_within) ∙ stood j i (omega arith) inside
+            ∙ kept _ _ (up_mirrored i j _ _ ∙ not_yet) ∙ sym (crossed _ _ by_now))
         go r c hr hc false true e f =
-            let z = index-one n r c j i hc inside (eqb-true _ _ f) in
+            let z = index_one n r c j i hc inside (eqb-true _ _ f) in
             rw (z.0, z.1)
-            (exchanged-second _ _ before (rw long second-within) ∙ stood i j inside (omega arith)
-            ∙ kept _ _ not_yet ∙ sym (crossed _ _ (up-mirrored i (j + 1) _ _ ∙ by-now)))
+            (exchanged_second _ _ before (rw long second_within) ∙ stood i j inside (omega arith)
+            ∙ kept _ _ not_yet ∙ sym (crossed _ _ (up_mirrored i (j + 1) _ _ ∙ by_now)))
         go r c hr hc false false e f =
-            exchanged-other _ _ before _ (eqb-false _ _ e) (eqb-false _ _ f) ∙ stood r c hr hc
+            exchanged_other _ _ before _ (eqb-false _ _ e) (eqb-false _ _ f) ∙ stood r c hr hc
             ∙ unfold across in (rw (elsewhere r c (eqb-false _ _ e) (eqb-false _ _ f)))
 
-    pub exchange-next : {l l' : List Float} → l ≡ before → l' ≡ exchanged (i * n + j) (j * n + i) l → l' ≡ flat n (across (up_to i (j + 1)) A)
-    exchange-next e f = f ∙ ap (exchanged (i * n + j) (j * n + i)) e ∙ pair-crossed
+    pub exchange_next : {l l' : List Float} → l ≡ before → l' ≡ exchanged (i * n + j) (j * n + i) l → l' ≡ flat n (across (up_to i (j + 1)) A)
+    exchange_next e f = f ∙ ap (exchanged (i * n + j) (j * n + i)) e ∙ pair_crossed
 
 -- ---- no line, one line more, all lines
 module _ (n : ℕ) (A : ℕ → ℕ → Float) where
   no_line : flat n A ≡ flat n (across (up_to 0 0) A)
   unfolding across up_to
   no_line =
-      flat-same n _ _ (λ r c hr hc. rw (no_place 0 (max r c) (min r c) (le-min hr.0 hc.0), lt-leb (max r c) 0 (omega (arith, le-max_left r c, hr.0))))
+      flat_same n _ _ (λ r c hr hc. rw (no_place 0 (max r c) (min r c) (le-min hr.0 hc.0), lt-leb (max r c) 0 (omega (arith, le-max_left r c, hr.0))))
 
-  pub line-next : (i : ℕ) → flat n (across (up_to i i) A) ≡ flat n (across (up_to (i + 1) 0) A)
+  pub line_next : (i : ℕ) → flat n (across (up_to i i) A) ≡ flat n (across (up_to (i + 1) 0) A)
   unfolding across up_to
-  line-next i = flat-same n _ _ (λ r c hr hc. go r c (le-min hr.0 hc.0) (eqb r c) refl)
+  line_next i = flat_same n _ _ (λ r c hr hc. go r c (le-min hr.0 hc.0) (eqb r c) refl)
     where
       either : (b : Bool) (x : Float) → cond b x x ≡ x
       either true x = refl
@@ -170,26 +170,26 @@ module _ (n : ℕ) (A : ℕ → ℕ → Float) where
       go r c h true e = rw (eqb-true r c e) (either (reached i i (max c c) (min c c)) (A c c) ∙ sym (either (reached (i + 1) 0 (max c c) (min c c)) (A c c)))
       go r c h false e =
           let w : ¬ (r ≡ c) = eqb-false _ _ e in
-          rw (whole-line i (max r c) (min r c) (omega arith), no_place (i + 1) (max r c) (min r c) h)
+          rw (whole_line i (max r c) (min r c) (omega arith), no_place (i + 1) (max r c) (min r c) h)
 
   all_lines : flat n (across (up_to n 0) A) ≡ flat n (transposed A)
   unfolding across up_to
-  all_lines = flat-same n _ _ (λ r c hr hc. rw (le-leb (max r c) n (max-le hr.1 hc.1)))
+  all_lines = flat_same n _ _ (λ r c hr hc. rw (le-leb (max r c) n (max-le hr.1 hc.1)))
 
 module _ (n : ℕ) (l : List Float) where
-  pub left-as-it-was : eqb (length l) (n * n) ≡ false → l ≡ transposedIn n l
-  unfolding transposedIn
-  left-as-it-was e = rw e
+  pub left_as_it_was : eqb (length l) (n * n) ≡ false → l ≡ transposed_in n l
+  unfolding transposed_in
+  left_as_it_was e = rw e
 
   pub begun : length l ≡ n * n → l ≡ flat n (across (up_to 0 0) (at n l))
-  begun h = flat-again n l h ∙ no_line n (at n l)
+  begun h = flat_again n l h ∙ no_line n (at n l)
 
-  pub ended : {l' : List Float} → length l ≡ n * n → l' ≡ flat n (across (up_to n 0) (at n l)) → l' ≡ transposedIn n l
-  unfolding transposedIn
+  pub ended : {l' : List Float} → length l ≡ n * n → l' ≡ flat n (across (up_to n 0) (at n l)) → l' ≡ transposed_in n l
+  unfolding transposed_in
   ended h e = rw (eq-eqb (length l) (n * n) h) (e ∙ all_lines n (at n l))
 
 -- the list of a transposed matrix, transposed
-pub transposed-again : (n : ℕ) (A : ℕ → ℕ → Float) {l l' : List Float} → l ≡ flat n (transposed A) → l' ≡ transposedIn n l → l' ≡ flat n A
-unfolding transposedIn
-transposed-again n A {l} e f =
-    one_more n (transposed A) transposed (λ A B h r c hr hc. h c r hc hr) e (rw (eq-eqb (length l) (n * n) (ap length e ∙ flat-length n _)) at f)
+pub transposed_again : (n : ℕ) (A : ℕ → ℕ → Float) {l l' : List Float} → l ≡ flat n (transposed A) → l' ≡ transposed_in n l → l' ≡ flat n A
+unfolding transposed_in
+transposed_again n A {l} e f =
+    one_more n (transposed A) transposed (λ A B h r c hr hc. h c r hc hr) e (rw (eq-eqb (length l) (n * n) (ap length e ∙ flat_length n _)) at f)

@@ -16,9 +16,9 @@ abbrev pub is_line : ℕ → ℕ → Bool
 is_line n p = cond (eqb p 0) false (leb p n)
 
 -- r and c are lines, and a length is that of the matrix.
-unfoldable pub isPlace : ℕ → ℕ → ℕ → ℕ → Bool
-isPlace n r c long = is_line n r && (is_line n c && eqb long (n * n))
+unfoldable pub is_place : ℕ → ℕ → ℕ → ℕ → Bool
+is_place n r c long = is_line n r && (is_line n c && eqb long (n * n))
 
 -- The entry in row r and column c, and NaN where there is none.
 unfoldable pub entry_of : ℕ → List Float → ℕ → ℕ → Float
-entry_of n l r c = cond (isPlace n r c (length l)) (at n l r c) nan
+entry_of n l r c = cond (is_place n r c (length l)) (at n l r c) nan

@@ -7,8 +7,8 @@ abbrev pub transposed : (ℕ → ℕ → Float) → ℕ → ℕ → Float
 transposed A r c = A c r
 
 -- A list with the matrix in it transposed, where its length is that of a matrix of order n.
-unfoldable pub transposedIn : ℕ → List Float → List Float
-transposedIn n l = cond (eqb (length l) (n * n)) (flat n (transposed (at n l))) l
+unfoldable pub transposed_in : ℕ → List Float → List Float
+transposed_in n l = cond (eqb (length l) (n * n)) (flat n (transposed (at n l))) l
 
 -- A matrix whose entries in row r and column c are those of row c and column r where the test passes.
 unfoldable pub across : (ℕ → ℕ → Bool) → (ℕ → ℕ → Float) → ℕ → ℕ → Float

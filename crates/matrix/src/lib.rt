@@ -1,18 +1,18 @@
 #![tactic(auto)]
 // Lent matrices, row by row (document 01).
 ghost use Rattle.std.specs.Prelude.{◌≡◌, ℕ, ◌+◌, ◌*◌, ◌<◌, length, eqb, Float};
-ghost use Rattle.float64.specs.Values.{plusZero};
+ghost use Rattle.float64.specs.Values.{plus_zero};
 ghost use Rattle.lists.specs.Tabulate.{tabulate};
 ghost use Rattle.refusal.specs.Answers.{answered};
-ghost use Rattle.matrix.specs.Matrix.{flat, is_line, isPlace, entry_of};
-ghost use Rattle.matrix.specs.Transposed.{transposedIn, exchanged, across, up_to};
-ghost use Rattle.matrix.specs.Entries.{firstPlace, notFiniteAt, notMirroredAt, entriesOf};
+ghost use Rattle.matrix.specs.Matrix.{flat, is_line, is_place, entry_of};
+ghost use Rattle.matrix.specs.Transposed.{transposed_in, exchanged, across, up_to};
+ghost use Rattle.matrix.specs.Entries.{first_place, not_finite_at, not_mirrored_at, entries_of};
 
 use refusal::{Answer, Refusal};
 
 // Refusals 3, 5 and 6 of a matrix of order n.
 pub fn tested(n: usize, a: &[f64]) -> Answer
-    ensures { answered result ≡ entriesOf n a.now }
+    ensures { answered result ≡ entries_of n a.now }
 {
     if !is_square(n, a.len()) {
         return Answer::Refused(Refusal::Length);
@@ -45,7 +45,7 @@ pub fn entry(n: usize, r: usize, c: usize, a: &[f64]) -> f64
 
 // Whether r and c are lines of a matrix of order n, and a length is that of the matrix.
 pub fn is_place(n: usize, r: usize, c: usize, long: usize) -> bool
-    ensures { result ≡ isPlace n r c long }
+    ensures { result ≡ is_place n r c long }
 {
     if !is_line(n, r) {
         return false;
@@ -68,7 +68,7 @@ fn is_line(n: usize, p: usize) -> bool
 
 fn first_not_finite(n: usize, a: &[f64]) -> Answer
     requires { length a.now ≡ n * n }
-    ensures { answered result ≡ firstPlace n (notFiniteAt n a.now) }
+    ensures { answered result ≡ first_place n (not_finite_at n a.now) }
 {
     let mut found = Answer::Accepted;
     'rows: for i in 0..n {
@@ -84,7 +84,7 @@ fn first_not_finite(n: usize, a: &[f64]) -> Answer
 
 fn first_not_mirrored(n: usize, a: &[f64]) -> Answer
     requires { length a.now ≡ n * n }
-    ensures { answered result ≡ firstPlace n (notMirroredAt n a.now) }
+    ensures { answered result ≡ first_place n (not_mirrored_at n a.now) }
 {
     let mut found = Answer::Accepted;
     'rows: for i in 0..n {
@@ -100,7 +100,7 @@ fn first_not_mirrored(n: usize, a: &[f64]) -> Answer
 
 // Sets all values to +0.
 pub fn clear(a: &mut [f64])
-    ensures { a.new ≡ tabulate (length a.old) (λ k. plusZero) }
+    ensures { a.new ≡ tabulate (length a.old) (λ k. plus_zero) }
 {
     for k in 0..a.len() {
         a[k] = 0.0;
@@ -109,7 +109,7 @@ pub fn clear(a: &mut [f64])
 
 // Transposes a matrix of order n in its place. Where the length is not that of the matrix it does nothing.
 pub fn transpose(n: usize, a: &mut [f64])
-    ensures { a.new ≡ transposedIn n a.old }
+    ensures { a.new ≡ transposed_in n a.old }
 {
     if !is_square(n, a.len()) {
         return;

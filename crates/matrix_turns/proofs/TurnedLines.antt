@@ -15,29 +15,29 @@ use lib.Ieee.{Float, nan}
 use Rattle.rotation.specs.declared.Parameters.{Parameters}
 use Rattle.rotation.specs.declared.Sides.{Sides}
 use Rattle.rotation.specs.Rotation.{turn_of}
-use Rattle.matrix_turns.specs.Turns.{turnedAt, placesTurned, turn_lines}
+use Rattle.matrix_turns.specs.Turns.{turned_at, places_turned, turn_lines}
 
 -- ---- one line
 module _ (P : Parameters) (i j : ℕ) (l : List Float) where
-  pub places-length : length (placesTurned P i j l) ≡ length l
-  unfolding placesTurned
-  places-length = simp length-set
+  pub places_length : length (places_turned P i j l) ≡ length l
+  unfolding places_turned
+  places_length = simp length-set
 
-  places-other : (k : ℕ) → k ≢ i → k ≢ j → get_or (placesTurned P i j l) k nan ≡ get_or l k nan
-  unfolding placesTurned
-  places-other k h g = rw (get_or-set_other, get_or-set_other)
+  places_other : (k : ℕ) → k ≢ i → k ≢ j → get_or (places_turned P i j l) k nan ≡ get_or l k nan
+  unfolding places_turned
+  places_other k h g = rw (get_or-set_other, get_or-set_other)
 
-  places-first : i ≢ j → i < length l → get_or (placesTurned P i j l) i nan ≡ (turn_of P (get_or l i nan) (get_or l j nan)).left
-  unfolding placesTurned
-  places-first h b = rw (get_or-set_other, get_or-set_same)
+  places_first : i ≢ j → i < length l → get_or (places_turned P i j l) i nan ≡ (turn_of P (get_or l i nan) (get_or l j nan)).left
+  unfolding places_turned
+  places_first h b = rw (get_or-set_other, get_or-set_same)
 
-  places-second : j < length l → get_or (placesTurned P i j l) j nan ≡ (turn_of P (get_or l i nan) (get_or l j nan)).right
-  unfolding placesTurned
-  places-second b = rw (get_or-set_same, lt-length-set)
+  places_second : j < length l → get_or (places_turned P i j l) j nan ≡ (turn_of P (get_or l i nan) (get_or l j nan)).right
+  unfolding places_turned
+  places_second b = rw (get_or-set_same, lt-length-set)
 
-  pub places-are : (s : Sides) → s ≡ turn_of P (get_or l i nan) (get_or l j nan) → set (set l i s.left) j s.right ≡ placesTurned P i j l
-  unfolding placesTurned
-  places-are s e = rw e
+  pub places_are : (s : Sides) → s ≡ turn_of P (get_or l i nan) (get_or l j nan) → set (set l i s.left) j s.right ≡ places_turned P i j l
+  unfolding places_turned
+  places_are s e = rw e
 
 -- ---- all lines
 module _ (f g : ℕ → ℕ) (P : Parameters) (l : List Float) where
@@ -45,17 +45,17 @@ module _ (f g : ℕ → ℕ) (P : Parameters) (l : List Float) where
   unfolding turn_lines
   no_lines = refl
 
-  line_after : (r : ℕ) → placesTurned P (f r) (g r) (turn_lines f g P r l) ≡ turn_lines f g P (suc r) l
+  line_after : (r : ℕ) → places_turned P (f r) (g r) (turn_lines f g P r l) ≡ turn_lines f g P (suc r) l
   unfolding turn_lines
   line_after r = refl
 
-  pub next-line : {a b : List Float} (r : ℕ) → a ≡ turn_lines f g P r l → b ≡ placesTurned P (f r) (g r) a → b ≡ turn_lines f g P (r + 1) l
-  next-line r e h = let s : r + 1 ≡ suc r = omega arith in h ∙ ap (placesTurned P (f r) (g r)) e ∙ line_after r ∙ ap (λ (k : ℕ). turn_lines f g P k l) (sym s)
+  pub next_line : {a b : List Float} (r : ℕ) → a ≡ turn_lines f g P r l → b ≡ places_turned P (f r) (g r) a → b ≡ turn_lines f g P (r + 1) l
+  next_line r e h = let s : r + 1 ≡ suc r = omega arith in h ∙ ap (places_turned P (f r) (g r)) e ∙ line_after r ∙ ap (λ (k : ℕ). turn_lines f g P k l) (sym s)
 
-  pub turned-length : (r : ℕ) → length (turn_lines f g P r l) ≡ length l
+  pub turned_length : (r : ℕ) → length (turn_lines f g P r l) ≡ length l
   unfolding turn_lines
-  turned-length zero = refl
-  turned-length (suc r) = places-length P (f r) (g r) (turn_lines f g P r l) ∙ turned-length r
+  turned_length zero = refl
+  turned_length (suc r) = places_length P (f r) (g r) (turn_lines f g P r l) ∙ turned_length r
 
 -- places of different lines below n are apart, and all are below N
 pub record Grid (n N : ℕ) (ix : ℕ → ℕ → ℕ) : Type 0 where
@@ -64,15 +64,15 @@ pub record Grid (n N : ℕ) (ix : ℕ → ℕ → ℕ) : Type 0 where
 
 module _ {n N : ℕ} (ix : ℕ → ℕ → ℕ) (g : Grid n N ix) (P : Parameters) (p q : ℕ) (pn : p < n) (qn : q < n) (pq : p ≢ q) where
   -- another line stays
-  line_other : (r k i : ℕ) (l : List Float) → r < n → k < n → i < n → k ≢ r → get_or (placesTurned P (ix r p) (ix r q) l) (ix k i) nan ≡ get_or l (ix k i) nan
+  line_other : (r k i : ℕ) (l : List Float) → r < n → k < n → i < n → k ≢ r → get_or (places_turned P (ix r p) (ix r q) l) (ix k i) nan ≡ get_or l (ix k i) nan
   line_other r k i l hr hk hi ne =
-      places-other P (ix r p) (ix r q) l (ix k i)
+      places_other P (ix r p) (ix r q) l (ix k i)
       (λ e. ne (g.apart k i r p hk hi hr pn e).0)
       (λ e. ne (g.apart k i r q hk hi hr qn e).0)
 
   line_same : (r i : ℕ) (l : List Float) → length l ≡ N → r < n → i < n
-      → get_or (placesTurned P (ix r p) (ix r q) l) (ix r i) nan ≡ turnedAt P p q i (get_or l (ix r p) nan) (get_or l (ix r q) nan) (get_or l (ix r i) nan)
-  line_same r i l e hr hi = unfold turnedAt in (place (eqb i p) refl (eqb i q) refl)
+      → get_or (places_turned P (ix r p) (ix r q) l) (ix r i) nan ≡ turned_at P p q i (get_or l (ix r p) nan) (get_or l (ix r q) nan) (get_or l (ix r i) nan)
+  line_same r i l e hr hi = unfold turned_at in (place (eqb i p) refl (eqb i q) refl)
     where
       bp : ix r p < length l
       bp = omega (arith, g.inside r p hr pn)
@@ -81,33 +81,33 @@ module _ {n N : ℕ} (ix : ℕ → ℕ → ℕ) (g : Grid n N ix) (P : Parameter
       bq = omega (arith, g.inside r q hr qn)
 
       place : (b : Bool) → eqb i p ≡ b → (d : Bool) → eqb i q ≡ d
-          → get_or (placesTurned P (ix r p) (ix r q) l) (ix r i) nan
+          → get_or (places_turned P (ix r p) (ix r q) l) (ix r i) nan
           ≡ cond b (turn_of P (get_or l (ix r p) nan) (get_or l (ix r q) nan)).left
           (cond d (turn_of P (get_or l (ix r p) nan) (get_or l (ix r q) nan)).right (get_or l (ix r i) nan))
-      place true f d h = rw (eqb-true i p f) (places-first P (ix r p) (ix r q) l (λ u. pq (g.apart r p r q hr pn hr qn u).1) bp)
-      place false f true h = rw (eqb-true i q h) (places-second P (ix r p) (ix r q) l bq)
+      place true f d h = rw (eqb-true i p f) (places_first P (ix r p) (ix r q) l (λ u. pq (g.apart r p r q hr pn hr qn u).1) bp)
+      place false f true h = rw (eqb-true i q h) (places_second P (ix r p) (ix r q) l bq)
       place false f false h =
-          places-other P (ix r p) (ix r q) l (ix r i)
+          places_other P (ix r p) (ix r q) l (ix r i)
           (λ u. eqb-false i p f (g.apart r i r p hr hi hr pn u).1)
           (λ u. eqb-false i q h (g.apart r i r q hr hi hr qn u).1)
 
-  lines-past : (r k i : ℕ) (l : List Float) → r ≤ k → k < n → i < n → get_or (turn_lines (λ r. ix r p) (λ r. ix r q) P r l) (ix k i) nan ≡ get_or l (ix k i) nan
+  lines_past : (r k i : ℕ) (l : List Float) → r ≤ k → k < n → i < n → get_or (turn_lines (λ r. ix r p) (λ r. ix r q) P r l) (ix k i) nan ≡ get_or l (ix k i) nan
   unfolding turn_lines
-  lines-past zero k i l h hk hi = refl
-  lines-past (suc r) k i l h hk hi =
-      line_other r k i (turn_lines (λ r. ix r p) (λ r. ix r q) P r l) (omega arith) hk hi (omega arith) ∙ lines-past r k i l (omega arith) hk hi
+  lines_past zero k i l h hk hi = refl
+  lines_past (suc r) k i l h hk hi =
+      line_other r k i (turn_lines (λ r. ix r p) (λ r. ix r q) P r l) (omega arith) hk hi (omega arith) ∙ lines_past r k i l (omega arith) hk hi
 
   -- each line below r is turned
-  pub lines-done : (r k i : ℕ) (l : List Float) → length l ≡ N → r ≤ n → k < r → i < n
+  pub lines_done : (r k i : ℕ) (l : List Float) → length l ≡ N → r ≤ n → k < r → i < n
       → get_or (turn_lines (λ r. ix r p) (λ r. ix r q) P r l) (ix k i) nan
-      ≡ turnedAt P p q i (get_or l (ix k p) nan) (get_or l (ix k q) nan) (get_or l (ix k i) nan)
+      ≡ turned_at P p q i (get_or l (ix k p) nan) (get_or l (ix k q) nan) (get_or l (ix k i) nan)
   unfolding turn_lines
-  lines-done zero k i l e hr hk hi = absurd (omega arith)
-  lines-done (suc r) k i l e hr hk hi =
+  lines_done zero k i l e hr hk hi = absurd (omega arith)
+  lines_done (suc r) k i l e hr hk hi =
       ⊎_elim
       (λ u.
       rw u
-      (line_same r i (turn_lines (λ r. ix r p) (λ r. ix r q) P r l) (turned-length (λ r. ix r p) (λ r. ix r q) P l r ∙ e) hr hi
-      ∙ rw (lines-past r r p l (omega arith) hr pn, lines-past r r q l (omega arith) hr qn, lines-past r r i l (omega arith) hr hi)))
-      (λ u. line_other r k i (turn_lines (λ r. ix r p) (λ r. ix r q) P r l) hr (omega arith) hi (omega arith) ∙ lines-done r k i l e (omega arith) u hi)
+      (line_same r i (turn_lines (λ r. ix r p) (λ r. ix r q) P r l) (turned_length (λ r. ix r p) (λ r. ix r q) P l r ∙ e) hr hi
+      ∙ rw (lines_past r r p l (omega arith) hr pn, lines_past r r q l (omega arith) hr qn, lines_past r r i l (omega arith) hr hi)))
+      (λ u. line_other r k i (turn_lines (λ r. ix r p) (λ r. ix r q) P r l) hr (omega arith) hi (omega arith) ∙ lines_done r k i l e (omega arith) u hi)
       (eq-or-lt_of_le (le_of_suc-le-suc hk))

@@ -2,7 +2,7 @@
 // Two lines of a lent matrix turned, and what is found of their pair (document 01, "One rotation").
 ghost use Rattle.std.specs.Prelude.{◌≡◌, ℕ, ◌+◌, ◌*◌, ◌<◌, length};
 ghost use Rattle.matrix.specs.Matrix.{entry_of};
-ghost use Rattle.matrix_turns.specs.Turns.{found_at, twoLines, onLines, rowTurnAll, columnTurnAll, placesTurned, turn_lines};
+ghost use Rattle.matrix_turns.specs.Turns.{found_at, two_lines, on_lines, row_turn_all, column_turn_all, places_turned, turn_lines};
 
 use rotation::{Found, Parameters};
 
@@ -19,7 +19,7 @@ pub fn found(n: usize, p: usize, q: usize, a: &[f64]) -> Found
 
 // The row turn of the lines p and q in all columns. Where there are no such lines it does nothing, and so does the column turn.
 pub fn turn_rows(parameters: Parameters, n: usize, p: usize, q: usize, a: &mut [f64])
-    ensures { a.new ≡ onLines n p q (rowTurnAll parameters p q) a.old }
+    ensures { a.new ≡ on_lines n p q (row_turn_all parameters p q) a.old }
 {
     if !are_lines(n, p, q, a.len()) {
         return;
@@ -29,7 +29,7 @@ pub fn turn_rows(parameters: Parameters, n: usize, p: usize, q: usize, a: &mut [
 
 // The column turn of the lines p and q in all rows.
 pub fn turn_columns(parameters: Parameters, n: usize, p: usize, q: usize, a: &mut [f64])
-    ensures { a.new ≡ onLines n p q (columnTurnAll parameters p q) a.old }
+    ensures { a.new ≡ on_lines n p q (column_turn_all parameters p q) a.old }
 {
     if !are_lines(n, p, q, a.len()) {
         return;
@@ -39,7 +39,7 @@ pub fn turn_columns(parameters: Parameters, n: usize, p: usize, q: usize, a: &mu
 
 // Whether p and q are two different lines of a matrix of order n, and a length is that of the matrix.
 pub fn are_lines(n: usize, p: usize, q: usize, long: usize) -> bool
-    ensures { result ≡ twoLines n p q long }
+    ensures { result ≡ two_lines n p q long }
 {
     if p == q {
         return false;
@@ -60,7 +60,7 @@ fn turn_lines(parameters: Parameters, n: usize, step: usize, i: usize, j: usize,
 // Turns the values at the indices i and j.
 fn turn_places(parameters: Parameters, i: usize, j: usize, a: &mut [f64])
     requires { (i < length a.old) × (j < length a.old) }
-    ensures { a.new ≡ placesTurned parameters i j a.old }
+    ensures { a.new ≡ places_turned parameters i j a.old }
 {
     let sides = rotation::turn(parameters, a[i], a[j]);
     a[i] = sides.left;

@@ -8,49 +8,49 @@ use borrow.Author.Tests.{ltb-true, ltb-false, lt-ltb, le-ltb}
 use lib.Dec.{ltb}
 use lib.ListN.{length, get_or, set, get_or-eq_default}
 use Rattle.lists.specs.Tabulate.{tabulate}
-use Rattle.lists.proofs.Tabulated.{length-tabulate, get_d_tabulate, tabulate-ext, set-tabulate}
+use Rattle.lists.proofs.Tabulated.{length_tabulate, get_d_tabulate, tabulate_ext, set_tabulate}
 use Rattle.systolic.specs.Slots.{left, right, Slot, slot}
 use Rattle.ordering.specs.declared.Registers.{Registers}
-use Rattle.ordering.specs.Registers.{column, registersOf}
-use Rattle.sizes.specs.Sizes.{mostProcessors}
-use Rattle.ordering.specs.Pairs.{noRegisters}
+use Rattle.ordering.specs.Registers.{column, registers_of}
+use Rattle.sizes.specs.Sizes.{most_processors}
+use Rattle.ordering.specs.Pairs.{no_registers}
 
-pub column-at : (N : ℕ) (f : ℕ → ℕ) (k : ℕ) → k < N → N ≤ mostProcessors → get_or (column N f) k 0 ≡ f k
+pub column_at : (N : ℕ) (f : ℕ → ℕ) (k : ℕ) → k < N → N ≤ most_processors → get_or (column N f) k 0 ≡ f k
 unfolding column
-column-at N f k l h = get_d_tabulate mostProcessors (λ k. cond (ltb k N) (f k) 0) k 0 (omega arith) ∙ ap (λ (b : Bool). cond b (f k) 0) (lt-ltb k N l)
+column_at N f k l h = get_d_tabulate most_processors (λ k. cond (ltb k N) (f k) 0) k 0 (omega arith) ∙ ap (λ (b : Bool). cond b (f k) 0) (lt-ltb k N l)
 
-column-zero : (N : ℕ) (f : ℕ → ℕ) (k : ℕ) → N ≤ k → k < mostProcessors → get_or (column N f) k 0 ≡ 0
+column_zero : (N : ℕ) (f : ℕ → ℕ) (k : ℕ) → N ≤ k → k < most_processors → get_or (column N f) k 0 ≡ 0
 unfolding column
-column-zero N f k l h = get_d_tabulate mostProcessors (λ k. cond (ltb k N) (f k) 0) k 0 h ∙ ap (λ (b : Bool). cond b (f k) 0) (le-ltb k N l)
+column_zero N f k l h = get_d_tabulate most_processors (λ k. cond (ltb k N) (f k) 0) k 0 h ∙ ap (λ (b : Bool). cond b (f k) 0) (le-ltb k N l)
 
 -- above the last processor, in the list or beyond its end
-pub column-above : (N : ℕ) (f : ℕ → ℕ) (k : ℕ) → N ≤ k → get_or (column N f) k 0 ≡ 0
-column-above N f k h = go (ltb k mostProcessors) refl
+pub column_above : (N : ℕ) (f : ℕ → ℕ) (k : ℕ) → N ≤ k → get_or (column N f) k 0 ≡ 0
+column_above N f k h = go (ltb k most_processors) refl
   where
-    long : length (column N f) ≡ mostProcessors
-    long = unfold column in (length-tabulate mostProcessors _)
+    long : length (column N f) ≡ most_processors
+    long = unfold column in (length_tabulate most_processors _)
 
-    go : (b : Bool) → ltb k mostProcessors ≡ b → get_or (column N f) k 0 ≡ 0
-    go true e = column-zero N f k h (ltb-true k mostProcessors e)
-    go false e = get_or-eq_default (column N f) 0 (rw long (ltb-false k mostProcessors e))
+    go : (b : Bool) → ltb k most_processors ≡ b → get_or (column N f) k 0 ≡ 0
+    go true e = column_zero N f k h (ltb-true k most_processors e)
+    go false e = get_or-eq_default (column N f) 0 (rw long (ltb-false k most_processors e))
 
-pub column-ext : (N : ℕ) (f g : ℕ → ℕ) → ((k : ℕ) → k < N → f k ≡ g k) → column N f ≡ column N g
+pub column_ext : (N : ℕ) (f g : ℕ → ℕ) → ((k : ℕ) → k < N → f k ≡ g k) → column N f ≡ column N g
 unfolding column
-column-ext N f g e = tabulate-ext mostProcessors _ _ (λ k _. go k (ltb k N) refl)
+column_ext N f g e = tabulate_ext most_processors _ _ (λ k _. go k (ltb k N) refl)
   where
     go : (k : ℕ) (b : Bool) → ltb k N ≡ b → cond b (f k) 0 ≡ cond b (g k) 0
     go k true z = e k (ltb-true _ _ z)
     go k false z = refl
 
 -- no processor yet, and one more
-pub column-none : (f : ℕ → ℕ) → tabulate mostProcessors (λ k. 0) ≡ column 0 f
+pub column_none : (f : ℕ → ℕ) → tabulate most_processors (λ k. 0) ≡ column 0 f
 unfolding column
-column-none f = tabulate-ext mostProcessors _ _ (λ k _. sym (ap (λ (b : Bool). cond b (f k) 0) (le-ltb k 0 (omega arith))))
+column_none f = tabulate_ext most_processors _ _ (λ k _. sym (ap (λ (b : Bool). cond b (f k) 0) (le-ltb k 0 (omega arith))))
 
-pub column-next : (xs : List ℕ) (N : ℕ) (f : ℕ → ℕ) (v : ℕ) → xs ≡ column N f → N < mostProcessors → v ≡ f N → set xs N v ≡ column (N + 1) f
+pub column_next : (xs : List ℕ) (N : ℕ) (f : ℕ → ℕ) (v : ℕ) → xs ≡ column N f → N < most_processors → v ≡ f N → set xs N v ≡ column (N + 1) f
 unfolding column
-column-next xs N f v z l e =
-    rw z (set-tabulate mostProcessors _ _ N v l (e ∙ sym (ap (λ (b : Bool). cond b (f N) 0) (lt-ltb N (N + 1) (omega arith)))) (λ i _ n. other i n))
+column_next xs N f v z l e =
+    rw z (set_tabulate most_processors _ _ N v l (e ∙ sym (ap (λ (b : Bool). cond b (f N) 0) (lt-ltb N (N + 1) (omega arith)))) (λ i _ n. other i n))
   where
     other : (i : ℕ) → ¬ (i ≡ N) → cond (ltb i N) (f i) 0 ≡ cond (ltb i (N + 1)) (f i) 0
     other i n = go (ltb i N) refl
@@ -60,11 +60,11 @@ column-next xs N f v z l e =
         go false z = let w : N ≤ i = ltb-false _ _ z in sym (ap (λ (b : Bool). cond b (f i) 0) (le-ltb i (N + 1) (omega arith)))
 
 -- two columns are the registers that they tabulate
-pub registers-are : {ls rs : List ℕ} (N k : ℕ) (L : Slot → ℕ) → k ≡ N → ls ≡ column k (λ i. L (slot i left)) → rs ≡ column k (λ i. L (slot i right))
-    → ◌≡◌ {A = Registers} (record { left = ls; right = rs }) (registersOf N L)
-unfolding registersOf
-registers-are N k L z e f = rw (e, f, z)
+pub registers_are : {ls rs : List ℕ} (N k : ℕ) (L : Slot → ℕ) → k ≡ N → ls ≡ column k (λ i. L (slot i left)) → rs ≡ column k (λ i. L (slot i right))
+    → ◌≡◌ {A = Registers} (record { left = ls; right = rs }) (registers_of N L)
+unfolding registers_of
+registers_are N k L z e f = rw (e, f, z)
 
-pub none-are : ◌≡◌ {A = Registers} (record { left = tabulate mostProcessors (λ k. 0); right = tabulate mostProcessors (λ k. 0) }) noRegisters
-unfolding noRegisters
-none-are = registers-are 0 0 (λ u. 0) refl (column-none _) (column-none _)
+pub none_are : ◌≡◌ {A = Registers} (record { left = tabulate most_processors (λ k. 0); right = tabulate most_processors (λ k. 0) }) no_registers
+unfolding no_registers
+none_are = registers_are 0 0 (λ u. 0) refl (column_none _) (column_none _)

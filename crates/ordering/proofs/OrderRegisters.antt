@@ -5,59 +5,59 @@ use mathlib.Core.Bool.{true, false}
 use native.Mathlib.Omega.{arith}
 use Rattle.refusal.specs.declared.Refusal.TheVariants.{Order}
 use Rattle.refusal.specs.declared.Answer.TheVariants.{Accepted, Refused}
-use Rattle.sizes.specs.Sizes.{is_order, processorsOf, sweepSteps, firstLine}
-use Rattle.sizes.proofs.Orders.{order-half, sweep-is}
-use Rattle.systolic.specs.Slots.{Side, slot, line_at, inOrder, prior}
-use Rattle.systolic.proofs.Lines.{line-within}
+use Rattle.sizes.specs.Sizes.{is_order, processors_of, sweep_steps, first_line}
+use Rattle.sizes.proofs.Orders.{order_half, sweep_is}
+use Rattle.systolic.specs.Slots.{Side, slot, line_at, ordered_line, prior}
+use Rattle.systolic.proofs.Lines.{line_within}
 use Rattle.ordering.specs.declared.Registers.{Registers}
-use Rattle.ordering.specs.Registers.{registersOf, in_slot}
-use Rattle.ordering.specs.Pairs.{registersAt, afterStep, noRegisters, orNone, Lists}
-use Rattle.ordering.proofs.Movement.{registers-ext, at-start, next-step}
+use Rattle.ordering.specs.Registers.{registers_of, in_slot}
+use Rattle.ordering.specs.Pairs.{registers_at, after_step, no_registers, or_none, Lists}
+use Rattle.ordering.proofs.Movement.{registers_ext, at_start, next_step}
 
 -- the steps of one sweep are enough: they come again
-pub registers-again : (n step : ℕ) → is_order n ≡ true
-    → registersOf (processorsOf n) (line_at (inOrder (firstLine n)) (processorsOf n - 1) (step % sweepSteps n)) ≡ registersAt n step
-unfolding registersAt
-registers-again n step e = registers-ext (processorsOf n) _ _ (λ r k h. again r k h)
+pub registers_again : (n step : ℕ) → is_order n ≡ true
+    → registers_of (processors_of n) (line_at (ordered_line (first_line n)) (processors_of n - 1) (step % sweep_steps n)) ≡ registers_at n step
+unfolding registers_at
+registers_again n step e = registers_ext (processors_of n) _ _ (λ r k h. again r k h)
   where
-    below : (k : ℕ) (r : Side) → k < processorsOf n → (slot k r).processor ≤ processorsOf n - 1
+    below : (k : ℕ) (r : Side) → k < processors_of n → (slot k r).processor ≤ processors_of n - 1
     below k r h = unfold slot in (omega arith)
 
-    again : (r : Side) (k : ℕ) → k < processorsOf n
-        → line_at (inOrder (firstLine n)) (processorsOf n - 1) (step % sweepSteps n) (slot k r)
-        ≡ line_at (inOrder (firstLine n)) (processorsOf n - 1) step (slot k r)
+    again : (r : Side) (k : ℕ) → k < processors_of n
+        → line_at (ordered_line (first_line n)) (processors_of n - 1) (step % sweep_steps n) (slot k r)
+        ≡ line_at (ordered_line (first_line n)) (processors_of n - 1) step (slot k r)
     again r k h =
-        let p : sweepSteps n ≡ 2 * (processorsOf n - 1) + 1 = sweep-is n e in
-        rw p (line-within (inOrder (firstLine n)) (processorsOf n - 1) step (slot k r) (below k r h))
+        let p : sweep_steps n ≡ 2 * (processors_of n - 1) + 1 = sweep_is n e in
+        rw p (line_within (ordered_line (first_line n)) (processors_of n - 1) step (slot k r) (below k r h))
 
 -- the two answers
 module _ (n step : ℕ) where
-  pub refused-lists : {r : Registers} → is_order n ≡ false → r ≡ noRegisters → Lists n step (record { answer = Refused Order; registers = r })
-  refused-lists e z = record { answers = rw e; lists = rw e z }
+  pub refused_lists : {r : Registers} → is_order n ≡ false → r ≡ no_registers → Lists n step (record { answer = Refused Order; registers = r })
+  refused_lists e z = record { answers = rw e; lists = rw e z }
 
-  pub given-lists : {r : Registers} {N first steps : ℕ} → is_order n ≡ true → N ≡ processorsOf n → first ≡ firstLine n → steps ≡ sweepSteps n
-      → r ≡ registersOf N (line_at (inOrder first) (N - 1) (step % steps)) → Lists n step (record { answer = Accepted; registers = r })
-  given-lists e a b d z = record { answers = rw e; lists = rw e ((rw (a, b, d) at z) ∙ registers-again n step e) }
+  pub given_lists : {r : Registers} {N first steps : ℕ} → is_order n ≡ true → N ≡ processors_of n → first ≡ first_line n → steps ≡ sweep_steps n
+      → r ≡ registers_of N (line_at (ordered_line first) (N - 1) (step % steps)) → Lists n step (record { answer = Accepted; registers = r })
+  given_lists e a b d z = record { answers = rw e; lists = rw e ((rw (a, b, d) at z) ∙ registers_again n step e) }
 
 -- ---- the registers at first and after each step
 module _ (n : ℕ) where
-  pub none_beside : {r : Registers} (s : Registers) → is_order n ≡ false → r ≡ noRegisters → r ≡ orNone n s
+  pub none_beside : {r : Registers} (s : Registers) → is_order n ≡ false → r ≡ no_registers → r ≡ or_none n s
   none_beside s e z = rw e z
 
-  pub order-beside : {r : Registers} (s : Registers) → is_order n ≡ true → r ≡ s → r ≡ orNone n s
-  order-beside s e z = rw e z
+  pub order_beside : {r : Registers} (s : Registers) → is_order n ≡ true → r ≡ s → r ≡ or_none n s
+  order_beside s e z = rw e z
 
-  pub first-at : {r : Registers} {N first : ℕ} → N ≡ processorsOf n → first ≡ firstLine n → r ≡ registersOf N (inOrder first) → r ≡ registersAt n 0
-  unfolding registersAt
-  first-at a b z = (rw (a, b) at z) ∙ at-start (processorsOf n) (inOrder (firstLine n))
+  pub first_at : {r : Registers} {N first : ℕ} → N ≡ processors_of n → first ≡ first_line n → r ≡ registers_of N (ordered_line first) → r ≡ registers_at n 0
+  unfolding registers_at
+  first_at a b z = (rw (a, b) at z) ∙ at_start (processors_of n) (ordered_line (first_line n))
 
-  pub after-at : {r : Registers} (s : Registers) {N : ℕ} → N ≡ processorsOf n → r ≡ registersOf N (λ u. in_slot s (prior (N - 1) u)) → r ≡ afterStep n s
-  unfolding afterStep
-  after-at s a z = rw a at z
+  pub after_at : {r : Registers} (s : Registers) {N : ℕ} → N ≡ processors_of n → r ≡ registers_of N (λ u. in_slot s (prior (N - 1) u)) → r ≡ after_step n s
+  unfolding after_step
+  after_at s a z = rw a at z
 
-  pub of-order : {r s : Registers} → is_order n ≡ true → r ≡ orNone n s → r ≡ s
-  of-order e z = rw e at z
+  pub of_order : {r s : Registers} → is_order n ≡ true → r ≡ or_none n s → r ≡ s
+  of_order e z = rw e at z
 
-  pub next-at : (k : ℕ) → is_order n ≡ true → afterStep n (registersAt n k) ≡ registersAt n (k + 1)
-  unfolding afterStep registersAt
-  next-at k e = let h = order-half n e in next-step (processorsOf n) (inOrder (firstLine n)) k h.0 h.1 refl
+  pub next_at : (k : ℕ) → is_order n ≡ true → after_step n (registers_at n k) ≡ registers_at n (k + 1)
+  unfolding after_step registers_at
+  next_at k e = let h = order_half n e in next_step (processors_of n) (ordered_line (first_line n)) k h.0 h.1 refl

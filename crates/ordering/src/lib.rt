@@ -1,10 +1,10 @@
 #![tactic(auto)]
 // The registers of the processors and the list of pairs (document 01, "Pairs and their movement").
 ghost use Rattle.std.specs.Prelude.{◌≡◌, ℕ, ◌-◌, ◌≤◌, ◌<◌};
-ghost use Rattle.systolic.specs.Slots.{left, right, inOrder, prior, line_at};
-ghost use Rattle.sizes.specs.Sizes.{mostProcessors};
-ghost use Rattle.ordering.specs.Registers.{registersOf, comingInto, in_slot};
-ghost use Rattle.ordering.specs.Pairs.{noRegisters, orNone, registersAt, afterStep, Lists};
+ghost use Rattle.systolic.specs.Slots.{left, right, ordered_line, prior, line_at};
+ghost use Rattle.sizes.specs.Sizes.{most_processors};
+ghost use Rattle.ordering.specs.Registers.{registers_of, coming_into, in_slot};
+ghost use Rattle.ordering.specs.Pairs.{no_registers, or_none, registers_at, after_step, Lists};
 
 use refusal::{Answer, Refusal};
 use sizes::MOST_PROCESSORS;
@@ -48,7 +48,7 @@ pub fn pairs(n: usize, step: usize) -> PairList
 impl Registers {
     // Zeros only.
     pub fn none() -> Registers
-        ensures { result ≡ noRegisters }
+        ensures { result ≡ no_registers }
     {
         Registers {
             left: [0; MOST_PROCESSORS],
@@ -58,7 +58,7 @@ impl Registers {
 
     // The registers of an order n at first, zeros only where it is refused.
     pub fn of_order(n: usize) -> Registers
-        ensures { result ≡ orNone n (registersAt n 0) }
+        ensures { result ≡ or_none n (registers_at n 0) }
     {
         if !sizes::is_order(n) {
             return Registers::none();
@@ -68,7 +68,7 @@ impl Registers {
 
     // The registers after a step of an order n, zeros only where it is refused.
     pub fn after_step(self, n: usize) -> Registers
-        ensures { result ≡ orNone n (afterStep n self) }
+        ensures { result ≡ or_none n (after_step n self) }
     {
         if !sizes::is_order(n) {
             return Registers::none();
@@ -78,8 +78,8 @@ impl Registers {
 
     // The registers at the start: the lines from `first` on, in order.
     fn start(processors: usize, first: usize) -> Registers
-        requires { (processors ≤ mostProcessors) × (first ≤ 1) }
-        ensures { result ≡ registersOf processors (inOrder first) }
+        requires { (processors ≤ most_processors) × (first ≤ 1) }
+        ensures { result ≡ registers_of processors (ordered_line first) }
     {
         let mut lefts = [0usize; MOST_PROCESSORS];
         let mut rights = [0usize; MOST_PROCESSORS];
@@ -97,8 +97,8 @@ impl Registers {
 
     // The registers after a step.
     fn moved(self, processors: usize) -> Registers
-        requires { (1 ≤ processors) × (processors ≤ mostProcessors) }
-        ensures { result ≡ registersOf processors (λ u. in_slot self (prior (processors - 1) u)) }
+        requires { (1 ≤ processors) × (processors ≤ most_processors) }
+        ensures { result ≡ registers_of processors (λ u. in_slot self (prior (processors - 1) u)) }
     {
         let old_left = self.left;
         let old_right = self.right;
@@ -118,8 +118,8 @@ impl Registers {
 
     // The registers at a step.
     fn after(processors: usize, first: usize, step: usize) -> Registers
-        requires { (1 ≤ processors) × (processors ≤ mostProcessors) × (first ≤ 1) }
-        ensures { result ≡ registersOf processors (line_at (inOrder first) (processors - 1) step) }
+        requires { (1 ≤ processors) × (processors ≤ most_processors) × (first ≤ 1) }
+        ensures { result ≡ registers_of processors (line_at (ordered_line first) (processors - 1) step) }
     {
         let mut registers = Registers::start(processors, first);
         let mut s = 0;
@@ -138,8 +138,8 @@ fn into_left<'a>(
     rights: &'a [usize; MOST_PROCESSORS],
     k: usize,
 ) -> usize
-    requires { k < mostProcessors }
-    ensures { (m : ℕ) → result ≡ comingInto lefts.now rights.now m left k }
+    requires { k < most_processors }
+    ensures { (m : ℕ) → result ≡ coming_into lefts.now rights.now m left k }
 {
     if k == 0 {
         return lefts[0];
@@ -157,8 +157,8 @@ fn into_right<'a>(
     last: usize,
     k: usize,
 ) -> usize
-    requires { (k ≤ last) × (last < mostProcessors) }
-    ensures { result ≡ comingInto lefts.now rights.now last right k }
+    requires { (k ≤ last) × (last < most_processors) }
+    ensures { result ≡ coming_into lefts.now rights.now last right k }
 {
     if k < last {
         return rights[k + 1];

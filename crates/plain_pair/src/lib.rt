@@ -1,12 +1,12 @@
 #![tactic(auto)]
 // What the pair of two lines does to a lent matrix and to its eigenvectors (document 01, "Plain run").
 ghost use Rattle.std.specs.Prelude.{◌≡◌, true, ◌*◌, ◌≤◌, length};
-ghost use Rattle.float64.specs.Values.{plusZero};
+ghost use Rattle.float64.specs.Values.{plus_zero};
 ghost use Rattle.rotation.specs.declared.Parameters.TheVariants.{Turn};
-ghost use Rattle.rotation.specs.Rotation.{diagonalOf};
+ghost use Rattle.rotation.specs.Rotation.{diagonal_of};
 ghost use Rattle.matrix.specs.Matrix.{at, flat, entry_of};
-ghost use Rattle.matrix_turns.specs.Turns.{twoLines};
-ghost use Rattle.plain_pair.specs.Pair.{withEntry, pairTurned, stateTurned, state_of, Held, hasPair, twoLists, pair_of};
+ghost use Rattle.matrix_turns.specs.Turns.{two_lines};
+ghost use Rattle.plain_pair.specs.Pair.{with_entry, pair_turned, state_turned, state_of, Held, has_pair, two_lists, pair_of};
 
 use rotation::{Parameters, Sides};
 
@@ -20,7 +20,7 @@ pub fn turn(
     a: &mut [f64],
     vectors: &mut [f64],
 )
-    ensures { twoLists a.new vectors.new ≡ pair_of parameters n p q a.old vectors.old }
+    ensures { two_lists a.new vectors.new ≡ pair_of parameters n p q a.old vectors.old }
 {
     if !has_pair(n, p, q, a.len(), vectors.len()) {
         return;
@@ -30,7 +30,7 @@ pub fn turn(
 
 // Whether two lengths are that of a matrix of order n, and p and q are two of its lines.
 fn has_pair(n: usize, p: usize, q: usize, first: usize, second: usize) -> bool
-    ensures { result ≡ hasPair n p q first second }
+    ensures { result ≡ has_pair n p q first second }
 {
     if second != first {
         return false;
@@ -47,8 +47,8 @@ fn make_pair(
     a: &mut [f64],
     vectors: &mut [f64],
 )
-    requires { (twoLines n p q (length a.old) ≡ true) × (length vectors.old ≡ n * n) }
-    ensures { Held n a.new vectors.new (stateTurned parameters p q (state_of n a.old vectors.old)) }
+    requires { (two_lines n p q (length a.old) ≡ true) × (length vectors.old ≡ n * n) }
+    ensures { Held n a.new vectors.new (state_turned parameters p q (state_of n a.old vectors.old)) }
 {
     match parameters {
         Parameters::Still => clear_pair(n, p, q, a),
@@ -61,8 +61,8 @@ fn make_pair(
 
 // The matrix with the lines p and q turned.
 fn turn_matrix(t: f64, c: f64, s: f64, n: usize, p: usize, q: usize, a: &mut [f64])
-    requires { twoLines n p q (length a.old) ≡ true }
-    ensures { a.new ≡ flat n (pairTurned (Turn t c s) p q (at n a.old)) }
+    requires { two_lines n p q (length a.old) ≡ true }
+    ensures { a.new ≡ flat n (pair_turned (Turn t c s) p q (at n a.old)) }
 {
     let sides = new_diagonal(t, c, s, n, p, q, a);
     matrix_turns::turn_rows(Parameters::Turn(t, c, s), n, p, q, a);
@@ -72,7 +72,7 @@ fn turn_matrix(t: f64, c: f64, s: f64, n: usize, p: usize, q: usize, a: &mut [f6
 
 // The new a_pp and a_qq.
 fn new_diagonal(t: f64, c: f64, s: f64, n: usize, p: usize, q: usize, a: &[f64]) -> Sides
-    ensures { result ≡ diagonalOf (Turn t c s) (entry_of n a.now p p) (entry_of n a.now q q) (entry_of n a.now p q) }
+    ensures { result ≡ diagonal_of (Turn t c s) (entry_of n a.now p p) (entry_of n a.now q q) (entry_of n a.now p q) }
 {
     rotation::diagonal(
         Parameters::Turn(t, c, s),
@@ -84,8 +84,8 @@ fn new_diagonal(t: f64, c: f64, s: f64, n: usize, p: usize, q: usize, a: &[f64])
 
 // Sets a_pp and a_qq, and a_pq and a_qp to +0.
 fn set_pair(n: usize, p: usize, q: usize, x: f64, y: f64, a: &mut [f64])
-    requires { twoLines n p q (length a.old) ≡ true }
-    ensures { a.new ≡ flat n (withEntry q p plusZero (withEntry p q plusZero (withEntry q q y (withEntry p p x (at n a.old))))) }
+    requires { two_lines n p q (length a.old) ≡ true }
+    ensures { a.new ≡ flat n (with_entry q p plus_zero (with_entry p q plus_zero (with_entry q q y (with_entry p p x (at n a.old))))) }
 {
     set_entry(n, p, p, x, a);
     set_entry(n, q, q, y, a);
@@ -94,8 +94,8 @@ fn set_pair(n: usize, p: usize, q: usize, x: f64, y: f64, a: &mut [f64])
 
 // Sets a_pq and a_qp to +0.
 fn clear_pair(n: usize, p: usize, q: usize, a: &mut [f64])
-    requires { twoLines n p q (length a.old) ≡ true }
-    ensures { a.new ≡ flat n (withEntry q p plusZero (withEntry p q plusZero (at n a.old))) }
+    requires { two_lines n p q (length a.old) ≡ true }
+    ensures { a.new ≡ flat n (with_entry q p plus_zero (with_entry p q plus_zero (at n a.old))) }
 {
     set_entry(n, p, q, 0.0, a);
     set_entry(n, q, p, 0.0, a);
@@ -104,7 +104,7 @@ fn clear_pair(n: usize, p: usize, q: usize, a: &mut [f64])
 // Sets the entry in row p and column q.
 fn set_entry(n: usize, p: usize, q: usize, x: f64, a: &mut [f64])
     requires { (length a.old ≡ n * n) × (1 ≤ p) × (p ≤ n) × (1 ≤ q) × (q ≤ n) }
-    ensures { a.new ≡ flat n (withEntry p q x (at n a.old)) }
+    ensures { a.new ≡ flat n (with_entry p q x (at n a.old)) }
 {
     a[(p - 1) * n + (q - 1)] = x;
 }

@@ -11,105 +11,105 @@ use lib.Dec.{eqb}
 use lib.ListN.{get_or}
 use lib.Ieee.{Float}
 use Rattle.lists.specs.Bounded.{count, total}
-use Rattle.lists.proofs.Bounded.{count-below, count_most}
-use Rattle.lists.proofs.Sums.{total-most}
-use Rattle.sizes.specs.Sizes.{mostProcessors, mostSweeps, largestOrder, is_order, processorsOf, sweepSteps, still_of, steps_of}
-use Rattle.sizes.proofs.Orders.{order-half, steps-few}
+use Rattle.lists.proofs.Bounded.{count_below, count_most}
+use Rattle.lists.proofs.Sums.{total_most}
+use Rattle.sizes.specs.Sizes.{most_processors, most_sweeps, largest_order, is_order, processors_of, sweep_steps, still_of, steps_of}
+use Rattle.sizes.proofs.Orders.{order_half, steps_few}
 use Rattle.ordering.specs.declared.Registers.{Registers}
-use Rattle.ordering.specs.Pairs.{registersAt}
+use Rattle.ordering.specs.Pairs.{registers_at}
 use Rattle.rotation.specs.declared.Found.{Found}
 use Rattle.rotation.specs.declared.Rooted.{Rooted}
 use Rattle.rotation.specs.declared.Angle.{Angle}
-use Rattle.rotation.specs.Rotation.{ofAngle}
-use Rattle.matrix_turns.specs.Turns.{exactOf}
+use Rattle.rotation.specs.Rotation.{of_angle}
+use Rattle.matrix_turns.specs.Turns.{exact_of}
 use Rattle.runs.specs.State.{State}
-use Rattle.runs.specs.Blocks.{ruled, ruledExact}
-use Rattle.runs.specs.Counts.{isTurn}
+use Rattle.runs.specs.Blocks.{ruled, ruled_exact}
+use Rattle.runs.specs.Counts.{is_turn}
 use Rattle.plain_pair.specs.Pair.{state_of, Held}
-use Rattle.plain_pair.proofs.AlikeStates.{held-alike, read_alike}
-use Rattle.plain_run.specs.State.{pairsRotated, after}
-use Rattle.plain_run.specs.Met.{pairMet, turnsIn, roundedIn, pairsBy, turnsBy, roundedBy}
+use Rattle.plain_pair.proofs.AlikeStates.{held_alike, read_alike}
+use Rattle.plain_run.specs.State.{pairs_rotated, after}
+use Rattle.plain_run.specs.Met.{pair_met, turns_in, rounded_in, pairs_by, turns_by, rounded_by}
 use Rattle.plain_run.specs.Quiet.{quiet}
-use Rattle.plain_run.specs.Angles.{noTangent, noAngle, exactBy}
-use Rattle.plain_run.proofs.HeldStates.{no_steps, after-alike}
+use Rattle.plain_run.specs.Angles.{no_tangent, no_angle, exact_by}
+use Rattle.plain_run.proofs.HeldStates.{no_steps, after_alike}
 use Rattle.plain_run.proofs.StepParameters.{Angled}
-use Rattle.plain_run.proofs.CountedPairs.{pairs-same, pairs-more, after-sweeps, rounded-repeat, counted-quiet, met-as, turns-alike, rounded-alike}
+use Rattle.plain_run.proofs.CountedPairs.{pairs_same, pairs_more, after_sweeps, rounded_repeat, counted_quiet, met_as, turns_alike, rounded_alike}
 
 -- ---- the first steps
 module _ (n : ℕ) (test : ℕ → ℕ → Bool) where
-  pub none-counted : 0 ≡ pairsBy n test 0
-  unfolding pairsBy total
-  none-counted = refl
+  pub none_counted_lem : 0 ≡ pairs_by n test 0
+  unfolding pairs_by total
+  none_counted_lem = refl
 
-  step-counted : (k : ℕ) {c x : ℕ} (own : ℕ → Bool) → ((i : ℕ) → i < processorsOf n → own i ≡ test k i) → c ≡ pairsBy n test k
-      → x ≡ count own (processorsOf n) → c + x ≡ pairsBy n test (k + 1)
-  unfolding pairsBy total
-  step-counted k own same f g = rw (add-one k, f, g) (ap (λ (x : ℕ). pairsBy n test k + x) (count-below own (test k) (processorsOf n) same))
+  step_counted : (k : ℕ) {c x : ℕ} (own : ℕ → Bool) → ((i : ℕ) → i < processors_of n → own i ≡ test k i) → c ≡ pairs_by n test k
+      → x ≡ count own (processors_of n) → c + x ≡ pairs_by n test (k + 1)
+  unfolding pairs_by total
+  step_counted k own same f g = rw (add-one k, f, g) (ap (λ (x : ℕ). pairs_by n test k + x) (count_below own (test k) (processors_of n) same))
 
-  pub pairs-bounded : (k : ℕ) → pairsBy n test k ≤ k * processorsOf n
-  unfolding pairsBy
-  pairs-bounded k = total-most _ (processorsOf n) k (λ s h. count_most (test s) (processorsOf n) refl)
+  pub pairs_bounded : (k : ℕ) → pairs_by n test k ≤ k * processors_of n
+  unfolding pairs_by
+  pairs_bounded k = total_most _ (processors_of n) k (λ s h. count_most (test s) (processors_of n) refl)
 
-  pub pairs-few : is_order n ≡ true → (k : ℕ) {c : ℕ} → c ≡ pairsBy n test k → c ≤ k * mostProcessors
-  pairs-few order k e =
-      let bounded : pairsBy n test k ≤ k * processorsOf n = pairs-bounded k in
-      let few : k * processorsOf n ≤ k * mostProcessors = mul-le-mul (le_refl k) (order-half n order).1 in
+  pub pairs_few : is_order n ≡ true → (k : ℕ) {c : ℕ} → c ≡ pairs_by n test k → c ≤ k * most_processors
+  pairs_few order k e =
+      let bounded : pairs_by n test k ≤ k * processors_of n = pairs_bounded k in
+      let few : k * processors_of n ≤ k * most_processors = mul-le-mul (le_refl k) (order_half n order).1 in
       omega arith
 
 -- ---- step k, by what is found of its pairs in lists that hold the state before it
 module _ (n : ℕ) (order : is_order n ≡ true) (R : Registers) (k : ℕ) (X : State) (angles : List Angle) (tangents : List Rooted) (l e : List Float)
-    (stand : R ≡ registersAt n k) (held : Held n l e (after n k X)) (angled : Angled n angles R.left R.right (state_of n l e) (processorsOf n))
-    (exact : (i : ℕ) → still_of n ≤ i → i < processorsOf n → exactBy (get_or tangents i noTangent)
-    ≡ exactOf (get_or R.left i 0) (get_or R.right i 0) (pairsRotated n R.left R.right i (state_of n l e)).matrix) where
-  found-met : (i : ℕ) → i < processorsOf n
-      → record { parameters = ruled n i (ofAngle (get_or angles i noAngle)); exact = ruledExact n i (exactBy (get_or tangents i noTangent)) } ≡ pairMet n k i X
-  found-met i h =
-      met-as n order k i h (state_of n l e) X (read_alike n l e _ held)
-      (record { parameters = ofAngle (get_or angles i noAngle); exact = exactBy (get_or tangents i noTangent) })
+    (stand : R ≡ registers_at n k) (held : Held n l e (after n k X)) (angled : Angled n angles R.left R.right (state_of n l e) (processors_of n))
+    (exact : (i : ℕ) → still_of n ≤ i → i < processors_of n → exact_by (get_or tangents i no_tangent)
+    ≡ exact_of (get_or R.left i 0) (get_or R.right i 0) (pairs_rotated n R.left R.right i (state_of n l e)).matrix) where
+  found_met : (i : ℕ) → i < processors_of n
+      → record { parameters = ruled n i (of_angle (get_or angles i no_angle)); exact = ruled_exact n i (exact_by (get_or tangents i no_tangent)) } ≡ pair_met n k i X
+  found_met i h =
+      met_as n order k i h (state_of n l e) X (read_alike n l e _ held)
+      (record { parameters = of_angle (get_or angles i no_angle); exact = exact_by (get_or tangents i no_tangent) })
       (λ w. let a = (rw stand at angled) i w h in let b = (rw stand at exact) i w h in rw (a, b))
 
-  pub turns_next : {c x : ℕ} → c ≡ turnsBy n k X → x ≡ count (λ i. isTurn (ruled n i (ofAngle (get_or angles i noAngle)))) (processorsOf n)
-      → c + x ≡ turnsBy n (k + 1) X
-  unfolding turnsIn
-  turns_next f g = step-counted n _ k _ (λ i h. ap (λ (f : Found). isTurn f.parameters) (found-met i h)) f g
+  pub turns_next : {c x : ℕ} → c ≡ turns_by n k X → x ≡ count (λ i. is_turn (ruled n i (of_angle (get_or angles i no_angle)))) (processors_of n)
+      → c + x ≡ turns_by n (k + 1) X
+  unfolding turns_in
+  turns_next f g = step_counted n _ k _ (λ i h. ap (λ (f : Found). is_turn f.parameters) (found_met i h)) f g
 
-  pub rounded-next : {c x : ℕ} → c ≡ roundedBy n k X
-      → x ≡ count (λ i. not (ruledExact n i (exactBy (get_or tangents i noTangent)))) (processorsOf n) → c + x ≡ roundedBy n (k + 1) X
-  unfolding roundedIn
-  rounded-next f g = step-counted n _ k _ (λ i h. ap (λ (f : Found). not f.exact) (found-met i h)) f g
+  pub rounded_next : {c x : ℕ} → c ≡ rounded_by n k X
+      → x ≡ count (λ i. not (ruled_exact n i (exact_by (get_or tangents i no_tangent)))) (processors_of n) → c + x ≡ rounded_by n (k + 1) X
+  unfolding rounded_in
+  rounded_next f g = step_counted n _ k _ (λ i h. ap (λ (f : Found). not f.exact) (found_met i h)) f g
 
 -- ---- the first sweeps
-pub no-sweep : (n : ℕ) (l e : List Float) (X : State) → Held n l e X → Held n l e (after n (steps_of n 0) X)
-no-sweep n l e X h = let z : steps_of n 0 ≡ 0 = omega arith in rw z (no_steps n l e X h)
+pub no_sweep : (n : ℕ) (l e : List Float) (X : State) → Held n l e X → Held n l e (after n (steps_of n 0) X)
+no_sweep n l e X h = let z : steps_of n 0 ≡ 0 = omega arith in rw z (no_steps n l e X h)
 
-pub none-rounded : (n : ℕ) (X : State) → 0 ≡ roundedBy n (steps_of n 0) X
-none-rounded n X = let z : steps_of n 0 ≡ 0 = omega arith in rw z (none-counted n _)
+pub none_rounded : (n : ℕ) (X : State) → 0 ≡ rounded_by n (steps_of n 0) X
+none_rounded n X = let z : steps_of n 0 ≡ 0 = omega arith in rw z (none_counted_lem n _)
 
-pub sweeps-few : (n : ℕ) (X : State) → is_order n ≡ true → (m : ℕ) {c : ℕ} → m ≤ mostSweeps → c ≡ roundedBy n (steps_of n m) X
-    → c ≤ mostSweeps * largestOrder * mostProcessors
-sweeps-few n X order m h e =
-    let few : steps_of n m ≤ mostSweeps * largestOrder = steps-few n m order h in
-    omega (arith, pairs-few n _ order (steps_of n m) e, few)
+pub sweeps_few : (n : ℕ) (X : State) → is_order n ≡ true → (m : ℕ) {c : ℕ} → m ≤ most_sweeps → c ≡ rounded_by n (steps_of n m) X
+    → c ≤ most_sweeps * largest_order * most_processors
+sweeps_few n X order m h e =
+    let few : steps_of n m ≤ most_sweeps * largest_order = steps_few n m order h in
+    omega (arith, pairs_few n _ order (steps_of n m) e, few)
 
 -- the sweep after j sweeps, from the lists that hold the state there
 module _ (n : ℕ) (order : is_order n ≡ true) (X : State) (j : ℕ) (l e : List Float) (held : Held n l e (after n (steps_of n j) X)) where
-  pub sweep-next : (l' e' : List Float) → Held n l' e' (after n (sweepSteps n) (state_of n l e)) → Held n l' e' (after n (steps_of n (j + 1)) X)
-  sweep-next l' e' h =
-      rw (add-one j, suc-mul j (sweepSteps n), after-sweeps n order j X (sweepSteps n))
-      (held-alike n l' e' _ _ h (after-alike n order (sweepSteps n) _ _ (read_alike n l e _ held)))
+  pub sweep_next : (l' e' : List Float) → Held n l' e' (after n (sweep_steps n) (state_of n l e)) → Held n l' e' (after n (steps_of n (j + 1)) X)
+  sweep_next l' e' h =
+      rw (add-one j, suc-mul j (sweep_steps n), after_sweeps n order j X (sweep_steps n))
+      (held_alike n l' e' _ _ h (after_alike n order (sweep_steps n) _ _ (read_alike n l e _ held)))
 
-  pub sweep-rounded : {c x : ℕ} → c ≡ roundedBy n (steps_of n j) X → x ≡ roundedBy n (sweepSteps n) (state_of n l e) → c + x ≡ roundedBy n (steps_of n (j + 1)) X
-  sweep-rounded f g =
-      rw (add-one j, suc-mul j (sweepSteps n), f, g)
-      (sym (pairs-more n _ _ (steps_of n j) (sweepSteps n) (λ s i h.
-      rounded-repeat n order j X s i ∙ sym (rounded-alike n order _ _ (read_alike n l e _ held) s i h))))
+  pub sweep_rounded : {c x : ℕ} → c ≡ rounded_by n (steps_of n j) X → x ≡ rounded_by n (sweep_steps n) (state_of n l e) → c + x ≡ rounded_by n (steps_of n (j + 1)) X
+  sweep_rounded f g =
+      rw (add-one j, suc-mul j (sweep_steps n), f, g)
+      (sym (pairs_more n _ _ (steps_of n j) (sweep_steps n) (λ s i h.
+      rounded_repeat n order j X s i ∙ sym (rounded_alike n order _ _ (read_alike n l e _ held) s i h))))
 
-  sweep-counted : {t : ℕ} → t ≡ turnsBy n (sweepSteps n) (state_of n l e) → eqb t 0 ≡ quiet n (suc j) X
-  sweep-counted f =
-      ap (λ (t : ℕ). eqb t 0) (f ∙ pairs-same n _ _ (sweepSteps n) (turns-alike n order _ _ (read_alike n l e _ held))) ∙ counted-quiet n order j X
+  sweep_counted : {t : ℕ} → t ≡ turns_by n (sweep_steps n) (state_of n l e) → eqb t 0 ≡ quiet n (suc j) X
+  sweep_counted f =
+      ap (λ (t : ℕ). eqb t 0) (f ∙ pairs_same n _ _ (sweep_steps n) (turns_alike n order _ _ (read_alike n l e _ held))) ∙ counted_quiet n order j X
 
-  pub sweep-quiet : {t : ℕ} → t ≡ turnsBy n (sweepSteps n) (state_of n l e) → t ≡ 0 → quiet n (suc j) X ≡ true
-  sweep-quiet f z = sym (sweep-counted f) ∙ eq-eqb _ 0 z
+  pub sweep_quiet : {t : ℕ} → t ≡ turns_by n (sweep_steps n) (state_of n l e) → t ≡ 0 → quiet n (suc j) X ≡ true
+  sweep_quiet f z = sym (sweep_counted f) ∙ eq-eqb _ 0 z
 
-  pub sweep-turning : {t : ℕ} → t ≡ turnsBy n (sweepSteps n) (state_of n l e) → ¬ (t ≡ 0) → quiet n (suc j) X ≡ false
-  sweep-turning f z = sym (sweep-counted f) ∙ ne_eqb _ 0 z
+  pub sweep_turning : {t : ℕ} → t ≡ turns_by n (sweep_steps n) (state_of n l e) → ¬ (t ≡ 0) → quiet n (suc j) X ≡ false
+  sweep_turning f z = sym (sweep_counted f) ∙ ne_eqb _ 0 z

@@ -3,15 +3,15 @@ use Rattle.std.specs.Prelude.{Bool, false, ◌&&◌}
 use Rattle.std.specs.Float.{nan}
 use Rattle.rotation.specs.declared.Rooted.{Rooted}
 use Rattle.rotation.specs.declared.Angle.{Angle}
-use Rattle.rotation.specs.Exact.{exactCosine}
+use Rattle.rotation.specs.Exact.{exact_cosine}
 
 -- What stands where there is no processor.
-abbrev pub noTangent : Rooted
-noTangent = record { value = nan; exact = false }
+abbrev pub no_tangent : Rooted
+no_tangent = record { value = nan; exact = false }
 
-abbrev pub noAngle : Angle
-noAngle = record { tangent = nan; cosine = nan }
+abbrev pub no_angle : Angle
+no_angle = record { tangent = nan; cosine = nan }
 
 -- Both roots of a pair with this tangent are exact.
-abbrev pub exactBy : Rooted → Bool
-exactBy t = t.exact && exactCosine t.value
+abbrev pub exact_by : Rooted → Bool
+exact_by t = t.exact && exact_cosine t.value

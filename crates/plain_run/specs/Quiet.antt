@@ -1,33 +1,33 @@
 -- Document 02 (vi) and (vii): quiet sweeps, the sweeps that a run makes, and what it reports. Sweeps count from 1, steps and processors from 0. Definitions
 -- only.
 use Rattle.std.specs.Prelude.{ℕ, zero, suc, ◌+◌, ◌-◌, ◌*◌, Bool, not, cond, List, Float}
-use Rattle.refusal.specs.Answers.{Answered, given, refusedBy}
+use Rattle.refusal.specs.Answers.{Answered, given, refused_by}
 use Rattle.lists.specs.Bounded.{any}
-use Rattle.sizes.specs.Sizes.{processorsOf, sweepSteps, steps_of}
+use Rattle.sizes.specs.Sizes.{processors_of, sweep_steps, steps_of}
 use Rattle.runs.specs.State.{State, start_of}
 use Rattle.runs.specs.Outcome.{Outcome, Report, report, answering}
 use Rattle.plain_run.specs.Run.{run_of}
-use Rattle.plain_run.specs.Met.{turnsIn, roundedBy}
+use Rattle.plain_run.specs.Met.{turns_in, rounded_by}
 use Rattle.plain_run.specs.declared.Ran.{Ran}
 use Rattle.plain_run.specs.declared.Ran.TheVariants.{Made, Refused}
 
 -- Every pair of sweep m is still.
 unfoldable pub quiet : ℕ → ℕ → State → Bool
-quiet n m X = not (any (sweepSteps n) (λ s. any (processorsOf n) (λ i. turnsIn n ((m - 1) * sweepSteps n + s) i X)))
+quiet n m X = not (any (sweep_steps n) (λ s. any (processors_of n) (λ i. turns_in n ((m - 1) * sweep_steps n + s) i X)))
 
 -- The first quiet sweep of 1 to S, or S if none is.
-unfoldable pub sweepsMade : ℕ → ℕ → State → ℕ
-sweepsMade n zero X = 0
-sweepsMade n (suc m) X = cond (any m (λ j. quiet n (suc j) X)) (sweepsMade n m X) (suc m)
+unfoldable pub sweeps_made : ℕ → ℕ → State → ℕ
+sweeps_made n zero X = 0
+sweeps_made n (suc m) X = cond (any m (λ j. quiet n (suc j) X)) (sweeps_made n m X) (suc m)
 
 -- What a run of S sweeps from X reports: the sweeps made, and how many pairs met in them had a rounded root.
-unfoldable pub reportOf : ℕ → ℕ → State → Report
-reportOf n S X = let made = sweepsMade n S X in report made (roundedBy n (steps_of n made) X)
+unfoldable pub report_of : ℕ → ℕ → State → Report
+report_of n S X = let made = sweeps_made n S X in report made (rounded_by n (steps_of n made) X)
 
-abbrev pub ranAnswered : Ran → Answered Report
-ranAnswered (Made sweeps rounded) = given (report sweeps rounded)
-ranAnswered (Refused r) = refusedBy r
+abbrev pub ran_answered : Ran → Answered Report
+ran_answered (Made sweeps rounded) = given (report sweeps rounded)
+ran_answered (Refused r) = refused_by r
 
 -- What a run leaves, with its report in the answer.
-unfoldable pub answeredRunOf : ℕ → ℕ → List Float → List Float → List Float → Outcome Report
-answeredRunOf n sweeps l r v = answering (reportOf n sweeps (start_of n l)) (run_of n sweeps l r v)
+unfoldable pub answered_run_of : ℕ → ℕ → List Float → List Float → List Float → Outcome Report
+answered_run_of n sweeps l r v = answering (report_of n sweeps (start_of n l)) (run_of n sweeps l r v)

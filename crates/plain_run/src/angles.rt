@@ -1,12 +1,12 @@
 // The angles of a step's pairs, found before any pair is turned.
 ghost use Rattle.std.specs.Prelude.{◌≡◌, not, cond, ℕ, ◌<◌, ◌≤◌, get_or};
 ghost use Rattle.lists.specs.Bounded.{count};
-ghost use Rattle.sizes.specs.Sizes.{largestOrder, processorsOf, still_of};
-ghost use Rattle.rotation.specs.Rotation.{angleOf};
+ghost use Rattle.sizes.specs.Sizes.{largest_order, processors_of, still_of};
+ghost use Rattle.rotation.specs.Rotation.{angle_of};
 ghost use Rattle.matrix.specs.Matrix.{entry_of};
-ghost use Rattle.matrix_turns.specs.Turns.{tangentAt};
-ghost use Rattle.runs.specs.Blocks.{ruledExact};
-ghost use Rattle.plain_run.specs.Angles.{noTangent, noAngle, exactBy};
+ghost use Rattle.matrix_turns.specs.Turns.{tangent_at};
+ghost use Rattle.runs.specs.Blocks.{ruled_exact};
+ghost use Rattle.plain_run.specs.Angles.{no_tangent, no_angle, exact_by};
 
 use ordering::Registers;
 use rotation::{Angle, Rooted};
@@ -21,9 +21,9 @@ pub struct Step {
 
 // The tangents of the pairs of all processors that are not always still.
 pub fn tangents_of(n: usize, registers: Registers, a: &[f64]) -> [Rooted; MOST_PROCESSORS]
-    requires { n ≤ largestOrder }
-    ensures { (k : ℕ) → still_of n ≤ k → k < processorsOf n →
-        get_or result k noTangent ≡ tangentAt (get_or registers.left k 0) (get_or registers.right k 0) (entry_of n a.now) }
+    requires { n ≤ largest_order }
+    ensures { (k : ℕ) → still_of n ≤ k → k < processors_of n →
+        get_or result k no_tangent ≡ tangent_at (get_or registers.left k 0) (get_or registers.right k 0) (entry_of n a.now) }
 {
     let lefts = registers.left;
     let rights = registers.right;
@@ -41,7 +41,7 @@ pub fn tangents_of(n: usize, registers: Registers, a: &[f64]) -> [Rooted; MOST_P
 
 // The tangent of the pair of the lines p and q.
 fn tangent_at(n: usize, p: usize, q: usize, a: &[f64]) -> Rooted
-    ensures { result ≡ tangentAt p q (entry_of n a.now) }
+    ensures { result ≡ tangent_at p q (entry_of n a.now) }
 {
     rotation::tangent_of_pair(
         matrix::entry(n, p, p, a),
@@ -52,9 +52,9 @@ fn tangent_at(n: usize, p: usize, q: usize, a: &[f64]) -> Rooted
 
 // The angles of pairs with these tangents, but for processors that are always still, and how many have a rounded root.
 pub fn angles_of(n: usize, tangents: [Rooted; MOST_PROCESSORS]) -> Step
-    requires { n ≤ largestOrder }
-    ensures { ((k : ℕ) → still_of n ≤ k → k < processorsOf n → get_or result.angles k noAngle ≡ angleOf (get_or tangents k noTangent).value)
-        × (result.rounded ≡ count (λ k. not (ruledExact n k (exactBy (get_or tangents k noTangent)))) (processorsOf n)) }
+    requires { n ≤ largest_order }
+    ensures { ((k : ℕ) → still_of n ≤ k → k < processors_of n → get_or result.angles k no_angle ≡ angle_of (get_or tangents k no_tangent).value)
+        × (result.rounded ≡ count (λ k. not (ruled_exact n k (exact_by (get_or tangents k no_tangent)))) (processors_of n)) }
 {
     let none = Angle {
         tangent: 0.0,

@@ -1,23 +1,23 @@
 #![tactic(auto)]
 // The plain run (document 01, "Pairs and their movement").
 ghost use Rattle.std.specs.Prelude.{◌≡◌, true, not, cond, ◌||◌, ℕ, ◌*◌, ◌<◌, ◌≤◌, length, get_or};
-ghost use Rattle.refusal.specs.Answers.{given, refusedBy};
+ghost use Rattle.refusal.specs.Answers.{given, refused_by};
 ghost use Rattle.refusal.specs.declared.Refusal.TheVariants.{Spoiled};
 ghost use Rattle.lists.specs.Bounded.{count};
-ghost use Rattle.sizes.specs.Sizes.{mostSweeps, is_order, largestOrder, processorsOf, sweepSteps, still_of, steps_of};
-ghost use Rattle.rotation.specs.Rotation.{ofAngle};
+ghost use Rattle.sizes.specs.Sizes.{most_sweeps, is_order, largest_order, processors_of, sweep_steps, still_of, steps_of};
+ghost use Rattle.rotation.specs.Rotation.{of_angle};
 ghost use Rattle.matrix.specs.Matrix.{flat};
-ghost use Rattle.matrix_turns.specs.Turns.{parametersOf};
+ghost use Rattle.matrix_turns.specs.Turns.{parameters_of};
 ghost use Rattle.plain_pair.specs.Pair.{state_of, Held};
 ghost use Rattle.runs.specs.State.{identity, start_of, zeros};
 ghost use Rattle.runs.specs.Blocks.{ruled};
-ghost use Rattle.runs.specs.Counts.{isTurn};
-ghost use Rattle.runs.specs.Outcome.{beforeRun, outcome, report, answering};
-ghost use Rattle.plain_run.specs.State.{Paired, pairsRotated, after};
-ghost use Rattle.plain_run.specs.Run.{someNotFinite, finishOf, ranOf};
-ghost use Rattle.plain_run.specs.Met.{turnsBy, roundedBy};
-ghost use Rattle.plain_run.specs.Quiet.{reportOf, ranAnswered, answeredRunOf};
-ghost use Rattle.plain_run.specs.Angles.{noAngle};
+ghost use Rattle.runs.specs.Counts.{is_turn};
+ghost use Rattle.runs.specs.Outcome.{before_run, outcome, report, answering};
+ghost use Rattle.plain_run.specs.State.{Paired, pairs_rotated, after};
+ghost use Rattle.plain_run.specs.Run.{some_not_finite, finish_of, ran_of};
+ghost use Rattle.plain_run.specs.Met.{turns_by, rounded_by};
+ghost use Rattle.plain_run.specs.Quiet.{report_of, ran_answered, answered_run_of};
+ghost use Rattle.plain_run.specs.Angles.{no_angle};
 
 use ordering::Registers;
 use refusal::{Answer, Refusal};
@@ -50,8 +50,8 @@ struct Sweep {
 // Runs a number of sweeps on a matrix of order n, or fewer where one of them is quiet, and leaves the last matrix and the eigenvectors in
 // the two results.
 pub fn run(n: usize, sweeps: usize, matrix: &[f64], res: &mut [f64], vectors: &mut [f64]) -> Ran
-    ensures { outcome (ranAnswered result) res.new vectors.new
-        ≡ answeredRunOf n sweeps matrix.now res.old vectors.old }
+    ensures { outcome (ran_answered result) res.new vectors.new
+        ≡ answered_run_of n sweeps matrix.now res.old vectors.old }
 {
     match runs::verdict(n, sweeps, matrix, res.len(), vectors.len()) {
         Answer::Accepted => run_accepted(n, sweeps, matrix, res, vectors),
@@ -67,9 +67,9 @@ fn run_accepted(
     res: &mut [f64],
     vectors: &mut [f64],
 ) -> Ran
-    requires { beforeRun n sweeps matrix.now (length res.old) (length vectors.old) ≡ given tt }
-    ensures { outcome (ranAnswered result) res.new vectors.new
-        ≡ answering (reportOf n sweeps (start_of n matrix.now)) (ranOf n sweeps matrix.now) }
+    requires { before_run n sweeps matrix.now (length res.old) (length vectors.old) ≡ given tt }
+    ensures { outcome (ran_answered result) res.new vectors.new
+        ≡ answering (report_of n sweeps (start_of n matrix.now)) (ran_of n sweeps matrix.now) }
 {
     copy(matrix, res);
     set_identity(n, vectors);
@@ -98,8 +98,8 @@ fn set_identity(n: usize, a: &mut [f64])
 
 // Makes sweeps until one is quiet, or all. There are at most the most sweeps, so the rounded pairs can be counted.
 fn make_sweeps(n: usize, sweeps: usize, a: &mut [f64], vectors: &mut [f64]) -> Sweeps
-    requires { (is_order n ≡ true) × (sweeps ≤ mostSweeps) × (length a.old ≡ n * n) × (length vectors.old ≡ n * n) }
-    ensures { (report result.made result.rounded ≡ reportOf n sweeps (state_of n a.old vectors.old))
+    requires { (is_order n ≡ true) × (sweeps ≤ most_sweeps) × (length a.old ≡ n * n) × (length vectors.old ≡ n * n) }
+    ensures { (report result.made result.rounded ≡ report_of n sweeps (state_of n a.old vectors.old))
         × Held n a.new vectors.new (after n (steps_of n result.made) (state_of n a.old vectors.old)) }
 {
     let mut rounded = 0;
@@ -123,9 +123,9 @@ fn make_sweeps(n: usize, sweeps: usize, a: &mut [f64], vectors: &mut [f64]) -> S
 // before any turn, so that the processor need not wait for one root to begin the next.
 fn make_sweep(n: usize, a: &mut [f64], vectors: &mut [f64]) -> Sweep
     requires { (is_order n ≡ true) × (length a.old ≡ n * n) × (length vectors.old ≡ n * n) }
-    ensures { (result.turns ≡ turnsBy n (sweepSteps n) (state_of n a.old vectors.old))
-        × (result.rounded ≡ roundedBy n (sweepSteps n) (state_of n a.old vectors.old))
-        × Held n a.new vectors.new (after n (sweepSteps n) (state_of n a.old vectors.old)) }
+    ensures { (result.turns ≡ turns_by n (sweep_steps n) (state_of n a.old vectors.old))
+        × (result.rounded ≡ rounded_by n (sweep_steps n) (state_of n a.old vectors.old))
+        × Held n a.new vectors.new (after n (sweep_steps n) (state_of n a.old vectors.old)) }
 {
     let steps = sizes::sweep_steps(n);
     let mut registers = Registers::of_order(n);
@@ -157,13 +157,13 @@ fn make_pairs(
     a: &mut [f64],
     vectors: &mut [f64],
 ) -> usize
-    requires n_le_largest_order { (n ≤ largestOrder) × (length a.old ≡ n * n) × (length vectors.old ≡ n * n) }
-    requires paired { Paired n registers.left registers.right (processorsOf n) }
-    requires by_index { (k : ℕ) → still_of n ≤ k → k < processorsOf n →
-        ofAngle (get_or angles k noAngle) ≡ parametersOf (get_or registers.left k 0) (get_or registers.right k 0)
-        (pairsRotated n registers.left registers.right k (state_of n a.old vectors.old)).matrix }
-    ensures { (result ≡ count (λ k. isTurn (ruled n k (ofAngle (get_or angles k noAngle)))) (processorsOf n)) × Held n a.new vectors.new
-        (pairsRotated n registers.left registers.right (processorsOf n) (state_of n a.old vectors.old)) }
+    requires n_le_largest_order { (n ≤ largest_order) × (length a.old ≡ n * n) × (length vectors.old ≡ n * n) }
+    requires paired { Paired n registers.left registers.right (processors_of n) }
+    requires by_index { (k : ℕ) → still_of n ≤ k → k < processors_of n →
+        of_angle (get_or angles k no_angle) ≡ parameters_of (get_or registers.left k 0) (get_or registers.right k 0)
+        (pairs_rotated n registers.left registers.right k (state_of n a.old vectors.old)).matrix }
+    ensures { (result ≡ count (λ k. is_turn (ruled n k (of_angle (get_or angles k no_angle)))) (processors_of n)) × Held n a.new vectors.new
+        (pairs_rotated n registers.left registers.right (processors_of n) (state_of n a.old vectors.old)) }
 {
     let lefts = registers.left;
     let rights = registers.right;
@@ -179,7 +179,7 @@ fn make_pairs(
 
 // 1 for a pair that turns, 0 for one that is still.
 fn turns_of(parameters: Parameters) -> usize
-    ensures { result ≡ cond (isTurn parameters) 1 0 }
+    ensures { result ≡ cond (is_turn parameters) 1 0 }
 {
     if runs::is_turn(parameters) {
         return 1;
@@ -190,8 +190,8 @@ fn turns_of(parameters: Parameters) -> usize
 // Refusal 8 if an entry is not finite, and then +0 everywhere.
 fn finish(n: usize, sweeps: Sweeps, a: &mut [f64], vectors: &mut [f64]) -> Ran
     requires { (length a.old ≡ n * n) × (length vectors.old ≡ n * n) }
-    ensures { outcome (ranAnswered result) a.new vectors.new
-        ≡ answering (report sweeps.made sweeps.rounded) (finishOf n a.old vectors.old) }
+    ensures { outcome (ran_answered result) a.new vectors.new
+        ≡ answering (report sweeps.made sweeps.rounded) (finish_of n a.old vectors.old) }
 {
     if !both_finite(a, vectors) {
         return spoil(n, a, vectors);
@@ -200,7 +200,7 @@ fn finish(n: usize, sweeps: Sweeps, a: &mut [f64], vectors: &mut [f64]) -> Ran
 }
 
 fn both_finite(a: &[f64], vectors: &[f64]) -> bool
-    ensures { result ≡ not (someNotFinite a.now || someNotFinite vectors.now) }
+    ensures { result ≡ not (some_not_finite a.now || some_not_finite vectors.now) }
 {
     if !all_finite(a) {
         return false;
@@ -209,7 +209,7 @@ fn both_finite(a: &[f64], vectors: &[f64]) -> bool
 }
 
 fn all_finite(a: &[f64]) -> bool
-    ensures { result ≡ not (someNotFinite a.now) }
+    ensures { result ≡ not (some_not_finite a.now) }
 {
     for k in 0..a.len() {
         if !float64::is_finite(a[k]) {
@@ -221,7 +221,7 @@ fn all_finite(a: &[f64]) -> bool
 
 fn spoil(n: usize, a: &mut [f64], vectors: &mut [f64]) -> Ran
     requires { (length a.old ≡ n * n) × (length vectors.old ≡ n * n) }
-    ensures { outcome (ranAnswered result) a.new vectors.new ≡ outcome (refusedBy Spoiled) (zeros n) (zeros n) }
+    ensures { outcome (ran_answered result) a.new vectors.new ≡ outcome (refused_by Spoiled) (zeros n) (zeros n) }
 {
     matrix::clear(a);
     matrix::clear(vectors);

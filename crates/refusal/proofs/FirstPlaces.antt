@@ -20,7 +20,7 @@ pub data Seen (Fine : Type 0) (Bad : Answered Unit → Type 0) : Answered Unit �
 record First (n : ℕ) (Fine : ℕ → Type 0) (Bad : ℕ → Answered Unit → Type 0) (t : Answered Unit) : Type 0 where
   number : ℕ
   line : Line n number
-  is-bad : Bad number t
+  is_bad : Bad number t
   fine_before : (j : ℕ) → 1 ≤ j → j < number → Fine j
 
 search : (n : ℕ) (Fine : ℕ → Type 0) (Bad : ℕ → Answered Unit → Type 0) {g : ℕ → Answered Unit} → ((i : ℕ) → Line n i → Seen (Fine i) (Bad i) (g i))
@@ -32,13 +32,13 @@ search (suc n) Fine Bad h = go (search n Fine Bad (λ i l. h i (l.0, omega (arit
     go : {t u : Answered Unit} → Seen ((i : ℕ) → Line n i → Fine i) (First n Fine Bad) t → Seen (Fine (suc n)) (Bad (suc n)) u
         → Seen ((i : ℕ) → Line (suc n) i → Fine i) (First (suc n) Fine Bad) (or_else t u)
     go (fine f) (fine x) = fine (λ i l. ⊎_elim (λ e. rw e x) (λ o. f i (l.0, le_of_suc-le-suc o)) (eq-or-lt_of_le l.1))
-    go (fine f) (bad b) = bad (record { number = suc n; line = (omega arith, omega arith); is-bad = b; fine_before = λ j a h. f j (a, omega arith) })
-    go (bad w) y = bad (record { number = w.number; line = (w.line.0, omega (arith, w.line.1)); is-bad = w.is-bad; fine_before = w.fine_before })
+    go (fine f) (bad b) = bad (record { number = suc n; line = (omega arith, omega arith); is_bad = b; fine_before = λ j a h. f j (a, omega arith) })
+    go (bad w) y = bad (record { number = w.number; line = (w.line.0, omega (arith, w.line.1)); is_bad = w.is_bad; fine_before = w.fine_before })
 
 -- ---- of the places that are there, all are good, or the refusal carries the row and the column of the first that is not
 pub data Searched (There : ℕ → ℕ → Type 0) (good : ℕ → ℕ → Bool) (number : ℕ) : Answered Unit → Type 0 where
-  all-good : ((i j : ℕ) → There i j → good i j ≡ true) → Searched There good number (given tt)
-  first-bad : (r c : ℕ) → There r c → good r c ≡ false → ((i j : ℕ) → There i j → (i < r) ⊎ ((i ≡ r) × (j < c)) → good i j ≡ true)
+  all_good : ((i j : ℕ) → There i j → good i j ≡ true) → Searched There good number (given tt)
+  first_bad : (r c : ℕ) → There r c → good r c ≡ false → ((i j : ℕ) → There i j → (i < r) ⊎ ((i ≡ r) × (j < c)) → good i j ≡ true)
       → Searched There good number (refused number (r ∷ c ∷ []))
 
 module _ (There : ℕ → ℕ → Type 0) (good : ℕ → ℕ → Bool) (number : ℕ) where
@@ -57,18 +57,18 @@ module _ (There : ℕ → ℕ → Type 0) (good : ℕ → ℕ → Bool) (number 
       go (search n (λ r. (c : ℕ) → Line (m r) c → Passes r c) (λ r. First (m r) (Passes r) (Fails r)) (λ r l. search (m r) (Passes r) (Fails r) (λ c. h r c l)))
     where
       before : {t : Answered Unit} (row : First n (λ r. (c : ℕ) → Line (m r) c → Passes r c) (λ r. First (m r) (Passes r) (Fails r)) t) (i j : ℕ)
-          → There i j → (i < row.number) ⊎ ((i ≡ row.number) × (j < row.is-bad.number)) → good i j ≡ true
+          → There i j → (i < row.number) ⊎ ((i ≡ row.number) × (j < row.is_bad.number)) → good i j ≡ true
       before row i j y (inl b) = row.fine_before i (inside i j y).0.0 b j (inside i j y).1 y
-      before row i j y (inr b) = rw b.0 (row.is-bad.fine_before j (inside i j y).1.0 b.1 (rw b.0 at y))
+      before row i j y (inr b) = rw b.0 (row.is_bad.fine_before j (inside i j y).1.0 b.1 (rw b.0 at y))
 
       go : {t : Answered Unit}
           → Seen ((r : ℕ) → Line n r → (c : ℕ) → Line (m r) c → Passes r c)
           (First n (λ r. (c : ℕ) → Line (m r) c → Passes r c) (λ r. First (m r) (Passes r) (Fails r))) t
           → Searched There good number t
-      go (fine f) = all-good (λ i j y. f i (inside i j y).0 j (inside i j y).1 y)
+      go (fine f) = all_good (λ i j y. f i (inside i j y).0 j (inside i j y).1 y)
       go (bad row) =
-          let column = row.is-bad in
-          rw column.is-bad.2 (first-bad row.number column.number column.is-bad.0 column.is-bad.1 (before row))
+          let column = row.is_bad in
+          rw column.is_bad.2 (first_bad row.number column.number column.is_bad.0 column.is_bad.1 (before row))
 
   -- one place, by its test
   pub place : (r c : ℕ) → There r c → (b : Bool) → good r c ≡ b → AtPlace r c (cond b (given tt) (refused number (r ∷ c ∷ [])))

@@ -11,46 +11,46 @@ use lib.Dec.{ltb}
 use Rattle.refusal.specs.declared.Refusal.{Refusal}
 use Rattle.refusal.specs.Answers.{Answered, given, refused, or_else, row, table, first}
 
-abbrev isGiven : {A : Type 0} → Answered A → Bool
-isGiven (given x) = true
-isGiven (refused k values) = false
+abbrev is_given : {A : Type 0} → Answered A → Bool
+is_given (given x) = true
+is_given (refused k values) = false
 
-pub refused-given : {A B : Type 0} {k : ℕ} {values : List ℕ} {x : B} → ◌≡◌ {A = Answered B} (refused k values) (given x) → A
-refused-given e = absurd (true≢false (sym (ap isGiven e)))
+pub refused_given : {A B : Type 0} {k : ℕ} {values : List ℕ} {x : B} → ◌≡◌ {A = Answered B} (refused k values) (given x) → A
+refused_given e = absurd (true≢false (sym (ap is_given e)))
 
 -- neither of two answers is a refusal
-pub both-given : (a b : Answered Unit) → or_else a b ≡ given tt → (a ≡ given tt) × (b ≡ given tt)
-both-given (given tt) b e = (refl, e)
-both-given (refused k values) b e = refused-given e
+pub both_given : (a b : Answered Unit) → or_else a b ≡ given tt → (a ≡ given tt) × (b ≡ given tt)
+both_given (given tt) b e = (refl, e)
+both_given (refused k values) b e = refused_given e
 
 -- ---- rows
-pub row-given : (b : Bool) (r : Refusal) → row b r ≡ given tt → b ≡ false
-row-given true r e = refused-given e
-row-given false r e = refl
+pub row_given : (b : Bool) (r : Refusal) → row b r ≡ given tt → b ≡ false
+row_given true r e = refused_given e
+row_given false r e = refl
 
 pub of_test : (b : Bool) (a : Answered Unit) → (a ≡ given tt → b ≡ true) → cond b (given tt) a ≡ given tt → b ≡ true
 of_test true a f e = refl
 of_test false a f e = f e
 
-pub else-else : (a b c : Answered Unit) → or_else (or_else a b) c ≡ or_else a (or_else b c)
-else-else (given x) b c = refl
-else-else (refused k values) b c = refl
+pub else_else : (a b c : Answered Unit) → or_else (or_else a b) c ≡ or_else a (or_else b c)
+else_else (given x) b c = refl
+else_else (refused k values) b c = refl
 
 -- the last row
-pub else-none : (a : Answered Unit) → or_else a (given tt) ≡ a
-else-none (given x) = refl
-else-none (refused k values) = refl
+pub else_none : (a : Answered Unit) → or_else a (given tt) ≡ a
+else_none (given x) = refl
+else_none (refused k values) = refl
 
 -- a table under another
-pub table-joined : (rows more : List (Answered Unit)) → table (rows ++ more) ≡ or_else (table rows) (table more)
-table-joined [] more = refl
-table-joined (a ∷ rows) more = ap (or_else a) (table-joined rows more) ∙ sym (else-else a (table rows) (table more))
+pub table_joined : (rows more : List (Answered Unit)) → table (rows ++ more) ≡ or_else (table rows) (table more)
+table_joined [] more = refl
+table_joined (a ∷ rows) more = ap (or_else a) (table_joined rows more) ∙ sym (else_else a (table rows) (table more))
 
 -- ---- the first of many, as a loop finds it
 module _ (g : ℕ → Answered Unit) where
-  pub first-none : first 0 g ≡ given tt
+  pub first_none : first 0 g ≡ given tt
   unfolding first
-  first-none = refl
+  first_none = refl
 
   next : (i : ℕ) → first i g ≡ given tt → g (suc i) ≡ given tt → first (suc i) g ≡ given tt
   unfolding first
@@ -76,10 +76,10 @@ module _ (g : ℕ → Answered Unit) where
   first_fine (suc n) h = let s : n + 1 ≡ suc n = omega arith in next n (first_fine n (λ k b. h k (omega arith))) (ap g (sym s) ∙ h n (omega arith))
 
 -- none of them is a refusal
-pub each-given : (g : ℕ → Answered Unit) (n : ℕ) → first n g ≡ given tt → (r : ℕ) → (1 ≤ r) × (r ≤ n) → g r ≡ given tt
+pub each_given : (g : ℕ → Answered Unit) (n : ℕ) → first n g ≡ given tt → (r : ℕ) → (1 ≤ r) × (r ≤ n) → g r ≡ given tt
 unfolding first
-each-given g zero e r h = absurd (omega arith)
-each-given g (suc n) e r h = let w = both-given (first n g) (g (suc n)) e in go (ltb r (suc n)) refl w (λ k. each-given g n w.0 r k)
+each_given g zero e r h = absurd (omega arith)
+each_given g (suc n) e r h = let w = both_given (first n g) (g (suc n)) e in go (ltb r (suc n)) refl w (λ k. each_given g n w.0 r k)
   where
     go : (b : Bool) → ltb r (suc n) ≡ b → (first n g ≡ given tt) × (g (suc n) ≡ given tt) → ((1 ≤ r) × (r ≤ n) → g r ≡ given tt) → g r ≡ given tt
     go true z w below = let o : r < suc n = ltb-true _ _ z in below (h.0, omega arith)

@@ -10,13 +10,13 @@ pub data Answered (A : Type 0) : Type 0 where
   given : A → Answered A
   refused : ℕ → List ℕ → Answered A
 
-abbrev pub refusedBy : {A : Type 0} → Refusal → Answered A
-refusedBy r = refused (number_of r) (values_of r)
+abbrev pub refused_by : {A : Type 0} → Refusal → Answered A
+refused_by r = refused (number_of r) (values_of r)
 
 -- An answer that gives no value of its own gives the unit value.
 abbrev pub answered : Answer → Answered Unit
 answered Accepted = given tt
-answered (Refused r) = refusedBy r
+answered (Refused r) = refused_by r
 
 -- ---- from one answer to another
 -- The same with the value x.
@@ -25,14 +25,14 @@ giving x (given y) = given x
 giving x (refused k values) = refused k values
 
 -- The value that is given, or another.
-abbrev pub valueOr : {A : Type 0} → Answered A → A → A
-valueOr (given x) y = x
-valueOr (refused k values) y = y
+abbrev pub value_or : {A : Type 0} → Answered A → A → A
+value_or (given x) y = x
+value_or (refused k values) y = y
 
 -- What comes of a call: o where nothing is refused, and otherwise what its refusal leaves.
-abbrev pub unlessRefused : {A B O : Type 0} → Answered A → O → (Answered B → O) → O
-unlessRefused (given x) o left = o
-unlessRefused (refused k values) o left = left (refused k values)
+abbrev pub unless_refused : {A B O : Type 0} → Answered A → O → (Answered B → O) → O
+unless_refused (given x) o left = o
+unless_refused (refused k values) o left = left (refused k values)
 
 -- ---- tables
 -- The first of two answers that is a refusal.
@@ -42,7 +42,7 @@ or_else (refused k values) b = refused k values
 
 -- A row of a table: a refusal under a condition.
 abbrev pub row : Bool → Refusal → Answered Unit
-row b r = cond b (refusedBy r) (given tt)
+row b r = cond b (refused_by r) (given tt)
 
 -- The first row that refuses.
 abbrev pub table : List (Answered Unit) → Answered Unit

@@ -6,25 +6,25 @@ use Rattle.refusal.specs.declared.Place.{Place}
 use Rattle.refusal.specs.declared.Place.TheVariants.{Nowhere, At}
 
 -- The number of each refusal, and the values beside it: 1 to 9 by document 01's table, 10 by document 02 (viii).
-abbrev pub numberAndValues : Refusal → ℕ × List ℕ
-numberAndValues Order = (1, [])
-numberAndValues Sweeps = (2, [])
-numberAndValues Length = (3, [])
-numberAndValues Code = (4, [])
-numberAndValues (NotFinite row column) = (5, row ∷ column ∷ [])
-numberAndValues (NotMirrored row column) = (6, row ∷ column ∷ [])
-numberAndValues TooShort = (7, [])
-numberAndValues Spoiled = (8, [])
-numberAndValues NoRoot = (9, [])
-numberAndValues SharedCode = (10, [])
+abbrev pub number_and_values : Refusal → ℕ × List ℕ
+number_and_values Order = (1, [])
+number_and_values Sweeps = (2, [])
+number_and_values Length = (3, [])
+number_and_values Code = (4, [])
+number_and_values (NotFinite row column) = (5, row ∷ column ∷ [])
+number_and_values (NotMirrored row column) = (6, row ∷ column ∷ [])
+number_and_values TooShort = (7, [])
+number_and_values Spoiled = (8, [])
+number_and_values NoRoot = (9, [])
+number_and_values SharedCode = (10, [])
 
 abbrev pub number_of : Refusal → ℕ
-number_of r = (numberAndValues r).0
+number_of r = (number_and_values r).0
 
 abbrev pub values_of : Refusal → List ℕ
-values_of r = (numberAndValues r).1
+values_of r = (number_and_values r).1
 
 -- The values of a place: a row and a column, or none.
-abbrev pub placeValues : Place → List ℕ
-placeValues Nowhere = []
-placeValues (At row column) = row ∷ column ∷ []
+abbrev pub place_values : Place → List ℕ
+place_values Nowhere = []
+place_values (At row column) = row ∷ column ∷ []

@@ -1,7 +1,7 @@
 #![tactic(auto)]
 // The refusals of document 01, "Refused, by place", and of document 02.
 ghost use Rattle.std.specs.Prelude.{◌≡◌};
-ghost use Rattle.refusal.specs.Refusal.{number_of, values_of, placeValues};
+ghost use Rattle.refusal.specs.Refusal.{number_of, values_of, place_values};
 
 // 5 and 6 carry the row and the column, from 1, of the entry that is refused.
 #[derive(Clone, Copy)]
@@ -52,7 +52,7 @@ pub fn number(refusal: Refusal) -> u8
 
 // The place that the refusal carries.
 pub fn place_of(refusal: Refusal) -> Place
-    ensures { placeValues result ≡ values_of refusal }
+    ensures { place_values result ≡ values_of refusal }
 {
     match refusal {
         Refusal::Order => Place::Nowhere,

@@ -3,46 +3,46 @@ use Rattle.std.proofs.Common.{◌≡◌, zero, suc, true, false, T, sym, refl, �
 use lib.Ieee.{Float, nan, inf, fin, binary64, fits, neg, lt, eq}
 use lib.Ieee.Positive.{above}
 use Rattle.refusal.specs.declared.Refusal.TheVariants.{NoRoot}
-use Rattle.refusal.specs.Answers.{given, refusedBy}
-use Rattle.float64.specs.Values.{plusZero, finite}
-use Rattle.float64.proofs.Zeros.{below-zero, unsigned-not-below}
-use Rattle.float64.proofs.PositiveValues.{finite-positive}
-use Rattle.root.specs.Sqrt.{sqrtOf}
-use Rattle.root.proofs.CorrectRounding.{RootOf, root-of}
+use Rattle.refusal.specs.Answers.{given, refused_by}
+use Rattle.float64.specs.Values.{plus_zero, finite}
+use Rattle.float64.proofs.Zeros.{below_zero, unsigned_not_below}
+use Rattle.float64.proofs.PositiveValues.{finite_positive}
+use Rattle.root.specs.Sqrt.{sqrt_of}
+use Rattle.root.proofs.CorrectRounding.{RootOf, root_of_lem}
 
 -- ---- refused
-pub root-of-nan : sqrtOf nan ≡ refusedBy NoRoot
-unfolding sqrtOf
-root-of-nan = refl
+pub root_of_nan : sqrt_of nan ≡ refused_by NoRoot
+unfolding sqrt_of
+root_of_nan = refl
 
-refused-below : (x : Float) → above (neg x) ≡ true → sqrtOf x ≡ refusedBy NoRoot
-unfolding sqrtOf neg
-refused-below nan h = refl
-refused-below (inf true) h = refl
-refused-below (inf false) h = absurd (true≢false (sym h))
-refused-below (fin true zero e) h = absurd (true≢false (sym h))
-refused-below (fin true (suc m) e) h = refl
-refused-below (fin false m e) h = absurd (true≢false (sym h))
+refused_below : (x : Float) → above (neg x) ≡ true → sqrt_of x ≡ refused_by NoRoot
+unfolding sqrt_of neg
+refused_below nan h = refl
+refused_below (inf true) h = refl
+refused_below (inf false) h = absurd (true≢false (sym h))
+refused_below (fin true zero e) h = absurd (true≢false (sym h))
+refused_below (fin true (suc m) e) h = refl
+refused_below (fin false m e) h = absurd (true≢false (sym h))
 
-pub root_below : (x : Float) → lt x plusZero ≡ true → sqrtOf x ≡ refusedBy NoRoot
-root_below x h = refused-below x (sym (below-zero x) ∙ h)
+pub root_below : (x : Float) → lt x plus_zero ≡ true → sqrt_of x ≡ refused_by NoRoot
+root_below x h = refused_below x (sym (below_zero x) ∙ h)
 
 -- ---- every other value has a root
-given-other : (x : Float) → eq x x ≡ true → above (neg x) ≡ false → (r : Float) × (sqrtOf x ≡ given r)
-unfolding sqrtOf neg eq
-given-other nan h k = absurd (true≢false (sym h))
-given-other (inf true) h k = absurd (true≢false k)
-given-other (inf false) h k = (inf false, refl)
-given-other (fin s zero e) h k = (fin s zero e, refl)
-given-other (fin true (suc m) e) h k = absurd (true≢false (sym (lt-ltb 0 (suc m) (zero-lt-suc m)) ∙ k))
-given-other (fin false (suc m) e) h k = (_, refl)
+given_other : (x : Float) → eq x x ≡ true → above (neg x) ≡ false → (r : Float) × (sqrt_of x ≡ given r)
+unfolding sqrt_of neg eq
+given_other nan h k = absurd (true≢false (sym h))
+given_other (inf true) h k = absurd (true≢false k)
+given_other (inf false) h k = (inf false, refl)
+given_other (fin s zero e) h k = (fin s zero e, refl)
+given_other (fin true (suc m) e) h k = absurd (true≢false (sym (lt-ltb 0 (suc m) (zero-lt-suc m)) ∙ k))
+given_other (fin false (suc m) e) h k = (_, refl)
 
-pub root-other : (x : Float) → eq x x ≡ true → lt x plusZero ≡ false → (r : Float) × (sqrtOf x ≡ given r)
-root-other x h k = given-other x h (sym (below-zero x) ∙ k)
+pub root_other : (x : Float) → eq x x ≡ true → lt x plus_zero ≡ false → (r : Float) × (sqrt_of x ≡ given r)
+root_other x h k = given_other x h (sym (below_zero x) ∙ k)
 
 -- ---- of a finite value above zero, one that is not below zero
-pub root-above : (x : Float) → T (finite x) → T (fits binary64 x) → lt plusZero x ≡ true → (r : Float) × RootOf x r
-root-above x f t h = root-of x (finite-positive x t h f) t
+pub root_above : (x : Float) → T (finite x) → T (fits binary64 x) → lt plus_zero x ≡ true → (r : Float) × RootOf x r
+root_above x f t h = root_of_lem x (finite_positive x t h f) t
 
-pub root-not-below : (x r : Float) → RootOf x r → lt r plusZero ≡ false
-root-not-below x r h = unsigned-not-below r h.root.unsigned
+pub root_not_below : (x r : Float) → RootOf x r → lt r plus_zero ≡ false
+root_not_below x r h = unsigned_not_below r h.root.unsigned

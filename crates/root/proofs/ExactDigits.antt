@@ -3,16 +3,16 @@ use Rattle.std.proofs.Common.{◌≡◌, ℕ, zero, suc, ◌+◌, ◌*◌, ◌/�
 use native.Mathlib.Nat.{mul-mul-mul_comm, pow-succ'}
 use borrow.Author.Tests.{eqb-false}
 use lib.Ieee.{Float, odd}
-use Rattle.float64.specs.Units.{unitsOf}
-use Rattle.float64.proofs.Patterns.{odd-units}
-use Rattle.root.specs.Sqrt.{nearestRoot, rootUnits}
-use Rattle.root.specs.Exact.{exactUnits}
+use Rattle.float64.specs.Units.{units_of}
+use Rattle.float64.proofs.Patterns.{odd_units}
+use Rattle.root.specs.Sqrt.{nearest_root, root_units}
+use Rattle.root.specs.Exact.{exact_units}
 use Rattle.root.specs.declared.Root.{Root}
 use Rattle.root.specs.declared.Root.TheVariants.{Of}
-use Rattle.root.proofs.Squares.{twice-square, twice-next-square}
+use Rattle.root.proofs.Squares.{twice_square, twice_next_square}
 use Rattle.root.proofs.Floors.{found}
-use Rattle.root.proofs.Scales.{k_of, digitsOf, root-units-at}
-use Rattle.root.proofs.RootUnits.{exact-at}
+use Rattle.root.proofs.Scales.{k_of, digits_of, root_units_at}
+use Rattle.root.proofs.RootUnits.{exact_at}
 
 -- two tests for one fact
 pub same_test : (a b c d : ℕ) → (a ≡ b → c ≡ d) → (c ≡ d → a ≡ b) → eqb a b ≡ eqb c d
@@ -24,29 +24,29 @@ same_test a b c d f g = go (eqb a b) refl
 
 -- ---- by the leading half of the digits
 -- a number whose square is four times another is even
-half-square : (q k : ℕ) → q * q ≡ k * 4 → (q ≡ q / 2 * 2) × (q / 2 * (q / 2) ≡ k)
-half-square q k e = go (q % 2) refl
+half_square : (q k : ℕ) → q * q ≡ k * 4 → (q ≡ q / 2 * 2) × (q / 2 * (q / 2) ≡ k)
+half_square q k e = go (q % 2) refl
   where
     go : (d : ℕ) → q % 2 ≡ d → (q ≡ q / 2 * 2) × (q / 2 * (q / 2) ≡ k)
     go zero h =
         let w : q ≡ 2 * (q / 2) = omega arith in
-        let s = ap (λ (x : ℕ). x * x) w ∙ twice-square (q / 2) in
+        let s = ap (λ (x : ℕ). x * x) w ∙ twice_square (q / 2) in
         (omega arith, omega arith)
     go (suc d) h =
         let w : q ≡ 2 * (q / 2) + 1 = omega arith in
-        let s = ap (λ (x : ℕ). x * x) w ∙ twice-next-square (q / 2) in
+        let s = ap (λ (x : ℕ). x * x) w ∙ twice_next_square (q / 2) in
         absurd (omega arith)
 
-root-part : (j q k : ℕ) → q * q ≡ k * 4 ^ j → (c : ℕ) × ((q ≡ c * 2 ^ j) × (c * c ≡ k))
-root-part zero q k e = (q, (sym (mul-one q), e ∙ mul-one k))
-root-part (suc j) q k e =
-    let i = root-part j q (k * 4) (e ∙ ap (λ (x : ℕ). k * x) (pow-succ' 4 j) ∙ sym (mul_assoc k 4 (4 ^ j))) in
-    let h = half-square i.0 k i.1.1 in
+root_part : (j q k : ℕ) → q * q ≡ k * 4 ^ j → (c : ℕ) × ((q ≡ c * 2 ^ j) × (c * c ≡ k))
+root_part zero q k e = (q, (sym (mul-one q), e ∙ mul-one k))
+root_part (suc j) q k e =
+    let i = root_part j q (k * 4) (e ∙ ap (λ (x : ℕ). k * x) (pow-succ' 4 j) ∙ sym (mul_assoc k 4 (4 ^ j))) in
+    let h = half_square i.0 k i.1.1 in
     (i.0 / 2, (i.1.0 ∙ ap (λ (x : ℕ). x * 2 ^ j) h.0 ∙ mul_assoc (i.0 / 2) 2 (2 ^ j) ∙ ap (λ (x : ℕ). i.0 / 2 * x) (sym (pow-succ' 2 j)), h.1))
 
 -- q, the whole number nearest to the root of k * 2 ^ 52, is that root exactly where k is the square of q / 2 ^ 26
-pub leading-half : (k q : ℕ) → 2 ^ 52 ≤ k → k < 2 ^ 54 → q ≡ nearestRoot (k * 2 ^ 52) → eqb (q / 2 ^ 26 * (q / 2 ^ 26)) k ≡ eqb (q * q) (k * 2 ^ 52)
-leading-half k q lo hi n = same_test (q / 2 ^ 26 * (q / 2 ^ 26)) k (q * q) (k * 2 ^ 52) (whole (q / 2 ^ 26)) back
+pub leading_half : (k q : ℕ) → 2 ^ 52 ≤ k → k < 2 ^ 54 → q ≡ nearest_root (k * 2 ^ 52) → eqb (q / 2 ^ 26 * (q / 2 ^ 26)) k ≡ eqb (q * q) (k * 2 ^ 52)
+leading_half k q lo hi n = same_test (q / 2 ^ 26 * (q / 2 ^ 26)) k (q * q) (k * 2 ^ 52) (whole (q / 2 ^ 26)) back
   where
     above : (a : ℕ) → 2 ^ 52 ≤ a * a → 0 < a
     above zero h = absurd (omega arith)
@@ -64,24 +64,24 @@ leading-half k q lo hi n = same_test (q / 2 ^ 26 * (q / 2 ^ 26)) k (q * q) (k * 
 
     back : q * q ≡ k * 2 ^ 52 → q / 2 ^ 26 * (q / 2 ^ 26) ≡ k
     back e =
-        let r = root-part 26 q k e in
+        let r = root_part 26 q k e in
         ap (λ (x : ℕ). x * x) (leading r.0 r.1.0) ∙ r.1.1
 
 -- ---- by units
-pub exact-units-at : (n m z : ℕ) → n * 2 ^ 53 ≡ m * 2 ^ z → 2 ^ 52 ≤ m → m < 2 ^ 53 → 1 ≤ z
-    → eqb (digitsOf m z * digitsOf m z) (k_of m z * 2 ^ 52) ≡ exactUnits n
-unfolding exactUnits
-exact-units-at n m z e lo hi p =
-    let q = digitsOf m z in
+pub exact_units_at : (n m z : ℕ) → n * 2 ^ 53 ≡ m * 2 ^ z → 2 ^ 52 ≤ m → m < 2 ^ 53 → 1 ≤ z
+    → eqb (digits_of m z * digits_of m z) (k_of m z * 2 ^ 52) ≡ exact_units n
+unfolding exact_units
+exact_units_at n m z e lo hi p =
+    let q = digits_of m z in
     let k = 484 + (z + 1) / 2 in
-    let d = exact-at n (record { m = m; z = z; is = e; m-ge = lo; m-lt = hi; z-ge = p }) in
+    let d = exact_at n (record { m = m; z = z; is = e; m_ge = lo; m_lt = hi; z_ge = p }) in
     same_test (q * q) (k_of m z * 2 ^ 52) (q * 2 ^ k * (q * 2 ^ k)) (n * 2 ^ 1074) d.0 d.1
-    ∙ ap (λ (x : ℕ). eqb (x * x) (n * 2 ^ 1074)) (sym (odd-units q k) ∙ ap unitsOf (root-units-at n m z e lo hi p))
+    ∙ ap (λ (x : ℕ). eqb (x * x) (n * 2 ^ 1074)) (sym (odd_units q k) ∙ ap units_of (root_units_at n m z e lo hi p))
 
-pub of-both : {a b : Float} {t u : Bool} → a ≡ b → t ≡ u → Of a t ≡ Of b u
-of-both f g = cc
+pub of_both : {a b : Float} {t u : Bool} → a ≡ b → t ≡ u → Of a t ≡ Of b u
+of_both f g = cc
 
 -- the root of n units with its exactness, from its digits
-pub root-at : (n m z : ℕ) → n * 2 ^ 53 ≡ m * 2 ^ z → 2 ^ 52 ≤ m → m < 2 ^ 53 → 1 ≤ z
-    → Of (odd 53 false (digitsOf m z) (484 + (z + 1) / 2) 1074) (eqb (digitsOf m z * digitsOf m z) (k_of m z * 2 ^ 52)) ≡ Of (rootUnits n) (exactUnits n)
-root-at n m z e lo hi p = of-both (root-units-at n m z e lo hi p) (exact-units-at n m z e lo hi p)
+pub root_at : (n m z : ℕ) → n * 2 ^ 53 ≡ m * 2 ^ z → 2 ^ 52 ≤ m → m < 2 ^ 53 → 1 ≤ z
+    → Of (odd 53 false (digits_of m z) (484 + (z + 1) / 2) 1074) (eqb (digits_of m z * digits_of m z) (k_of m z * 2 ^ 52)) ≡ Of (root_units n) (exact_units n)
+root_at n m z e lo hi p = of_both (root_units_at n m z e lo hi p) (exact_units_at n m z e lo hi p)

@@ -1,7 +1,7 @@
 -- Which of q - 1, q and q + 1 is the whole number nearest to the root of w, by what is left of w. Assumes nothing.
 use Rattle.std.proofs.Common.{◌≡◌, ℕ, ◌+◌, ◌-◌, ◌*◌, ◌%◌, ◌^◌, ◌<◌, ◌≤◌, Bool, true, false, not, T, ltb, subst, arith, ltb→lt, nltb→le}
 use mir.Val.{bool_byte}
-use Rattle.root.proofs.Squares.{next-square, previous-square}
+use Rattle.root.proofs.Squares.{next_square, previous_square}
 use Rattle.root.proofs.Floors.{Nearest}
 
 -- a difference that did not wrap
@@ -14,10 +14,10 @@ bit_le false = omega arith
 
 module _ (w q left : ℕ) (e : left + q * q ≡ w + 3 * q) where
   above : q * 4 < left → left ≤ q * 6 + 2 → Nearest w (q + 1)
-  above h k = let s = next-square q in (omega arith, omega arith)
+  above h k = let s = next_square q in (omega arith, omega arith)
 
   below : 1 ≤ q → 2 < left → left ≤ q * 2 → Nearest w (q - 1)
-  below p h k = let s = previous-square q p in (omega arith, omega arith)
+  below p h k = let s = previous_square q p in (omega arith, omega arith)
 
   there : q * 2 < left → left ≤ q * 4 → Nearest w q
   there h k = (omega arith, omega arith)

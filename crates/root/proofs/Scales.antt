@@ -3,28 +3,28 @@ use Rattle.std.proofs.Common.{◌≡◌, ℕ, zero, suc, ◌+◌, ◌-◌, ◌*�
 use native.Mathlib.Nat.{pow-succ'}
 use lib.Ieee.{odd, size}
 use lib.Ieee.Digits.{size-lt, size-le}
-use Rattle.float64.proofs.Grid.{power-lt-back}
-use Rattle.root.specs.Sqrt.{nearestRoot, rootUnits}
-use Rattle.root.proofs.Squares.{twice-square}
-use Rattle.root.proofs.Floors.{root-digits}
+use Rattle.float64.proofs.Grid.{power_lt_back}
+use Rattle.root.specs.Sqrt.{nearest_root, root_units}
+use Rattle.root.proofs.Squares.{twice_square}
+use Rattle.root.proofs.Floors.{root_digits}
 
 -- ---- how many digits n has
-size-at : (n m z : ℕ) → n * 2 ^ 53 ≡ m * 2 ^ z → 2 ^ 52 ≤ m → m < 2 ^ 53 → 1 ≤ z → size n ≡ z
-size-at n m z e lo hi p =
+size_at : (n m z : ℕ) → n * 2 ^ 53 ≡ m * 2 ^ z → 2 ^ 52 ≤ m → m < 2 ^ 53 → 1 ≤ z → size n ≡ z
+size_at n m z e lo hi p =
     let a : m * 2 ^ z < 2 ^ 53 * 2 ^ z = mul-lt-mul_of_pos_right hi (pow_pos z) in
     let b : 2 ^ 52 * 2 ^ z ≤ m * 2 ^ z = mul-le-mul_right (2 ^ z) lo in
     let c : size n ≤ z = size-le n z (omega arith) in
     let t : 2 ^ z ≡ 2 * 2 ^ (z - 1) = ap (λ (x : ℕ). 2 ^ x) (next z p) ∙ pow-succ' 2 (z - 1) in
-    let d : z - 1 < size n = power-lt-back (z - 1) (size n) (let s = size-lt n in omega arith) in
+    let d : z - 1 < size n = power_lt_back (z - 1) (size n) (let s = size-lt n in omega arith) in
     omega arith
   where
     next : (z : ℕ) → 1 ≤ z → z ≡ suc (z - 1)
     next z h = omega arith
 
 -- ---- w = n * 4 ^ 53 / 4 ^ h is k * 2 ^ 52
-pub four-power : (h : ℕ) → 4 ^ h ≡ 2 ^ h * 2 ^ h
-four-power zero = refl
-four-power (suc h) = pow-succ' 4 h ∙ ap (λ (x : ℕ). 4 * x) (four-power h) ∙ sym (twice-square (2 ^ h)) ∙ ap (λ (x : ℕ). x * x) (sym (pow-succ' 2 h))
+pub four_power : (h : ℕ) → 4 ^ h ≡ 2 ^ h * 2 ^ h
+four_power zero = refl
+four_power (suc h) = pow-succ' 4 h ∙ ap (λ (x : ℕ). 4 * x) (four_power h) ∙ sym (twice_square (2 ^ h)) ∙ ap (λ (x : ℕ). x * x) (sym (pow-succ' 2 h))
 
 abbrev pub k_of : ℕ → ℕ → ℕ
 k_of m z = m * (2 - z % 2)
@@ -38,8 +38,8 @@ parity z = go (z % 2) (omega arith)
     go (suc zero) l = refl
     go (suc (suc d)) l = absurd (omega arith)
 
-pub scaled-by-four : (n m z : ℕ) → n * 2 ^ 53 ≡ m * 2 ^ z → n * 4 ^ 53 ≡ k_of m z * 2 ^ 52 * 4 ^ ((z + 1) / 2)
-scaled-by-four n m z e =
+pub scaled_by_four : (n m z : ℕ) → n * 2 ^ 53 ≡ m * 2 ^ z → n * 4 ^ 53 ≡ k_of m z * 2 ^ 52 * 4 ^ ((z + 1) / 2)
+scaled_by_four n m z e =
     let h = (z + 1) / 2 in
     sym (mul_assoc n (2 ^ 53) (2 ^ 53))
     ∙ ap (λ (x : ℕ). x * 2 ^ 53) e
@@ -49,13 +49,13 @@ scaled-by-four n m z e =
     ∙ ap (λ (x : ℕ). x * 2 ^ (h + h)) (pow-add 2 (1 - z % 2) 52))
     ∙ sym (mul_assoc m (2 ^ (1 - z % 2) * 2 ^ 52) (2 ^ (h + h)))
     ∙ ap (λ (x : ℕ). x * 2 ^ (h + h)) (sym (mul_assoc m (2 ^ (1 - z % 2)) (2 ^ 52)) ∙ ap (λ (x : ℕ). m * x * 2 ^ 52) (sym (parity z)))
-    ∙ ap (λ (x : ℕ). k_of m z * 2 ^ 52 * x) (pow-add 2 h h ∙ sym (four-power h))
+    ∙ ap (λ (x : ℕ). k_of m z * 2 ^ 52 * x) (pow-add 2 h h ∙ sym (four_power h))
   where
     sums : (z : ℕ) → z + 53 ≡ 1 - z % 2 + 52 + ((z + 1) / 2 + (z + 1) / 2)
     sums z = omega arith
 
-four-above : (h : ℕ) → 0 < 4 ^ h
-four-above h = subst (λ (x : ℕ). 0 < x) (pow-add 2 h h ∙ sym (four-power h)) (pow_pos (h + h))
+four_above : (h : ℕ) → 0 < 4 ^ h
+four_above h = subst (λ (x : ℕ). 0 < x) (pow-add 2 h h ∙ sym (four_power h)) (pow_pos (h + h))
 
 pub wide : (m z : ℕ) → 2 ^ 52 ≤ m → m < 2 ^ 53 → (2 ^ 52 ≤ k_of m z) × (k_of m z + 2 ≤ 2 ^ 54)
 wide m z lo hi = go (2 - z % 2) (omega arith) (omega arith)
@@ -67,43 +67,43 @@ wide m z lo hi = go (2 - z % 2) (omega arith) (omega arith)
     go (suc (suc (suc d))) l u = absurd (omega arith)
 
 -- ---- the digits of the root
-abbrev pub digitsOf : ℕ → ℕ → ℕ
-digitsOf m z = nearestRoot (k_of m z * 2 ^ 52)
+abbrev pub digits_of : ℕ → ℕ → ℕ
+digits_of m z = nearest_root (k_of m z * 2 ^ 52)
 
-pub digits53 : (m z : ℕ) → 2 ^ 52 ≤ m → m < 2 ^ 53 → (2 ^ 52 ≤ digitsOf m z) × (digitsOf m z < 2 ^ 53)
-digits53 m z lo hi = let b = wide m z lo hi in root-digits (k_of m z) b.0 b.1
+pub digits53 : (m z : ℕ) → 2 ^ 52 ≤ m → m < 2 ^ 53 → (2 ^ 52 ≤ digits_of m z) × (digits_of m z < 2 ^ 53)
+digits53 m z lo hi = let b = wide m z lo hi in root_digits (k_of m z) b.0 b.1
 
-pub root-units-at : (n m z : ℕ) → n * 2 ^ 53 ≡ m * 2 ^ z → 2 ^ 52 ≤ m → m < 2 ^ 53 → 1 ≤ z → odd 53 false (digitsOf m z) (484 + (z + 1) / 2) 1074 ≡ rootUnits n
-unfolding rootUnits
-root-units-at n m z e lo hi p =
-    sym (ap (λ (x : ℕ). odd 53 false (nearestRoot (n * 4 ^ 53 / 4 ^ ((x + 1) / 2))) (484 + (x + 1) / 2) 1074) (size-at n m z e lo hi p)
-    ∙ ap (λ (x : ℕ). odd 53 false (nearestRoot x) (484 + (z + 1) / 2) 1074)
-    (ap (λ (x : ℕ). x / 4 ^ ((z + 1) / 2)) (scaled-by-four n m z e) ∙ mul-div_cancel (k_of m z * 2 ^ 52) (four-above ((z + 1) / 2))))
+pub root_units_at : (n m z : ℕ) → n * 2 ^ 53 ≡ m * 2 ^ z → 2 ^ 52 ≤ m → m < 2 ^ 53 → 1 ≤ z → odd 53 false (digits_of m z) (484 + (z + 1) / 2) 1074 ≡ root_units n
+unfolding root_units
+root_units_at n m z e lo hi p =
+    sym (ap (λ (x : ℕ). odd 53 false (nearest_root (n * 4 ^ 53 / 4 ^ ((x + 1) / 2))) (484 + (x + 1) / 2) 1074) (size_at n m z e lo hi p)
+    ∙ ap (λ (x : ℕ). odd 53 false (nearest_root x) (484 + (z + 1) / 2) 1074)
+    (ap (λ (x : ℕ). x / 4 ^ ((z + 1) / 2)) (scaled_by_four n m z e) ∙ mul-div_cancel (k_of m z * 2 ^ 52) (four_above ((z + 1) / 2))))
 
 -- ---- bringing the digits of n to the top, one place a turn
 pub record Raising (n m z : ℕ) : Type 0 where
   pub value : n * 2 ^ 53 ≡ m * 2 ^ z
-  pub z-ge : 1 ≤ z
-  pub z-le : z ≤ 53
-  pub m-lt : m < 2 ^ 53
+  pub z_ge : 1 ≤ z
+  pub z_le : z ≤ 53
+  pub m_lt : m < 2 ^ 53
 
-pub raising-start : (n : ℕ) → n < 2 ^ 52 → Raising n n 53
-raising-start n h = record { value = refl; z-ge = omega arith; z-le = omega arith; m-lt = omega arith }
+pub raising_start : (n : ℕ) → n < 2 ^ 52 → Raising n n 53
+raising_start n h = record { value = refl; z_ge = omega arith; z_le = omega arith; m_lt = omega arith }
 
-pub raising-more : (n m z : ℕ) → 0 < n → m < 2 ^ 52 → Raising n m z → 2 ≤ z
-raising-more n m z h l r = unless (λ e. let v : n * 2 ^ 53 ≡ m * 2 = r.value ∙ ap (λ (x : ℕ). m * 2 ^ x) e in omega arith)
+pub raising_more : (n m z : ℕ) → 0 < n → m < 2 ^ 52 → Raising n m z → 2 ≤ z
+raising_more n m z h l r = unless (λ e. let v : n * 2 ^ 53 ≡ m * 2 = r.value ∙ ap (λ (x : ℕ). m * 2 ^ x) e in omega arith)
   where
     unless : (z ≡ 1 → ⊥) → 2 ≤ z
     unless f = omega arith
 
-pub raising-next : (n m z : ℕ) → 0 < n → m < 2 ^ 52 → Raising n m z → Raising n (m * 2) (z - 1)
-raising-next n m z h l r =
-    let g = raising-more n m z h l r in
+pub raising_next : (n m z : ℕ) → 0 < n → m < 2 ^ 52 → Raising n m z → Raising n (m * 2) (z - 1)
+raising_next n m z h l r =
+    let g = raising_more n m z h l r in
     record {
       value = r.value ∙ ap (λ (x : ℕ). m * 2 ^ x) next ∙ ap (λ (x : ℕ). m * x) (pow-succ' 2 (z - 1)) ∙ sym (mul_assoc m 2 (2 ^ (z - 1)));
-      z-ge = omega arith;
-      z-le = omega arith;
-      m-lt = omega arith;
+      z_ge = omega arith;
+      z_le = omega arith;
+      m_lt = omega arith;
     }
   where
     next : z ≡ suc (z - 1)

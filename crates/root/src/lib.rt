@@ -5,9 +5,9 @@ mod whole;
 ghost use Rattle.std.specs.Prelude.{◌≡◌, ◌+◌, ◌*◌, ◌^◌, ◌<◌, ◌≤◌, false, ◌==◌, from_bits};
 ghost use Rattle.std.specs.Float.{binary64};
 ghost use Rattle.std.specs.Float.Ieee.{odd};
-ghost use Rattle.float64.specs.Units.{unitsOf};
-ghost use Rattle.root.specs.Sqrt.{nearestRoot, rootUnits};
-ghost use Rattle.root.specs.Exact.{exactUnits, sqrtAnswer, rootAnswered};
+ghost use Rattle.float64.specs.Units.{units_of};
+ghost use Rattle.root.specs.Sqrt.{nearest_root, root_units};
+ghost use Rattle.root.specs.Exact.{exact_units, sqrt_answer, root_answered};
 ghost use Rattle.root.specs.declared.Root.TheVariants.{Of};
 
 use refusal::Refusal;
@@ -21,7 +21,7 @@ pub enum Root {
 
 // The square root of x.
 pub fn sqrt(x: f64) -> Root
-    ensures { rootAnswered result ≡ sqrtAnswer x }
+    ensures { root_answered result ≡ sqrt_answer x }
 {
     if x > 0.0 {
         let b = f64::to_bits(x);
@@ -40,7 +40,7 @@ pub fn sqrt(x: f64) -> Root
 // m * 2^z / 2^53 units.
 fn positive(b: u64) -> Root
     requires { (0 < b) × (b < 0x7ff0_0000_0000_0000) }
-    ensures { result ≡ Of (rootUnits (unitsOf (from_bits binary64 b))) (exactUnits (unitsOf (from_bits binary64 b))) }
+    ensures { result ≡ Of (root_units (units_of (from_bits binary64 b))) (exact_units (units_of (from_bits binary64 b))) }
 {
     let field = b / 0x10_0000_0000_0000;
     if field == 0 {
@@ -54,7 +54,7 @@ fn positive(b: u64) -> Root
 // The root of b units, below the smallest normal value: the digits are brought to the top first.
 fn subnormal(b: u64) -> Root
     requires { (0 < b) × (b < 2 ^ 52) }
-    ensures { result ≡ Of (rootUnits b) (exactUnits b) }
+    ensures { result ≡ Of (root_units b) (exact_units b) }
 {
     let mut m = b;
     let mut z: u64 = 53;
@@ -72,8 +72,8 @@ fn subnormal(b: u64) -> Root
 // The nearest root of k * 2^52, times 2^(484 + h) units. It is looked for near g.
 fn scaled(k: u64, h: u64, g: u64) -> Root
     requires { (2 ^ 52 ≤ k) × (k + 2 ≤ 2 ^ 54) × (h ≤ 1049) × (2 ^ 52 ≤ g) × (g < 2 ^ 53) }
-    ensures { result ≡ Of (odd 53 false (nearestRoot (k * 2 ^ 52)) (484 + h) 1074)
-        (nearestRoot (k * 2 ^ 52) * nearestRoot (k * 2 ^ 52) == k * 2 ^ 52) }
+    ensures { result ≡ Of (odd 53 false (nearest_root (k * 2 ^ 52)) (484 + h) 1074)
+        (nearest_root (k * 2 ^ 52) * nearest_root (k * 2 ^ 52) == k * 2 ^ 52) }
 {
     let q = whole::nearest_root(k, g);
     let exact = whole::is_exact(k, q);

@@ -1,6 +1,6 @@
 // Square roots of whole numbers: of w = k * 2^52, which has 105 or 106 binary digits.
 ghost use Rattle.std.specs.Prelude.{◌≡◌, ◌+◌, ◌*◌, ◌^◌, ◌<◌, ◌≤◌, ◌==◌};
-ghost use Rattle.root.specs.Sqrt.{nearestRoot};
+ghost use Rattle.root.specs.Sqrt.{nearest_root};
 
 use std::num::wrapping_sub_u64;
 
@@ -8,7 +8,7 @@ use std::num::wrapping_sub_u64;
 // found there it is worked out digit by digit.
 pub fn nearest_root(k: u64, g: u64) -> u64
     requires { (2 ^ 52 ≤ k) × (k < 2 ^ 54) × (2 ^ 52 ≤ g) × (g < 2 ^ 53) }
-    ensures { result ≡ nearestRoot (k * 2 ^ 52) }
+    ensures { result ≡ nearest_root (k * 2 ^ 52) }
 {
     let q = settle(k, g);
     if q > 0 {
@@ -20,7 +20,7 @@ pub fn nearest_root(k: u64, g: u64) -> u64
 // Whether the whole number q nearest to the root of k * 2^52 is that root. Then q ends in 26 zeros, and k is the square
 // of the digits before them.
 pub fn is_exact(k: u64, q: u64) -> bool
-    requires { (2 ^ 52 ≤ k) × (k < 2 ^ 54) × (q < 2 ^ 53) × (q ≡ nearestRoot (k * 2 ^ 52)) }
+    requires { (2 ^ 52 ≤ k) × (k < 2 ^ 54) × (q < 2 ^ 53) × (q ≡ nearest_root (k * 2 ^ 52)) }
     ensures { result ≡ (q * q == k * 2 ^ 52) }
 {
     let a = q / 0x400_0000;
@@ -30,7 +30,7 @@ pub fn is_exact(k: u64, q: u64) -> bool
 // The nearest whole number to the root of k * 2^52 if it is q or beside q, and otherwise 0.
 fn settle(k: u64, q: u64) -> u64
     requires { (2 ^ 52 ≤ k) × (k < 2 ^ 54) × (2 ^ 52 ≤ q) × (q < 2 ^ 53) }
-    ensures { 0 < result → result ≡ nearestRoot (k * 2 ^ 52) }
+    ensures { 0 < result → result ≡ nearest_root (k * 2 ^ 52) }
 {
     let left = remainder(k, q);
     if left >= q * 6 {

@@ -6,17 +6,17 @@ use native.Mathlib.Nat.{le_refl}
 use lib.Dec.{T, lit<, lit≤}
 use lib.Ieee.{Float, nan, binary64, fits, neg, add, mul, div, sub, lt, of_bits}
 use lib.Ieee.Fits.{add-fits}
-use Rattle.refusal.specs.Answers.{Answered, given, valueOr}
-use Rattle.float64.specs.Values.{plusZero, one, two, finite, is_zero, magnitude}
-use Rattle.float64.proofs.Grid.{power-grid}
-use Rattle.float64.proofs.Bounds.{AtMost, AtLeast, Number, bounded-finite, bounded-number, add-at-least, mul-at-most, div-at-most, square-at-least, div-number}
-use Rattle.float64.proofs.HalfDifferences.{half-difference}
-use Rattle.root.specs.Sqrt.{sqrtOf}
-use Rattle.root.proofs.RootBounds.{root-at-least}
+use Rattle.refusal.specs.Answers.{Answered, given, value_or}
+use Rattle.float64.specs.Values.{plus_zero, one, two, finite, is_zero, magnitude}
+use Rattle.float64.proofs.Grid.{power_grid}
+use Rattle.float64.proofs.Bounds.{AtMost, AtLeast, Number, bounded_finite, bounded_number, add_at_least, mul_at_most, div_at_most, square_at_least, div_number}
+use Rattle.float64.proofs.HalfDifferences.{half_difference}
+use Rattle.root.specs.Sqrt.{sqrt_of}
+use Rattle.root.proofs.RootBounds.{root_at_least}
 use Rattle.rotation.specs.declared.Parameters.{Parameters}
 use Rattle.rotation.specs.declared.Parameters.TheVariants.{Still, Turn}
-use Rattle.rotation.specs.Rotation.{rootOf, signum, tangentOf, cosineOf, quotient, tangentOfPair, ofAngle, ofTangent, ofPair}
-use Rattle.rotation.specs.Exact.{underRoot}
+use Rattle.rotation.specs.Rotation.{root_of, signum, tangent_of, cosine_of, quotient, tangent_of_pair, of_angle, of_tangent, of_pair}
+use Rattle.rotation.specs.Exact.{under_root}
 
 -- at most 1, which is 2 ^ 1074 units, and at least 1
 abbrev pub UpToOne : Float → Type 0
@@ -25,49 +25,49 @@ UpToOne x = AtMost (2 ^ 1074) x
 abbrev pub FromOne : Float → Type 0
 FromOne x = AtLeast (2 ^ 1074) x
 
-one-up-to : UpToOne one
+one_up_to : UpToOne one
 unfolding of_bits
-one-up-to = lit≤ tt
+one_up_to = lit≤ tt
 
 one_from : FromOne one
 unfolding of_bits
 one_from = (refl, lit≤ tt)
 
-signum-up-to : (ξ : Float) → UpToOne (signum ξ)
+signum_up_to : (ξ : Float) → UpToOne (signum ξ)
 unfolding signum neg of_bits
-signum-up-to ξ = go (lt ξ plusZero)
+signum_up_to ξ = go (lt ξ plus_zero)
   where
     go : (b : Bool) → UpToOne (cond b (neg one) one)
     go true = lit≤ tt
     go false = lit≤ tt
 
 -- 1 + x * x, and its root
-pub under-root-from : (x : Float) → Number x → FromOne (underRoot x)
-under-root-from x h = add-at-least (2 ^ 1074) 0 (power-grid 1074) (lit< tt) one (mul binary64 x x) one_from (square-at-least x h)
+pub under_root_from : (x : Float) → Number x → FromOne (under_root x)
+under_root_from x h = add_at_least (2 ^ 1074) 0 (power_grid 1074) (lit< tt) one (mul binary64 x x) one_from (square_at_least x h)
 
-pub given-root : (x r : Float) → sqrtOf x ≡ given r → r ≡ rootOf x
-unfolding rootOf
-given-root x r e = sym (ap (λ (y : Answered Float). valueOr y nan) e)
+pub given_root : (x r : Float) → sqrt_of x ≡ given r → r ≡ root_of x
+unfolding root_of
+given_root x r e = sym (ap (λ (y : Answered Float). value_or y nan) e)
 
-secant-from : (x : Float) → Number x → FromOne (rootOf (underRoot x))
-secant-from x h =
-    let w = root-at-least (2 ^ 1074) (2 ^ 1074) (power-grid 1074) (lit< tt) (le_refl _) (underRoot x) (add-fits binary64 one (mul binary64 x x))
-    (under-root-from x h) in
-    subst FromOne (given-root (underRoot x) w.0 w.1) w.2
+secant_from : (x : Float) → Number x → FromOne (root_of (under_root x))
+secant_from x h =
+    let w = root_at_least (2 ^ 1074) (2 ^ 1074) (power_grid 1074) (lit< tt) (le_refl _) (under_root x) (add-fits binary64 one (mul binary64 x x))
+    (under_root_from x h) in
+    subst FromOne (given_root (under_root x) w.0 w.1) w.2
 
 -- a value up to 1 by one from 1 on
 by_one : (x y : Float) → UpToOne x → FromOne y → UpToOne (div binary64 x y)
-by_one x y h k = div-at-most (2 ^ 1074) (2 ^ 1074) (2 ^ 1074) (power-grid 1074) (lit< tt) x y (lit< tt) (le_refl _) h k
+by_one x y h k = div_at_most (2 ^ 1074) (2 ^ 1074) (2 ^ 1074) (power_grid 1074) (lit< tt) x y (lit< tt) (le_refl _) h k
 
-pub tangent-up-to : (ξ : Float) → Number ξ → UpToOne (tangentOf ξ)
-unfolding tangentOf
-tangent-up-to ξ h =
-    by_one (signum ξ) (add binary64 (magnitude ξ) (rootOf (add binary64 one (mul binary64 ξ ξ)))) (signum-up-to ξ)
-    (add-at-least 0 (2 ^ 1074) (power-grid 1074) (lit< tt) (magnitude ξ) _ h (secant-from ξ h))
+pub tangent_up_to : (ξ : Float) → Number ξ → UpToOne (tangent_of ξ)
+unfolding tangent_of
+tangent_up_to ξ h =
+    by_one (signum ξ) (add binary64 (magnitude ξ) (root_of (add binary64 one (mul binary64 ξ ξ)))) (signum_up_to ξ)
+    (add_at_least 0 (2 ^ 1074) (power_grid 1074) (lit< tt) (magnitude ξ) _ h (secant_from ξ h))
 
-pub cosine-up-to : (t : Float) → UpToOne t → UpToOne (cosineOf t)
-unfolding cosineOf
-cosine-up-to t h = by_one one (rootOf (add binary64 one (mul binary64 t t))) one-up-to (secant-from t (bounded-number (2 ^ 1074) t h))
+pub cosine_up_to : (t : Float) → UpToOne t → UpToOne (cosine_of t)
+unfolding cosine_of
+cosine_up_to t h = by_one one (root_of (add binary64 one (mul binary64 t t))) one_up_to (secant_from t (bounded_number (2 ^ 1074) t h))
 
 -- ---- the parameters of a pair
 abbrev pub AllUpToOne : Parameters → Type 0
@@ -78,32 +78,32 @@ abbrev pub AllFinite : Parameters → Type 0
 AllFinite Still = Unit
 AllFinite (Turn t c s) = (finite t ≡ true) × (finite c ≡ true) × (finite s ≡ true)
 
-of-tangent-up-to : (t : Float) → UpToOne t → AllUpToOne (ofTangent t)
-unfolding ofTangent ofAngle
-of-tangent-up-to t h = go (is_zero t)
+of_tangent_up_to : (t : Float) → UpToOne t → AllUpToOne (of_tangent t)
+unfolding of_tangent of_angle
+of_tangent_up_to t h = go (is_zero t)
   where
-    go : (z : Bool) → AllUpToOne (cond z Still (Turn t (cosineOf t) (mul binary64 t (cosineOf t))))
+    go : (z : Bool) → AllUpToOne (cond z Still (Turn t (cosine_of t) (mul binary64 t (cosine_of t))))
     go true = tt
     go false =
-        let c = cosine-up-to t h in
-        (h, c, mul-at-most (2 ^ 1074) (2 ^ 1074) (2 ^ 1074) (power-grid 1074) (lit< tt) t (cosineOf t) (le_refl _) h c)
+        let c = cosine_up_to t h in
+        (h, c, mul_at_most (2 ^ 1074) (2 ^ 1074) (2 ^ 1074) (power_grid 1074) (lit< tt) t (cosine_of t) (le_refl _) h c)
 
 module _ (a d b : Float) (A : T (fits binary64 a)) (D : T (fits binary64 d)) (fa : finite a ≡ true) (fd : finite d ≡ true) (fb : finite b ≡ true) where
-  pub quotient-number : is_zero b ≡ false → Number (quotient a d b)
+  pub quotient_number : is_zero b ≡ false → Number (quotient a d b)
   unfolding quotient
-  quotient-number h = div-number (sub binary64 (div binary64 d two) (div binary64 a two)) b (half-difference d a fd fa D A) fb h
+  quotient_number h = div_number (sub binary64 (div binary64 d two) (div binary64 a two)) b (half_difference d a fd fa D A) fb h
 
-  pub parameters-up-to : AllUpToOne (ofPair a d b)
-  unfolding ofPair tangentOfPair
-  parameters-up-to = of-tangent-up-to _ (go (is_zero b) (λ h. tangent-up-to (quotient a d b) (quotient-number h)))
+  pub parameters_up_to : AllUpToOne (of_pair a d b)
+  unfolding of_pair tangent_of_pair
+  parameters_up_to = of_tangent_up_to _ (go (is_zero b) (λ h. tangent_up_to (quotient a d b) (quotient_number h)))
     where
-      go : (z : Bool) → (z ≡ false → UpToOne (tangentOf (quotient a d b))) → UpToOne (cond z plusZero (tangentOf (quotient a d b)))
+      go : (z : Bool) → (z ≡ false → UpToOne (tangent_of (quotient a d b))) → UpToOne (cond z plus_zero (tangent_of (quotient a d b)))
       go true h = unfold of_bits in zero-le
       go false h = h refl
 
-  pub parameters-finite : AllFinite (ofPair a d b)
-  parameters-finite = go (ofPair a d b) parameters-up-to
+  pub parameters_finite : AllFinite (of_pair a d b)
+  parameters_finite = go (of_pair a d b) parameters_up_to
     where
       go : (P : Parameters) → AllUpToOne P → AllFinite P
       go Still p = tt
-      go (Turn t c s) p = (bounded-finite (2 ^ 1074) t p.0, bounded-finite (2 ^ 1074) c p.1, bounded-finite (2 ^ 1074) s p.2)
+      go (Turn t c s) p = (bounded_finite (2 ^ 1074) t p.0, bounded_finite (2 ^ 1074) c p.1, bounded_finite (2 ^ 1074) s p.2)

@@ -1,8 +1,8 @@
 #![tactic(auto)]
 // One rotation of a pair of lines (document 01, "One rotation"; document 02 (v) and (vii); document 003, (5.1)).
 ghost use Rattle.std.specs.Prelude.{◌≡◌};
-ghost use Rattle.rotation.specs.Rotation.{signum, angleOf, ofAngle, sent, diagonalOf, turn_of};
-ghost use Rattle.rotation.specs.Exact.{foundOf, rootedOf, tangentRooted, cosineRooted, tangentFound};
+ghost use Rattle.rotation.specs.Rotation.{signum, angle_of, of_angle, sent, diagonal_of, turn_of};
+ghost use Rattle.rotation.specs.Exact.{found_of, rooted_of, tangent_rooted, cosine_rooted, tangent_found};
 
 use root::Root;
 
@@ -45,7 +45,7 @@ pub struct Sides {
 // halves, and no double. Document 01 completes the steps: a pair is still where b is zero, and where t is; the sign of zero is 1 (`sign`); and where ξ isn't
 // a number, t, c and s aren't either (`root_or_nan`), which finite entries never make. Where t is zero the root in the cosine would be that of 1.
 pub fn of_pair(a: f64, d: f64, b: f64) -> Found
-    ensures { result ≡ foundOf a d b }
+    ensures { result ≡ found_of a d b }
 {
     if b == 0.0 {
         return Found {
@@ -74,7 +74,7 @@ pub fn of_pair(a: f64, d: f64, b: f64) -> Found
 
 // The tangent of a pair, +0 where b is zero: the steps of `of_pair` as far as the tangent, for a caller that finds many before any cosine.
 pub fn tangent_of_pair(a: f64, d: f64, b: f64) -> Rooted
-    ensures { result ≡ tangentFound a d b }
+    ensures { result ≡ tangent_found a d b }
 {
     if b == 0.0 {
         return Rooted {
@@ -91,7 +91,7 @@ pub fn tangent_of_pair(a: f64, d: f64, b: f64) -> Rooted
 
 // The parameters of a pair that is turned by an angle.
 pub fn of_angle(x: Angle) -> Parameters
-    ensures { result ≡ ofAngle x }
+    ensures { result ≡ of_angle x }
 {
     if x.tangent == 0.0 {
         return Parameters::Still;
@@ -103,7 +103,7 @@ pub fn of_angle(x: Angle) -> Parameters
 impl Angle {
     // The angle whose tangent is t.
     pub fn of_tangent(t: f64) -> Angle
-        ensures { result ≡ angleOf t }
+        ensures { result ≡ angle_of t }
     {
         let cosine = cosine_of(t);
         Angle {
@@ -125,7 +125,7 @@ pub fn sent(p: Parameters) -> f64
 
 // The new a_pp and a_qq.
 pub fn diagonal(p: Parameters, a: f64, d: f64, b: f64) -> Sides
-    ensures { result ≡ diagonalOf p a d b }
+    ensures { result ≡ diagonal_of p a d b }
 {
     match p {
         Parameters::Still => Sides { left: a, right: d },
@@ -151,7 +151,7 @@ pub fn turn(p: Parameters, x: f64, y: f64) -> Sides
 
 // t = sign(ξ) / (|ξ| + √(1 + ξ ξ))
 fn tangent_of(xi: f64) -> Rooted
-    ensures { result ≡ tangentRooted xi }
+    ensures { result ≡ tangent_rooted xi }
 {
     let root = root_or_nan(1.0 + xi * xi);
     Rooted {
@@ -162,7 +162,7 @@ fn tangent_of(xi: f64) -> Rooted
 
 // cos θ = 1 / √(1 + t t), where t is zero without a root
 pub fn cosine_of(t: f64) -> Rooted
-    ensures { result ≡ cosineRooted t }
+    ensures { result ≡ cosine_rooted t }
 {
     if t == 0.0 {
         return Rooted {
@@ -189,7 +189,7 @@ fn sign(xi: f64) -> f64
 
 // The root of x, or the NaN where x has none, which is not exact.
 fn root_or_nan(x: f64) -> Rooted
-    ensures { result ≡ rootedOf x }
+    ensures { result ≡ rooted_of x }
 {
     match root::sqrt(x) {
         Root::Of(y, exact) => Rooted {

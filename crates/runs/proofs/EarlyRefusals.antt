@@ -8,13 +8,13 @@ use lib.Dec.{ltb}
 use lib.ListN.{length}
 use lib.Ieee.{Float}
 use Rattle.refusal.specs.Answers.{Answered, given, refused, or_else, first}
-use Rattle.refusal.proofs.FirstRefusal.{refused-given}
+use Rattle.refusal.proofs.FirstRefusal.{refused_given}
 use Rattle.refusal.proofs.RefusedOutcomes.{same_number}
-use Rattle.float64.specs.Values.{finite, sameBits}
-use Rattle.sizes.specs.Sizes.{is_order, mostSweeps}
+use Rattle.float64.specs.Values.{finite, same_bits}
+use Rattle.sizes.specs.Sizes.{is_order, most_sweeps}
 use Rattle.matrix.specs.Matrix.{at}
-use Rattle.matrix.specs.Entries.{notFiniteAt, notMirroredAt, finiteRow, mirrorRow, isSquare}
-use Rattle.runs.specs.Outcome.{beforeRun}
+use Rattle.matrix.specs.Entries.{not_finite_at, not_mirrored_at, finite_row, mirror_row, is_square}
+use Rattle.runs.specs.Outcome.{before_run}
 
 data Early : Answered Unit → Type 0 where
   accepts : Early (given tt)
@@ -33,26 +33,26 @@ unfolding first
 each zero e = accepts
 each (suc n) e = both (each n e) (e (suc n))
 
-below-8 : {t : Answered Unit} → Early t → (k : ℕ) (values : List ℕ) → t ≡ refused k values → k < 8
-below-8 accepts k values e = refused-given (sym e)
-below-8 (refuses h) k values e = subst (λ (i : ℕ). i < 8) (same_number e) h
+below_8 : {t : Answered Unit} → Early t → (k : ℕ) (values : List ℕ) → t ≡ refused k values → k < 8
+below_8 accepts k values e = refused_given (sym e)
+below_8 (refuses h) k values e = subst (λ (i : ℕ). i < 8) (same_number e) h
 
 module _ (n : ℕ) (l : List Float) where
-  finite-early : (r c : ℕ) → Early (notFiniteAt n l r c)
-  unfolding notFiniteAt
-  finite-early r c = either (finite (at n l r c)) accepts (refuses (omega arith))
+  finite_early : (r c : ℕ) → Early (not_finite_at n l r c)
+  unfolding not_finite_at
+  finite_early r c = either (finite (at n l r c)) accepts (refuses (omega arith))
 
-  mirror-early : (r c : ℕ) → Early (notMirroredAt n l r c)
-  unfolding notMirroredAt
-  mirror-early r c = either (ltb r c) (either (sameBits (at n l r c) (at n l c r)) accepts (refuses (omega arith))) accepts
+  mirror_early : (r c : ℕ) → Early (not_mirrored_at n l r c)
+  unfolding not_mirrored_at
+  mirror_early r c = either (ltb r c) (either (same_bits (at n l r c) (at n l c r)) accepts (refuses (omega arith))) accepts
 
-  before-early : (sweeps lr lv : ℕ) → Early (beforeRun n sweeps l lr lv)
-  unfolding beforeRun finiteRow mirrorRow
-  before-early sweeps lr lv =
+  before_early : (sweeps lr lv : ℕ) → Early (before_run n sweeps l lr lv)
+  unfolding before_run finite_row mirror_row
+  before_early sweeps lr lv =
       both (either (not (is_order n)) (refuses (omega arith)) accepts)
-      (both (either (ltb mostSweeps sweeps) (refuses (omega arith)) accepts)
-      (both (either (not (isSquare n lr && (isSquare n lv && isSquare n (length l)))) (refuses (omega arith)) accepts)
-      (both (each n (λ r. each n (finite-early r))) (both (each n (λ r. each n (mirror-early r))) accepts))))
+      (both (either (ltb most_sweeps sweeps) (refuses (omega arith)) accepts)
+      (both (either (not (is_square n lr && (is_square n lv && is_square n (length l)))) (refuses (omega arith)) accepts)
+      (both (each n (λ r. each n (finite_early r))) (both (each n (λ r. each n (mirror_early r))) accepts))))
 
-  pub before-below-8 : (sweeps lr lv : ℕ) {k : ℕ} {values : List ℕ} → beforeRun n sweeps l lr lv ≡ refused k values → k < 8
-  before-below-8 sweeps lr lv {k} {values} = below-8 (before-early sweeps lr lv) k values
+  pub before_below_8 : (sweeps lr lv : ℕ) {k : ℕ} {values : List ℕ} → before_run n sweeps l lr lv ≡ refused k values → k < 8
+  before_below_8 sweeps lr lv {k} {values} = below_8 (before_early sweeps lr lv) k values

@@ -6,65 +6,65 @@ use native.Mathlib.Omega.{arith}
 use borrow.Author.Tests.{eq-eqb, ne_eqb, lt-ltb, le-ltb}
 use lib.Dec.{eqb, ltb}
 use lib.Ieee.{Float}
-use Rattle.float64.specs.Values.{plusZero}
+use Rattle.float64.specs.Values.{plus_zero}
 use Rattle.sizes.specs.Sizes.{still_of}
 use Rattle.rotation.specs.declared.Parameters.{Parameters}
 use Rattle.rotation.specs.declared.Parameters.TheVariants.{Still}
 use Rattle.rotation.specs.declared.Found.{Found}
-use Rattle.rotation.specs.Rotation.{ofPair, ofTangent, sent}
-use Rattle.rotation.proofs.ParameterCases.{still-zero, received-pair}
+use Rattle.rotation.specs.Rotation.{of_pair, of_tangent, sent}
+use Rattle.rotation.proofs.ParameterCases.{still_zero, received_pair}
 use Rattle.runs.specs.State.{bordered}
-use Rattle.runs.specs.Blocks.{ruled, ruledExact, ruledFound}
+use Rattle.runs.specs.Blocks.{ruled, ruled_exact, ruled_found}
 
 -- ---- the matrices at the start
 module _ (A : ℕ → ℕ → Float) where
-  pub bordered-real : (r c : ℕ) → 1 ≤ r → 1 ≤ c → bordered A r c ≡ A r c
+  pub bordered_real : (r c : ℕ) → 1 ≤ r → 1 ≤ c → bordered A r c ≡ A r c
   unfolding bordered
-  bordered-real r c a b = rw (ne_eqb r 0 (λ z. omega arith), ne_eqb c 0 (λ z. omega arith))
+  bordered_real r c a b = rw (ne_eqb r 0 (λ z. omega arith), ne_eqb c 0 (λ z. omega arith))
 
-  pub row-0 : (r c : ℕ) → r ≡ 0 → plusZero ≡ bordered A r c
+  pub row_0 : (r c : ℕ) → r ≡ 0 → plus_zero ≡ bordered A r c
   unfolding bordered
-  row-0 r c e = rw (eq-eqb r 0 e)
+  row_0 r c e = rw (eq-eqb r 0 e)
 
-  pub column-0 : (r c : ℕ) → c ≡ 0 → plusZero ≡ bordered A r c
+  pub column_0 : (r c : ℕ) → c ≡ 0 → plus_zero ≡ bordered A r c
   unfolding bordered
-  column-0 r c e = go (eqb r 0)
+  column_0 r c e = go (eqb r 0)
     where
-      go : (b : Bool) → plusZero ≡ cond (b || eqb c 0) plusZero (A r c)
+      go : (b : Bool) → plus_zero ≡ cond (b || eqb c 0) plus_zero (A r c)
       go true = refl
       go false = rw (eq-eqb c 0 e)
 
 -- ---- the processors
 module _ (n i : ℕ) (P : Parameters) where
-  pub always-still : i < still_of n → Still ≡ ruled n i P
+  pub always_still : i < still_of n → Still ≡ ruled n i P
   unfolding ruled
-  always-still h = rw (lt-ltb i (still_of n) h)
+  always_still h = rw (lt-ltb i (still_of n) h)
 
-  pub not-still : still_of n ≤ i → P ≡ ruled n i P
+  pub not_still : still_of n ≤ i → P ≡ ruled n i P
   unfolding ruled
-  not-still h = rw (le-ltb i (still_of n) h)
+  not_still h = rw (le-ltb i (still_of n) h)
 
 module _ (n i : ℕ) (exact : Bool) where
-  pub always-exact : i < still_of n → true ≡ ruledExact n i exact
-  unfolding ruledExact
-  always-exact h = rw (lt-ltb i (still_of n) h)
+  pub always_exact : i < still_of n → true ≡ ruled_exact n i exact
+  unfolding ruled_exact
+  always_exact h = rw (lt-ltb i (still_of n) h)
 
-  pub own-exact : still_of n ≤ i → exact ≡ ruledExact n i exact
-  unfolding ruledExact
-  own-exact h = rw (le-ltb i (still_of n) h)
+  pub own_exact : still_of n ≤ i → exact ≡ ruled_exact n i exact
+  unfolding ruled_exact
+  own_exact h = rw (le-ltb i (still_of n) h)
 
 module _ (n i : ℕ) (f : Found) where
-  pub always-found : i < still_of n → record { parameters = Still; exact = true } ≡ ruledFound n i f
-  always-found h = rw (← always-still n i f.parameters h, ← always-exact n i f.exact h)
+  pub always_found : i < still_of n → record { parameters = Still; exact = true } ≡ ruled_found n i f
+  always_found h = rw (← always_still n i f.parameters h, ← always_exact n i f.exact h)
 
-  pub own-found : still_of n ≤ i → f ≡ ruledFound n i f
-  own-found h = rw (← not-still n i f.parameters h, ← own-exact n i f.exact h)
+  pub own_found : still_of n ≤ i → f ≡ ruled_found n i f
+  own_found h = rw (← not_still n i f.parameters h, ← own_exact n i f.exact h)
 
 -- a tile that receives the tangent turns as its processor does
-pub received-ruled : (n i : ℕ) (a d b : Float) → ofTangent (sent (ruled n i (ofPair a d b))) ≡ ruled n i (ofPair a d b)
+pub received_ruled : (n i : ℕ) (a d b : Float) → of_tangent (sent (ruled n i (of_pair a d b))) ≡ ruled n i (of_pair a d b)
 unfolding ruled
-received-ruled n i a d b = go (ltb i (still_of n))
+received_ruled n i a d b = go (ltb i (still_of n))
   where
-    go : (t : Bool) → ofTangent (sent (cond t Still (ofPair a d b))) ≡ cond t Still (ofPair a d b)
-    go true = sym still-zero
-    go false = received-pair a d b
+    go : (t : Bool) → of_tangent (sent (cond t Still (of_pair a d b))) ≡ cond t Still (of_pair a d b)
+    go true = sym still_zero
+    go false = received_pair a d b

@@ -6,65 +6,65 @@ use mathlib.Core.List.{List, [], ◌∷◌}
 use borrow.Author.Tests.{eqb-true, eq-eqb}
 use lib.ListN.{length}
 use lib.Ieee.{Float}
-use Rattle.refusal.specs.Answers.{Answered, given, refused, refusedBy, or_else, row, table}
+use Rattle.refusal.specs.Answers.{Answered, given, refused, refused_by, or_else, row, table}
 use Rattle.refusal.specs.declared.Refusal.TheVariants.{Length}
-use Rattle.refusal.proofs.FirstRefusal.{refused-given, both-given}
-use Rattle.sizes.specs.Sizes.{mostSweeps, is_order, sizesAnswer}
-use Rattle.sizes.proofs.Orders.{sizes-given, sizes-first, sizes-fine}
-use Rattle.matrix.specs.Entries.{isSquare, finiteRow, mirrorRow, entriesOf}
-use Rattle.runs.specs.Outcome.{slicesAnswer, beforeRun}
+use Rattle.refusal.proofs.FirstRefusal.{refused_given, both_given}
+use Rattle.sizes.specs.Sizes.{most_sweeps, is_order, sizes_answer}
+use Rattle.sizes.proofs.Orders.{sizes_given, sizes_first, sizes_fine}
+use Rattle.matrix.specs.Entries.{is_square, finite_row, mirror_row, entries_of}
+use Rattle.runs.specs.Outcome.{slices_answer, before_run}
 
 -- ---- the slices
 module _ (n : ℕ) (l : List Float) (lr lv : ℕ) where
-  pub refused-3 : isSquare n lr ≡ false → refusedBy Length ≡ slicesAnswer n l lr lv
-  unfolding slicesAnswer
-  refused-3 e = rw e
+  pub refused_3 : is_square n lr ≡ false → refused_by Length ≡ slices_answer n l lr lv
+  unfolding slices_answer
+  refused_3 e = rw e
 
-  pub refused-3-too : isSquare n lr ≡ true → isSquare n lv ≡ false → refusedBy Length ≡ slicesAnswer n l lr lv
-  unfolding slicesAnswer
-  refused-3-too e f = rw (e, f)
+  pub refused_3_too : is_square n lr ≡ true → is_square n lv ≡ false → refused_by Length ≡ slices_answer n l lr lv
+  unfolding slices_answer
+  refused_3_too e f = rw (e, f)
 
-  pub by_entries : {a : Answered Unit} → isSquare n lr ≡ true → isSquare n lv ≡ true → a ≡ entriesOf n l → a ≡ slicesAnswer n l lr lv
-  unfolding slicesAnswer entriesOf
+  pub by_entries : {a : Answered Unit} → is_square n lr ≡ true → is_square n lv ≡ true → a ≡ entries_of n l → a ≡ slices_answer n l lr lv
+  unfolding slices_answer entries_of
   by_entries e f z = rw (e, f) z
 
 -- ---- sizes first, then the slices
 module _ (n sweeps : ℕ) (l : List Float) (lr lv : ℕ) where
-  by-sizes : or_else (sizesAnswer n sweeps) (slicesAnswer n l lr lv) ≡ beforeRun n sweeps l lr lv
-  unfolding beforeRun slicesAnswer
-  by-sizes = sizes-first n sweeps _
+  by_sizes : or_else (sizes_answer n sweeps) (slices_answer n l lr lv) ≡ before_run n sweeps l lr lv
+  unfolding before_run slices_answer
+  by_sizes = sizes_first n sweeps _
 
-  pub sizes-refused : {k : ℕ} {values : List ℕ} → refused k values ≡ sizesAnswer n sweeps → refused k values ≡ beforeRun n sweeps l lr lv
-  sizes-refused e = rw (← by-sizes, ← e)
+  pub sizes_refused : {k : ℕ} {values : List ℕ} → refused k values ≡ sizes_answer n sweeps → refused k values ≡ before_run n sweeps l lr lv
+  sizes_refused e = rw (← by_sizes, ← e)
 
-  pub by-slices : {a : Answered Unit} → given tt ≡ sizesAnswer n sweeps → a ≡ slicesAnswer n l lr lv → a ≡ beforeRun n sweeps l lr lv
-  by-slices e z = rw (← by-sizes, ← e) z
+  pub by_slices : {a : Answered Unit} → given tt ≡ sizes_answer n sweeps → a ≡ slices_answer n l lr lv → a ≡ before_run n sweeps l lr lv
+  by_slices e z = rw (← by_sizes, ← e) z
 
 -- ---- nothing is refused
 pub record Begins (n sweeps : ℕ) (l : List Float) (lr lv : ℕ) : Type 0 where
   pub order : is_order n ≡ true
-  pub few : sweeps ≤ mostSweeps
-  pub result-long : lr ≡ n * n
-  pub vectors-long : lv ≡ n * n
-  pub entries : entriesOf n l ≡ given tt
+  pub few : sweeps ≤ most_sweeps
+  pub result_long : lr ≡ n * n
+  pub vectors_long : lv ≡ n * n
+  pub entries : entries_of n l ≡ given tt
 
-pub begins : (n sweeps : ℕ) (l : List Float) (lr lv : ℕ) → beforeRun n sweeps l lr lv ≡ given tt → Begins n sweeps l lr lv
-begins n sweeps l lr lv e = go (isSquare n lr) (isSquare n lv) refl refl (unfold slicesAnswer in w.1)
+pub begins : (n sweeps : ℕ) (l : List Float) (lr lv : ℕ) → before_run n sweeps l lr lv ≡ given tt → Begins n sweeps l lr lv
+begins n sweeps l lr lv e = go (is_square n lr) (is_square n lv) refl refl (unfold slices_answer in w.1)
   where
-    w : (sizesAnswer n sweeps ≡ given tt) × (slicesAnswer n l lr lv ≡ given tt)
-    w = both-given _ _ (by-sizes n sweeps l lr lv ∙ e)
+    w : (sizes_answer n sweeps ≡ given tt) × (slices_answer n l lr lv ≡ given tt)
+    w = both_given _ _ (by_sizes n sweeps l lr lv ∙ e)
 
-    s : (is_order n ≡ true) × (sweeps ≤ mostSweeps)
-    s = sizes-given n sweeps w.0
+    s : (is_order n ≡ true) × (sweeps ≤ most_sweeps)
+    s = sizes_given n sweeps w.0
 
-    go : (a b : Bool) → isSquare n lr ≡ a → isSquare n lv ≡ b
-        → table (row (not (a && (b && isSquare n (length l)))) Length ∷ finiteRow n l ∷ mirrorRow n l ∷ []) ≡ given tt → Begins n sweeps l lr lv
-    go false b x y z = refused-given z
-    go true false x y z = refused-given z
-    go true true x y z = record { order = s.0; few = s.1; result-long = eqb-true _ _ x; vectors-long = eqb-true _ _ y; entries = unfold entriesOf in z }
+    go : (a b : Bool) → is_square n lr ≡ a → is_square n lv ≡ b
+        → table (row (not (a && (b && is_square n (length l)))) Length ∷ finite_row n l ∷ mirror_row n l ∷ []) ≡ given tt → Begins n sweeps l lr lv
+    go false b x y z = refused_given z
+    go true false x y z = refused_given z
+    go true true x y z = record { order = s.0; few = s.1; result_long = eqb-true _ _ x; vectors_long = eqb-true _ _ y; entries = unfold entries_of in z }
 
 -- and the other way round
-pub begun : (n sweeps : ℕ) (l : List Float) (lr lv : ℕ) → Begins n sweeps l lr lv → beforeRun n sweeps l lr lv ≡ given tt
+pub begun : (n sweeps : ℕ) (l : List Float) (lr lv : ℕ) → Begins n sweeps l lr lv → before_run n sweeps l lr lv ≡ given tt
 begun n sweeps l lr lv b =
-    sym (by-slices n sweeps l lr lv (sizes-fine n sweeps b.order b.few)
-    (by_entries n l lr lv (eq-eqb lr (n * n) b.result-long) (eq-eqb lv (n * n) b.vectors-long) (sym b.entries)))
+    sym (by_slices n sweeps l lr lv (sizes_fine n sweeps b.order b.few)
+    (by_entries n l lr lv (eq-eqb lr (n * n) b.result_long) (eq-eqb lv (n * n) b.vectors_long) (sym b.entries)))

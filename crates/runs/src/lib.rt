@@ -3,9 +3,9 @@
 ghost use Rattle.std.specs.Prelude.{◌≡◌};
 ghost use Rattle.refusal.specs.Answers.{answered};
 ghost use Rattle.runs.specs.State.{identity};
-ghost use Rattle.runs.specs.Blocks.{ruledFound};
-ghost use Rattle.runs.specs.Counts.{isTurn, counted, beginsSweep, turnsAfter, countsAfter};
-ghost use Rattle.runs.specs.Outcome.{beforeRun, slicesAnswer};
+ghost use Rattle.runs.specs.Blocks.{ruled_found};
+ghost use Rattle.runs.specs.Counts.{is_turn, counted, begins_sweep, turns_after, counts_after};
+ghost use Rattle.runs.specs.Outcome.{before_run, slices_answer};
 
 use refusal::{Answer, Refusal};
 use rotation::{Found, Parameters};
@@ -20,7 +20,7 @@ pub struct Counts {
 
 // Refusals 1, 2, 3, 5 and 6 of a run whose two results have the lengths first and second.
 pub fn verdict(n: usize, sweeps: usize, matrix: &[f64], first: usize, second: usize) -> Answer
-    ensures { answered result ≡ beforeRun n sweeps matrix.now first second }
+    ensures { answered result ≡ before_run n sweeps matrix.now first second }
 {
     match sizes::tested(n, sweeps) {
         Answer::Accepted => slices_tested(n, matrix, first, second),
@@ -30,7 +30,7 @@ pub fn verdict(n: usize, sweeps: usize, matrix: &[f64], first: usize, second: us
 
 // Refusals 3, 5 and 6.
 fn slices_tested(n: usize, matrix: &[f64], first: usize, second: usize) -> Answer
-    ensures { answered result ≡ slicesAnswer n matrix.now first second }
+    ensures { answered result ≡ slices_answer n matrix.now first second }
 {
     if !matrix::is_square(n, first) {
         return Answer::Refused(Refusal::Length);
@@ -53,7 +53,7 @@ pub fn identity(r: usize, c: usize) -> f64
 
 // What processor i, from 0, turns by in a run of order n, and whether it counts as exact, where this is found of its pair.
 pub fn ruled(n: usize, i: usize, found: Found) -> Found
-    ensures { result ≡ ruledFound n i found }
+    ensures { result ≡ ruled_found n i found }
 {
     if i < sizes::still_of(n) {
         return Found {
@@ -66,7 +66,7 @@ pub fn ruled(n: usize, i: usize, found: Found) -> Found
 
 // Whether a pair with these parameters is turned.
 pub fn is_turn(parameters: Parameters) -> bool
-    ensures { result ≡ isTurn parameters }
+    ensures { result ≡ is_turn parameters }
 {
     match parameters {
         Parameters::Still => false,
@@ -76,7 +76,7 @@ pub fn is_turn(parameters: Parameters) -> bool
 
 // The counts of a processor after a step in which this is found of its pair.
 pub fn counts_after(n: usize, step: usize, found: Found, before: Counts) -> Counts
-    ensures { result ≡ countsAfter n step found before }
+    ensures { result ≡ counts_after n step found before }
 {
     let parameters = found.parameters;
     Counts {
@@ -87,7 +87,7 @@ pub fn counts_after(n: usize, step: usize, found: Found, before: Counts) -> Coun
 
 // The turns of a processor in the current sweep after a step in which its pair has these parameters, with `turns` before it.
 fn turns_after(n: usize, step: usize, parameters: Parameters, turns: u16) -> u16
-    ensures { result ≡ turnsAfter n step parameters turns }
+    ensures { result ≡ turns_after n step parameters turns }
 {
     let turned = is_turn(parameters);
     if begins_sweep(n, step) {
@@ -111,7 +111,7 @@ fn counted(more: bool, count: u16) -> u16
 
 // Whether a step, from 0, is the first of a sweep. Order 0 has no steps in a sweep.
 fn begins_sweep(n: usize, step: usize) -> bool
-    ensures { result ≡ beginsSweep n step }
+    ensures { result ≡ begins_sweep n step }
 {
     let steps = sizes::sweep_steps(n);
     if steps == 0 {

@@ -7,20 +7,20 @@ use native.Mathlib.Numerals.{add-one}
 use native.Mathlib.Omega.{arith}
 use lib.Dec.{lit<}
 use lib.ListN.{get_or}
-use Rattle.sheet.specs.Format.{byte_of, wordFrom}
+use Rattle.sheet.specs.Format.{byte_of, word_from}
 
 module _ (b : List ℕ) (o : ℕ) where
-  pub word_none : 0 ≡ wordFrom b o 0
-  unfolding wordFrom
+  pub word_none : 0 ≡ word_from b o 0
+  unfolding word_from
   word_none = refl
 
-  pub word_next : (k : ℕ) {w : ℕ} → w ≡ wordFrom b o k → w * 256 + get_or b (o + k) 0 ≡ wordFrom b o (k + 1)
-  unfolding wordFrom
+  pub word_next : (k : ℕ) {w : ℕ} → w ≡ word_from b o k → w * 256 + get_or b (o + k) 0 ≡ word_from b o (k + 1)
+  unfolding word_from
   word_next k e = rw (add-one, e)
 
 -- a word of k bytes is below 256 ^ k, so there is room for one more
-pub word-grows : (w d k : ℕ) → w < 256 ^ k → d < 256 → w * 256 + d < 256 ^ (k + 1)
-word-grows w d k h b = rw (add-one, pow-suc) (omega arith)
+pub word_grows : (w d k : ℕ) → w < 256 ^ k → d < 256 → w * 256 + d < 256 ^ (k + 1)
+word_grows w d k h b = rw (add-one, pow-suc) (omega arith)
 
 pub word_room : (w k : ℕ) → k < 8 → w < 256 ^ k → w * 256 + 255 < 2 ^ 64
 word_room w k h b =
@@ -39,46 +39,46 @@ last_byte w d =
     rw e (omega arith)
 
 module _ (b : List ℕ) (o : ℕ) where
-  word-part : (m v : ℕ) → v < 256 ^ m → ((k : ℕ) → k < m → get_or b (o + k) 0 ≡ byte_of m v k) → (k : ℕ) → k ≤ m → wordFrom b o k ≡ v / 256 ^ (m - k)
-  unfolding wordFrom byte_of
-  word-part m v h e zero l = let z : m - 0 ≡ m = omega arith in rw z (sym (div-eq_of_lt h))
-  word-part m v h e (suc k) l =
+  word_part : (m v : ℕ) → v < 256 ^ m → ((k : ℕ) → k < m → get_or b (o + k) 0 ≡ byte_of m v k) → (k : ℕ) → k ≤ m → word_from b o k ≡ v / 256 ^ (m - k)
+  unfolding word_from byte_of
+  word_part m v h e zero l = let z : m - 0 ≡ m = omega arith in rw z (sym (div-eq_of_lt h))
+  word_part m v h e (suc k) l =
       let a : m - k ≡ suc (m - 1 - k) = omega arith in
       let c : m - suc k ≡ m - 1 - k = omega arith in
-      rw (word-part m v h e k (omega arith), e k (omega arith), a, c) (last_byte v (m - 1 - k))
+      rw (word_part m v h e k (omega arith), e k (omega arith), a, c) (last_byte v (m - 1 - k))
 
-  pub word-whole : (m v : ℕ) → v < 256 ^ m → ((k : ℕ) → k < m → get_or b (o + k) 0 ≡ byte_of m v k) → wordFrom b o m ≡ v
-  word-whole m v h e =
+  pub word_whole : (m v : ℕ) → v < 256 ^ m → ((k : ℕ) → k < m → get_or b (o + k) 0 ≡ byte_of m v k) → word_from b o m ≡ v
+  word_whole m v h e =
       let y : m - m ≡ 0 = omega arith in
       let z : v / 1 ≡ v = omega arith in
-      word-part m v h e m (omega arith) ∙ rw y z
+      word_part m v h e m (omega arith) ∙ rw y z
 
   module _ (small : (i : ℕ) → get_or b i 0 < 256) where
-    pub word_below : (k : ℕ) → wordFrom b o k < 256 ^ k
-    unfolding wordFrom
+    pub word_below : (k : ℕ) → word_from b o k < 256 ^ k
+    unfolding word_from
     word_below zero = lit< tt
-    word_below (suc k) = let e : k + 1 ≡ suc k = omega arith in rw e at (word-grows (wordFrom b o k) (get_or b (o + k) 0) k (word_below k) (small (o + k)))
+    word_below (suc k) = let e : k + 1 ≡ suc k = omega arith in rw e at (word_grows (word_from b o k) (get_or b (o + k) 0) k (word_below k) (small (o + k)))
 
-    one_less : (k : ℕ) → wordFrom b o (suc k) / 256 ≡ wordFrom b o k
-    unfolding wordFrom
+    one_less : (k : ℕ) → word_from b o (suc k) / 256 ≡ word_from b o k
+    unfolding word_from
     one_less k = let d = small (o + k) in omega arith
 
-    last_of : (k : ℕ) → wordFrom b o (k + 1) % 256 ≡ get_or b (o + k) 0
+    last_of : (k : ℕ) → word_from b o (k + 1) % 256 ≡ get_or b (o + k) 0
     last_of k = let e : k + 1 ≡ suc k = omega arith in rw e (go k)
       where
-        go : (k : ℕ) → wordFrom b o (suc k) % 256 ≡ get_or b (o + k) 0
-        go k = let d = small (o + k) in unfold wordFrom in (omega arith)
+        go : (k : ℕ) → word_from b o (suc k) % 256 ≡ get_or b (o + k) 0
+        go k = let d = small (o + k) in unfold word_from in (omega arith)
 
-    word-front : (d k : ℕ) → wordFrom b o (d + k) / 256 ^ d ≡ wordFrom b o k
-    word-front zero k = let e : 0 + k ≡ k = omega arith in let z : wordFrom b o k / 1 ≡ wordFrom b o k = omega arith in rw e z
-    word-front (suc d) k =
+    word_front : (d k : ℕ) → word_from b o (d + k) / 256 ^ d ≡ word_from b o k
+    word_front zero k = let e : 0 + k ≡ k = omega arith in let z : word_from b o k / 1 ≡ word_from b o k = omega arith in rw e z
+    word_front (suc d) k =
         let e : suc d + k ≡ suc (d + k) = omega arith in
-        rw e (shorter (wordFrom b o (suc (d + k))) d ∙ ap (λ (x : ℕ). x / 256 ^ d) (one_less (d + k)) ∙ word-front d k)
+        rw e (shorter (word_from b o (suc (d + k))) d ∙ ap (λ (x : ℕ). x / 256 ^ d) (one_less (d + k)) ∙ word_front d k)
 
-    pub byte-back : (m k : ℕ) → k < m → byte_of m (wordFrom b o m) k ≡ get_or b (o + k) 0
+    pub byte_back : (m k : ℕ) → k < m → byte_of m (word_from b o m) k ≡ get_or b (o + k) 0
     unfolding byte_of
-    byte-back m k h =
+    byte_back m k h =
         let e : m - 1 - k + (k + 1) ≡ m = omega arith in
-        let f : wordFrom b o m / 256 ^ (m - 1 - k) ≡ wordFrom b o (k + 1)
-        = ap (λ (x : ℕ). wordFrom b o x / 256 ^ (m - 1 - k)) (sym e) ∙ word-front (m - 1 - k) (k + 1) in
+        let f : word_from b o m / 256 ^ (m - 1 - k) ≡ word_from b o (k + 1)
+        = ap (λ (x : ℕ). word_from b o x / 256 ^ (m - 1 - k)) (sym e) ∙ word_front (m - 1 - k) (k + 1) in
         rw f (last_of k)

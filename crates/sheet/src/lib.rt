@@ -1,9 +1,9 @@
 #![tactic(auto)]
 // The form of a sheet, its length, and its line codes (document 01, "A sheet"; document 02 (i)).
 ghost use Rattle.std.specs.Prelude.{◌≡◌, ◌+◌, ◌≤◌, length};
-ghost use Rattle.sizes.specs.Sizes.{largestOrder};
-ghost use Rattle.sheet.specs.Format.{sheetLength, firstByte, width_in, order_in};
-ghost use Rattle.sheet.specs.Codes.{badCode, badCodes, longCodes, width_for};
+ghost use Rattle.sizes.specs.Sizes.{largest_order};
+ghost use Rattle.sheet.specs.Format.{sheet_length, first_byte, width_in, order_in};
+ghost use Rattle.sheet.specs.Codes.{bad_code, bad_codes, long_codes, width_for};
 
 use sizes::LARGEST_ORDER;
 
@@ -15,8 +15,8 @@ const LONG_FORM: u8 = 128;
 
 // How many bytes a sheet of order n has whose codes have `width` bytes.
 pub fn length_of(width: usize, n: usize) -> usize
-    requires { (width ≤ 2) × (n ≤ largestOrder) }
-    ensures { result ≡ sheetLength width n }
+    requires { (width ≤ 2) × (n ≤ largest_order) }
+    ensures { result ≡ sheet_length width n }
 {
     2 + width * n + 4 * n * (n + 1)
 }
@@ -50,8 +50,8 @@ pub fn order_in(sheet: &[u8]) -> usize
 
 // The first byte of a sheet of order n whose codes have `width` bytes.
 pub fn first_byte(width: usize, n: usize) -> u8
-    requires { n ≤ largestOrder }
-    ensures { result ≡ firstByte width n }
+    requires { n ≤ largest_order }
+    ensures { result ≡ first_byte width n }
 {
     if width == 2 {
         return n as u8 + LONG_FORM;
@@ -71,7 +71,7 @@ pub fn width_for(codes: &[u16]) -> usize
 
 // Whether one of the codes does not fit a byte.
 pub fn has_long_code(codes: &[u16]) -> bool
-    ensures { result ≡ longCodes codes.now }
+    ensures { result ≡ long_codes codes.now }
 {
     for k in 0..codes.len() {
         if codes[k] > 255 {
@@ -83,7 +83,7 @@ pub fn has_long_code(codes: &[u16]) -> bool
 
 // Whether one of the codes is zero, or used before.
 pub fn has_bad_code(codes: &[u16]) -> bool
-    ensures { result ≡ badCodes codes.now }
+    ensures { result ≡ bad_codes codes.now }
 {
     for k in 0..codes.len() {
         if is_bad(codes, k) {
@@ -96,7 +96,7 @@ pub fn has_bad_code(codes: &[u16]) -> bool
 // Whether code k, from 0, is zero, or one of those before it.
 fn is_bad(codes: &[u16], k: usize) -> bool
     requires { k + 1 ≤ length codes.now }
-    ensures { result ≡ badCode codes.now k }
+    ensures { result ≡ bad_code codes.now k }
 {
     let code = codes[k];
     if code == 0 {

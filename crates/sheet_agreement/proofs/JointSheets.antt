@@ -9,138 +9,138 @@ use lib.ListN.{length, get_or, take}
 use lib.Ieee.{Float, nan, binary64, fits}
 use Rattle.float64.specs.Values.{finite}
 use Rattle.refusal.specs.Answers.{given}
-use Rattle.refusal.proofs.RefusedOutcomes.{giving-was}
-use Rattle.sizes.specs.Sizes.{mostSweeps}
+use Rattle.refusal.proofs.RefusedOutcomes.{giving_was}
+use Rattle.sizes.specs.Sizes.{most_sweeps}
 use Rattle.sizes.proofs.Orders.{order_is}
 use Rattle.matrix.specs.Matrix.{at}
 use Rattle.matrix.proofs.SameEntries.{Line, Finite, Mirrored}
-use Rattle.matrix.proofs.AcceptedEntries.{accepted-if}
-use Rattle.matrix.proofs.Flat.{flat-length, flat-fits}
-use Rattle.sheet.specs.Codes.{badCodes}
-use Rattle.sheet.specs.Format.{longForm, sheetOf, order_in, sweepsIn, codesIn, entryIn}
-use Rattle.sheet_reader.specs.Reader.{sheetAnswer, ReadOutcome, readOutcome, read_of}
-use Rattle.sheet_reader.proofs.AcceptedSheets.{readable-alone, entries-finite, entries-mirrored}
-use Rattle.sheet_reader.proofs.Tables.{Readable, lent-right}
-use Rattle.sheet_writer.specs.Writer.{writeAnswer, writeOf}
-use Rattle.sheet_writer.proofs.SheetBytes.{write-accepted-as}
-use Rattle.sheet_writer.proofs.Tables.{write-all}
-use Rattle.sheet_join.specs.Join.{jointOrder, jointSweeps, jointCodes, jointMatrix, jointLength, blocks, joinAnswer, joinedOf, join_of}
-use Rattle.sheet_join.proofs.JoinOutcomes.{join-answers}
-use Rattle.sheet_join.proofs.JointContents.{joint-count, placed}
+use Rattle.matrix.proofs.AcceptedEntries.{accepted_if}
+use Rattle.matrix.proofs.Flat.{flat_length, flat_fits}
+use Rattle.sheet.specs.Codes.{bad_codes}
+use Rattle.sheet.specs.Format.{long_form, sheet_of, order_in, sweeps_in, codes_in, entry_in}
+use Rattle.sheet_reader.specs.Reader.{sheet_answer, ReadOutcome, read_outcome, read_of}
+use Rattle.sheet_reader.proofs.AcceptedSheets.{readable_alone, entries_finite, entries_mirrored}
+use Rattle.sheet_reader.proofs.Tables.{Readable, lent_right}
+use Rattle.sheet_writer.specs.Writer.{write_answer, write_of}
+use Rattle.sheet_writer.proofs.SheetBytes.{write_accepted_as}
+use Rattle.sheet_writer.proofs.Tables.{write_all}
+use Rattle.sheet_join.specs.Join.{joint_order, joint_sweeps, joint_codes, joint_matrix, joint_length, blocks, join_answer, joined_of, join_of}
+use Rattle.sheet_join.proofs.JoinOutcomes.{join_answers}
+use Rattle.sheet_join.proofs.JointContents.{joint_count, placed}
 use Rattle.sheet_join.proofs.Tables.{Joinable, joinable}
-use Rattle.sheet_agreement.proofs.JointBlocks.{blocks-finite, blocks-mirrored, blocks-fit}
-use Rattle.sheet_agreement.proofs.JointCodes.{both16, codes16, joint-good}
-use Rattle.sheet_agreement.proofs.RoundTrip.{Codes16, fit_at, sheet-first, reads}
-use Rattle.sheet_agreement.proofs.RoundTrip.{order-back, sweeps-back, codes-back, entry-back, read_back}
+use Rattle.sheet_agreement.proofs.JointBlocks.{blocks_finite, blocks_mirrored, blocks_fit}
+use Rattle.sheet_agreement.proofs.JointCodes.{both16, codes16, joint_good}
+use Rattle.sheet_agreement.proofs.RoundTrip.{Codes16, fit_at, sheet_first, reads}
+use Rattle.sheet_agreement.proofs.RoundTrip.{order_back, sweeps_back, codes_back, entry_back, read_back}
 
 -- every number is a byte's, as those of a lent slice are
 abbrev pub Bytes : List ℕ → Type 0
 Bytes b = (i : ℕ) → get_or b i 0 < 256
 
 -- the joint sheet
-abbrev pub jointSheet : List ℕ → List ℕ → List ℕ
-jointSheet b d = sheetOf (jointOrder b d) (jointSweeps b d) (jointCodes b d) (at (jointOrder b d) (jointMatrix b d))
+abbrev pub joint_sheet : List ℕ → List ℕ → List ℕ
+joint_sheet b d = sheet_of (joint_order b d) (joint_sweeps b d) (joint_codes b d) (at (joint_order b d) (joint_matrix b d))
 
 -- the answer of a joining is that of its tests
 pub joins : (b d l : List ℕ) (count : ℕ) → (join_of b d l).answer ≡ given count
-    → (joinAnswer b d (length l) ≡ given tt) × (join_of b d l ≡ joinedOf b d l) × (count ≡ jointLength b d)
+    → (join_answer b d (length l) ≡ given tt) × (join_of b d l ≡ joined_of b d l) × (count ≡ joint_length b d)
 unfolding join_of
 joins b d l count e =
-    let v = giving-was (jointLength b d) count (joinAnswer b d (length l)) (sym (join-answers b d l) ∙ e) in
+    let v = giving_was (joint_length b d) count (join_answer b d (length l)) (sym (join_answers b d l) ∙ e) in
     (v.0, rw v.0, v.1)
 
 -- the bytes that it wrote are the joint sheet
-pub joint-left : (b d l : List ℕ) (count : ℕ) → (join_of b d l).answer ≡ given count → take count (join_of b d l).bytes ≡ jointSheet b d
-joint-left b d l count e =
+pub joint_left : (b d l : List ℕ) (count : ℕ) → (join_of b d l).answer ≡ given count → take count (join_of b d l).bytes ≡ joint_sheet b d
+joint_left b d l count e =
     let v = joins b d l count e in
-    rw (v.1, v.2) (sheet-first (jointOrder b d) (jointSweeps b d) (jointCodes b d) (jointMatrix b d) l)
+    rw (v.1, v.2) (sheet_first (joint_order b d) (joint_sweeps b d) (joint_codes b d) (joint_matrix b d) l)
 
-module _ (b d : List ℕ) (small : Bytes b) (small' : Bytes d) (lb : ℕ) (accepted : joinAnswer b d lb ≡ given tt) where
+module _ (b d : List ℕ) (small : Bytes b) (small' : Bytes d) (lb : ℕ) (accepted : join_answer b d lb ≡ given tt) where
   abbrev n : ℕ
-  n = jointOrder b d
+  n = joint_order b d
 
   abbrev entries : ℕ → ℕ → Float
-  entries = blocks (order_in b) (entryIn b) (entryIn d)
+  entries = blocks (order_in b) (entry_in b) (entry_in d)
 
   known : Joinable b d lb
   known = joinable b d lb accepted
 
-  first-known : Readable b (order_in b) (order_in b * order_in b)
-  first-known = readable-alone b known.first_good
+  first_known : Readable b (order_in b) (order_in b * order_in b)
+  first_known = readable_alone b known.first_good
 
-  second-known : Readable d (order_in d) (order_in d * order_in d)
-  second-known = readable-alone d known.second-good
+  second_known : Readable d (order_in d) (order_in d * order_in d)
+  second_known = readable_alone d known.second_good
 
-  few-sweeps : jointSweeps b d ≤ mostSweeps
-  few-sweeps = let few = first-known.few in let few' = second-known.few in omega arith
+  few_sweeps : joint_sweeps b d ≤ most_sweeps
+  few_sweeps = let few = first_known.few in let few' = second_known.few in omega arith
 
   -- the codes and the entries are numbers of their sizes
-  codes-fit : Codes16 (jointCodes b d)
-  unfolding jointCodes
-  codes-fit = both16 (codesIn b) (codesIn d) (codes16 b small) (codes16 d small')
+  codes_fit : Codes16 (joint_codes b d)
+  unfolding joint_codes
+  codes_fit = both16 (codes_in b) (codes_in d) (codes16 b small) (codes16 d small')
 
-  codes-good : badCodes (jointCodes b d) ≡ false
-  unfolding jointCodes
-  codes-good = joint-good (codesIn b) (codesIn d) first-known.codes-good second-known.codes-good known.apart
+  codes_good : bad_codes (joint_codes b d) ≡ false
+  unfolding joint_codes
+  codes_good = joint_good (codes_in b) (codes_in d) first_known.codes_good second_known.codes_good known.apart
 
-  entries_fit : (k : ℕ) → T (fits binary64 (get_or (jointMatrix b d) k nan))
-  unfolding jointMatrix
-  entries_fit = flat-fits n entries (blocks-fit b d (order_in b))
+  entries_fit : (k : ℕ) → T (fits binary64 (get_or (joint_matrix b d) k nan))
+  unfolding joint_matrix
+  entries_fit = flat_fits n entries (blocks_fit b d (order_in b))
 
-  matrix-long : length (jointMatrix b d) ≡ n * n
-  unfolding jointMatrix
-  matrix-long = flat-length n entries
+  matrix_long : length (joint_matrix b d) ≡ n * n
+  unfolding joint_matrix
+  matrix_long = flat_length n entries
 
-  all-finite : Finite n (at n (jointMatrix b d))
-  all-finite i j hi hj =
+  all_finite : Finite n (at n (joint_matrix b d))
+  all_finite i j hi hj =
       ap finite (placed b d i j hi hj)
-      ∙ blocks-finite (order_in b) (order_in d) (entryIn b) (entryIn d) (entries-finite b _ _ first-known) (entries-finite d _ _ second-known) i j hi hj
+      ∙ blocks_finite (order_in b) (order_in d) (entry_in b) (entry_in d) (entries_finite b _ _ first_known) (entries_finite d _ _ second_known) i j hi hj
 
-  all-mirrored : Mirrored n (at n (jointMatrix b d))
-  all-mirrored i j hi hj =
+  all_mirrored : Mirrored n (at n (joint_matrix b d))
+  all_mirrored i j hi hj =
       placed b d i j hi hj
-      ∙ blocks-mirrored (order_in b) (order_in d) (entryIn b) (entryIn d) (entries-mirrored b (order_in b)) (entries-mirrored d (order_in d)) i j hi hj
+      ∙ blocks_mirrored (order_in b) (order_in d) (entry_in b) (entry_in d) (entries_mirrored b (order_in b)) (entries_mirrored d (order_in d)) i j hi hj
       ∙ sym (placed b d j i hj hi)
 
   -- the writer accepts the joint content
-  pub joint-writable : writeAnswer (jointOrder b d) (jointSweeps b d) (jointCodes b d) (jointMatrix b d) lb ≡ given tt
-  joint-writable =
-      sym (write-all n (jointSweeps b d) (jointCodes b d) (jointMatrix b d) lb known.order few-sweeps (joint-count b d) matrix-long codes-good
-      (sym (accepted-if n (jointMatrix b d) matrix-long all-finite all-mirrored)) known.room)
+  pub joint_writable : write_answer (joint_order b d) (joint_sweeps b d) (joint_codes b d) (joint_matrix b d) lb ≡ given tt
+  joint_writable =
+      sym (write_all n (joint_sweeps b d) (joint_codes b d) (joint_matrix b d) lb known.order few_sweeps (joint_count b d) matrix_long codes_good
+      (sym (accepted_if n (joint_matrix b d) matrix_long all_finite all_mirrored)) known.room)
 
-  below : n < longForm
+  below : n < long_form
   below = let o = order_is n known.order in omega (arith, o.1)
 
   -- what is read from the joint sheet
-  pub joint-order : order_in (jointSheet b d) ≡ jointOrder b d
-  joint-order = order-back n (jointSweeps b d) (jointCodes b d) (at n (jointMatrix b d)) below
+  pub joint_order_lem : order_in (joint_sheet b d) ≡ joint_order b d
+  joint_order_lem = order_back n (joint_sweeps b d) (joint_codes b d) (at n (joint_matrix b d)) below
 
-  pub joint-sweeps : sweepsIn (jointSheet b d) ≡ jointSweeps b d
-  joint-sweeps = sweeps-back n (jointSweeps b d) (jointCodes b d) (at n (jointMatrix b d))
+  pub joint_sweeps_lem : sweeps_in (joint_sheet b d) ≡ joint_sweeps b d
+  joint_sweeps_lem = sweeps_back n (joint_sweeps b d) (joint_codes b d) (at n (joint_matrix b d))
 
-  pub joint-codes : codesIn (jointSheet b d) ≡ jointCodes b d
-  joint-codes = codes-back n (jointSweeps b d) (jointCodes b d) (at n (jointMatrix b d)) below codes-fit (joint-count b d)
+  pub joint_codes_lem : codes_in (joint_sheet b d) ≡ joint_codes b d
+  joint_codes_lem = codes_back n (joint_sweeps b d) (joint_codes b d) (at n (joint_matrix b d)) below codes_fit (joint_count b d)
 
-  pub joint-entry : (i j : ℕ) → Line (jointOrder b d) i → Line (jointOrder b d) j
-      → entryIn (jointSheet b d) i j ≡ blocks (order_in b) (entryIn b) (entryIn d) i j
-  joint-entry i j hi hj =
-      entry-back n (jointSweeps b d) (jointCodes b d) (at n (jointMatrix b d)) below (fit_at n (jointMatrix b d) entries_fit) all-mirrored i j hi hj
+  pub joint_entry : (i j : ℕ) → Line (joint_order b d) i → Line (joint_order b d) j
+      → entry_in (joint_sheet b d) i j ≡ blocks (order_in b) (entry_in b) (entry_in d) i j
+  joint_entry i j hi hj =
+      entry_back n (joint_sweeps b d) (joint_codes b d) (at n (joint_matrix b d)) below (fit_at n (joint_matrix b d) entries_fit) all_mirrored i j hi hj
       ∙ placed b d i j hi hj
 
-  pub joint-read : (c : List ℕ) (m : List Float) → length c ≡ jointOrder b d → length m ≡ jointOrder b d * jointOrder b d
-      → read_of (jointSheet b d) c m ≡ readOutcome (given (jointOrder b d, jointSweeps b d)) (jointCodes b d) (jointMatrix b d)
-  joint-read = read_back n (jointSweeps b d) (jointCodes b d) (jointMatrix b d) lb codes-fit entries_fit joint-writable
+  pub joint_read : (c : List ℕ) (m : List Float) → length c ≡ joint_order b d → length m ≡ joint_order b d * joint_order b d
+      → read_of (joint_sheet b d) c m ≡ read_outcome (given (joint_order b d, joint_sweeps b d)) (joint_codes b d) (joint_matrix b d)
+  joint_read = read_back n (joint_sweeps b d) (joint_codes b d) (joint_matrix b d) lb codes_fit entries_fit joint_writable
 
   -- it is accepted
-  pub joint-accepted : sheetAnswer (jointSheet b d) ≡ given tt
-  joint-accepted =
-      let as_read = joint-read (jointCodes b d) (jointMatrix b d) (joint-count b d) matrix-long in
-      let fine = (reads (jointSheet b d) (jointCodes b d) (jointMatrix b d) n (jointSweeps b d) (ap (λ (o : ReadOutcome). o.answer) as_read)).0 in
-      sym (lent-right (jointSheet b d)) ∙ rw joint-order (rw (joint-count b d, matrix-long) at fine)
+  pub joint_accepted : sheet_answer (joint_sheet b d) ≡ given tt
+  joint_accepted =
+      let as_read = joint_read (joint_codes b d) (joint_matrix b d) (joint_count b d) matrix_long in
+      let fine = (reads (joint_sheet b d) (joint_codes b d) (joint_matrix b d) n (joint_sweeps b d) (ap (λ (o : ReadOutcome). o.answer) as_read)).0 in
+      sym (lent_right (joint_sheet b d)) ∙ rw joint_order_lem (rw (joint_count b d, matrix_long) at fine)
 
 -- a joining leaves what the writer leaves of the joint content
-pub join-as-writing : (b d l : List ℕ) (count : ℕ) → Bytes b → Bytes d → (join_of b d l).answer ≡ given count
-    → join_of b d l ≡ writeOf (jointOrder b d) (jointSweeps b d) (jointCodes b d) (jointMatrix b d) l
-join-as-writing b d l count small small' e =
+pub join_as_writing : (b d l : List ℕ) (count : ℕ) → Bytes b → Bytes d → (join_of b d l).answer ≡ given count
+    → join_of b d l ≡ write_of (joint_order b d) (joint_sweeps b d) (joint_codes b d) (joint_matrix b d) l
+join_as_writing b d l count small small' e =
     let v = joins b d l count e in
-    write-accepted-as (jointOrder b d) (jointSweeps b d) (jointCodes b d) (jointMatrix b d) l (sym (joint-writable b d small small' (length l) v.0)) v.1
+    write_accepted_as (joint_order b d) (joint_sweeps b d) (joint_codes b d) (joint_matrix b d) l (sym (joint_writable b d small small' (length l) v.0)) v.1

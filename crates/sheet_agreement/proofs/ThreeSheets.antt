@@ -8,187 +8,187 @@ use native.Mathlib.Omega.{arith}
 use borrow.Author.Tests.{le-leb}
 use lib.Ieee.{Float}
 use Rattle.refusal.specs.Answers.{given}
-use Rattle.lists.proofs.Bounded.{or-false, false-or}
-use Rattle.sizes.specs.Sizes.{is_order, largestOrder}
-use Rattle.sizes.proofs.Orders.{order_is, by-largest}
+use Rattle.lists.proofs.Bounded.{or_false, false_or}
+use Rattle.sizes.specs.Sizes.{is_order, largest_order}
+use Rattle.sizes.proofs.Orders.{order_is, by_largest}
 use Rattle.matrix.specs.Matrix.{at, flat}
-use Rattle.matrix.proofs.SameEntries.{Same, flat-same}
-use Rattle.sheet.specs.Format.{sheetOf, order_in, sweepsIn, codesIn, entryIn, lengthFor}
-use Rattle.sheet_reader.specs.Reader.{sheetAnswer}
-use Rattle.sheet_reader.proofs.AcceptedSheets.{readable-alone}
-use Rattle.sheet_join.specs.Join.{jointOrder, jointSweeps, jointCodes, jointMatrix, blocks, sharedCode, joinAnswer}
+use Rattle.matrix.proofs.SameEntries.{Same, flat_same}
+use Rattle.sheet.specs.Format.{sheet_of, order_in, sweeps_in, codes_in, entry_in, length_for}
+use Rattle.sheet_reader.specs.Reader.{sheet_answer}
+use Rattle.sheet_reader.proofs.AcceptedSheets.{readable_alone}
+use Rattle.sheet_join.specs.Join.{joint_order, joint_sweeps, joint_codes, joint_matrix, blocks, shared_code, join_answer}
 use Rattle.sheet_join.proofs.Tables.{joinable, joined}
-use Rattle.sheet_agreement.proofs.BlocksAgain.{blocks-same, blocks-again}
-use Rattle.sheet_agreement.proofs.JointSheets.{Bytes, jointSheet, joint-order, joint-sweeps, joint-codes, joint-entry, joint-accepted}
-use Rattle.sheet_agreement.proofs.SharedCodes.{shared-first, shared_second, wider, longer}
+use Rattle.sheet_agreement.proofs.BlocksAgain.{blocks_same, blocks_again}
+use Rattle.sheet_agreement.proofs.JointSheets.{Bytes, joint_sheet, joint_order_lem, joint_sweeps_lem, joint_codes_lem, joint_entry, joint_accepted}
+use Rattle.sheet_agreement.proofs.SharedCodes.{shared_first, shared_second, wider, longer}
 
 -- ---- two sheets, by what is read from them
 record Reads (s : List ℕ) (n sweeps : ℕ) (codes : List ℕ) (A : ℕ → ℕ → Float) : Type 0 where
-  order-read : order_in s ≡ n
-  sweeps-read : sweepsIn s ≡ sweeps
-  codes-read : codesIn s ≡ codes
-  entries-read : Same n (entryIn s) A
+  order_read : order_in s ≡ n
+  sweeps_read : sweeps_in s ≡ sweeps
+  codes_read : codes_in s ≡ codes
+  entries_read : Same n (entry_in s) A
 
-abbrev sheetBy : ℕ → ℕ → List ℕ → (ℕ → ℕ → Float) → List ℕ
-sheetBy n sweeps codes A = sheetOf n sweeps codes (at n (flat n A))
+abbrev sheet_by : ℕ → ℕ → List ℕ → (ℕ → ℕ → Float) → List ℕ
+sheet_by n sweeps codes A = sheet_of n sweeps codes (at n (flat n A))
 
-as-it-is : (s : List ℕ) → Reads s (order_in s) (sweepsIn s) (codesIn s) (entryIn s)
-as-it-is s = record { order-read = refl; sweeps-read = refl; codes-read = refl; entries-read = λ i j hi hj. refl }
+as_it_is : (s : List ℕ) → Reads s (order_in s) (sweeps_in s) (codes_in s) (entry_in s)
+as_it_is s = record { order_read = refl; sweeps_read = refl; codes_read = refl; entries_read = λ i j hi hj. refl }
 
-as-joint : (s t : List ℕ) → Bytes s → Bytes t → (lb : ℕ) → joinAnswer s t lb ≡ given tt
-    → Reads (jointSheet s t) (jointOrder s t) (jointSweeps s t) (codesIn s ++ codesIn t) (blocks (order_in s) (entryIn s) (entryIn t))
-unfolding jointCodes
-as-joint s t small small' lb e =
+as_joint : (s t : List ℕ) → Bytes s → Bytes t → (lb : ℕ) → join_answer s t lb ≡ given tt
+    → Reads (joint_sheet s t) (joint_order s t) (joint_sweeps s t) (codes_in s ++ codes_in t) (blocks (order_in s) (entry_in s) (entry_in t))
+unfolding joint_codes
+as_joint s t small small' lb e =
     record {
-      order-read = joint-order s t small small' lb e;
-      sweeps-read = joint-sweeps s t small small' lb e;
-      codes-read = joint-codes s t small small' lb e;
-      entries-read = joint-entry s t small small' lb e;
+      order_read = joint_order_lem s t small small' lb e;
+      sweeps_read = joint_sweeps_lem s t small small' lb e;
+      codes_read = joint_codes_lem s t small small' lb e;
+      entries_read = joint_entry s t small small' lb e;
     }
 
 module _ {s t codes others : List ℕ} {n m k l : ℕ} {A B : ℕ → ℕ → Float} (r : Reads s n k codes A) (u : Reads t m l others B) where
-  joint-by : jointSheet s t ≡ sheetBy (n + m) (max k l) (codes ++ others) (blocks n A B)
-  unfolding jointCodes jointMatrix
-  joint-by =
+  joint_by : joint_sheet s t ≡ sheet_by (n + m) (max k l) (codes ++ others) (blocks n A B)
+  unfolding joint_codes joint_matrix
+  joint_by =
       rw (
-        r.order-read,
-        u.order-read,
-        r.sweeps-read,
-        u.sweeps-read,
-        r.codes-read,
-        u.codes-read,
-        flat-same (n + m) _ _ (blocks-same n m r.entries-read u.entries-read),
+        r.order_read,
+        u.order_read,
+        r.sweeps_read,
+        u.sweeps_read,
+        r.codes_read,
+        u.codes_read,
+        flat_same (n + m) _ _ (blocks_same n m r.entries_read u.entries_read),
       )
 
   -- what is known where they are joined
   abbrev Both : ℕ → Type 0
   Both lb =
-      (sheetAnswer s ≡ given tt) × (sheetAnswer t ≡ given tt) × (sharedCode codes others ≡ false) × (is_order (n + m) ≡ true)
-      × (lengthFor (n + m) (codes ++ others) ≤ lb)
+      (sheet_answer s ≡ given tt) × (sheet_answer t ≡ given tt) × (shared_code codes others ≡ false) × (is_order (n + m) ≡ true)
+      × (length_for (n + m) (codes ++ others) ≤ lb)
 
-  both_to : (lb : ℕ) → joinAnswer s t lb ≡ given tt → Both lb
-  unfolding jointCodes
+  both_to : (lb : ℕ) → join_answer s t lb ≡ given tt → Both lb
+  unfolding joint_codes
   both_to lb e =
       let v = joinable s t lb e in
-      rw (← r.order-read, ← u.order-read, ← r.codes-read, ← u.codes-read) (v.first_good, v.second-good, v.apart, v.order, v.room)
+      rw (← r.order_read, ← u.order_read, ← r.codes_read, ← u.codes_read) (v.first_good, v.second_good, v.apart, v.order, v.room)
 
-  both-from : (lb : ℕ) → Both lb → joinAnswer s t lb ≡ given tt
-  unfolding jointCodes
-  both-from lb v =
-      let w = rw (← r.order-read, ← u.order-read, ← r.codes-read, ← u.codes-read) at v in
-      joined s t lb (record { first_good = w.0; second-good = w.1; apart = w.2; order = w.3; room = w.4 })
+  both_from : (lb : ℕ) → Both lb → join_answer s t lb ≡ given tt
+  unfolding joint_codes
+  both_from lb v =
+      let w = rw (← r.order_read, ← u.order_read, ← r.codes_read, ← u.codes_read) at v in
+      joined s t lb (record { first_good = w.0; second_good = w.1; apart = w.2; order = w.3; room = w.4 })
 
 -- ---- three sheets
 -- a sum that is part of an order is one
-sum-order : (n m whole : ℕ) → is_order n ≡ true → n + m ≤ whole → is_order whole ≡ true → is_order (n + m) ≡ true
-sum-order n m whole e h f =
+sum_order : (n m whole : ℕ) → is_order n ≡ true → n + m ≤ whole → is_order whole ≡ true → is_order (n + m) ≡ true
+sum_order n m whole e h f =
     let o = order_is n e in
-    let most : n + m ≤ largestOrder = omega (arith, (order_is whole f).1) in
-    sym (by-largest (n + m) (omega (arith, o.0))) ∙ le-leb (n + m) largestOrder most
+    let most : n + m ≤ largest_order = omega (arith, (order_is whole f).1) in
+    sym (by_largest (n + m) (omega (arith, o.0))) ∙ le-leb (n + m) largest_order most
 
 -- what is known of them, in no order of joining
 pub record Three (a b c : List ℕ) : Type 0 where
-  first_good : sheetAnswer a ≡ given tt
-  second-good : sheetAnswer b ≡ given tt
-  third-good : sheetAnswer c ≡ given tt
-  first-second : sharedCode (codesIn a) (codesIn b) ≡ false
-  first-third : sharedCode (codesIn a) (codesIn c) ≡ false
-  second-third : sharedCode (codesIn b) (codesIn c) ≡ false
+  first_good : sheet_answer a ≡ given tt
+  second_good : sheet_answer b ≡ given tt
+  third_good : sheet_answer c ≡ given tt
+  first_second : shared_code (codes_in a) (codes_in b) ≡ false
+  first_third : shared_code (codes_in a) (codes_in c) ≡ false
+  second_third : shared_code (codes_in b) (codes_in c) ≡ false
   order : is_order (order_in a + (order_in b + order_in c)) ≡ true
 
 -- the joint sheet of the three, and its length
-abbrev pub threeSheet : List ℕ → List ℕ → List ℕ → List ℕ
-threeSheet a b c =
-    sheetBy (order_in a + (order_in b + order_in c)) (max (sweepsIn a) (max (sweepsIn b) (sweepsIn c))) (codesIn a ++ (codesIn b ++ codesIn c))
-    (blocks (order_in a) (entryIn a) (blocks (order_in b) (entryIn b) (entryIn c)))
+abbrev pub three_sheet : List ℕ → List ℕ → List ℕ → List ℕ
+three_sheet a b c =
+    sheet_by (order_in a + (order_in b + order_in c)) (max (sweeps_in a) (max (sweeps_in b) (sweeps_in c))) (codes_in a ++ (codes_in b ++ codes_in c))
+    (blocks (order_in a) (entry_in a) (blocks (order_in b) (entry_in b) (entry_in c)))
 
-abbrev pub threeLength : List ℕ → List ℕ → List ℕ → ℕ
-threeLength a b c = lengthFor (order_in a + (order_in b + order_in c)) (codesIn a ++ (codesIn b ++ codesIn c))
+abbrev pub three_length : List ℕ → List ℕ → List ℕ → ℕ
+three_length a b c = length_for (order_in a + (order_in b + order_in c)) (codes_in a ++ (codes_in b ++ codes_in c))
 
 module _ (a b c : List ℕ) (bytes-a : Bytes a) (bytes-b : Bytes b) (bytes-c : Bytes c) where
   -- the first pair is joined first, or the second pair
-  pub from_first : (p q : ℕ) → joinAnswer a b p ≡ given tt → joinAnswer (jointSheet a b) c q ≡ given tt → Three a b c
+  pub from_first : (p q : ℕ) → join_answer a b p ≡ given tt → join_answer (joint_sheet a b) c q ≡ given tt → Three a b c
   from_first p q e f =
       let v = joinable a b p e in
-      let w = both_to (as-joint a b bytes-a bytes-b p e) (as-it-is c) q f in
-      let apart = or-false _ _ (sym (shared-first (codesIn a) (codesIn b) (codesIn c)) ∙ w.2) in
+      let w = both_to (as_joint a b bytes-a bytes-b p e) (as_it_is c) q f in
+      let apart = or_false _ _ (sym (shared_first (codes_in a) (codes_in b) (codes_in c)) ∙ w.2) in
       record {
         first_good = v.first_good;
-        second-good = v.second-good;
-        third-good = w.1;
-        first-second = v.apart;
-        first-third = apart.0;
-        second-third = apart.1;
+        second_good = v.second_good;
+        third_good = w.1;
+        first_second = v.apart;
+        first_third = apart.0;
+        second_third = apart.1;
         order = rw add_assoc at w.3;
       }
 
-  pub from_second : (p q : ℕ) → joinAnswer b c p ≡ given tt → joinAnswer a (jointSheet b c) q ≡ given tt → Three a b c
+  pub from_second : (p q : ℕ) → join_answer b c p ≡ given tt → join_answer a (joint_sheet b c) q ≡ given tt → Three a b c
   from_second p q e f =
       let v = joinable b c p e in
-      let w = both_to (as-it-is a) (as-joint b c bytes-b bytes-c p e) q f in
-      let apart = or-false _ _ (sym (shared_second (codesIn b) (codesIn c) (codesIn a)) ∙ w.2) in
+      let w = both_to (as_it_is a) (as_joint b c bytes-b bytes-c p e) q f in
+      let apart = or_false _ _ (sym (shared_second (codes_in b) (codes_in c) (codes_in a)) ∙ w.2) in
       record {
         first_good = w.0;
-        second-good = v.first_good;
-        third-good = v.second-good;
-        first-second = apart.0;
-        first-third = apart.1;
-        second-third = v.apart;
+        second_good = v.first_good;
+        third_good = v.second_good;
+        first_second = apart.0;
+        first_third = apart.1;
+        second_third = v.apart;
         order = w.3;
       }
 
   -- the sheet is the same
-  pub by_first : (p : ℕ) → joinAnswer a b p ≡ given tt → jointSheet (jointSheet a b) c ≡ threeSheet a b c
+  pub by_first : (p : ℕ) → join_answer a b p ≡ given tt → joint_sheet (joint_sheet a b) c ≡ three_sheet a b c
   by_first p e =
-      let most : max (max (sweepsIn a) (sweepsIn b)) (sweepsIn c) ≡ max (sweepsIn a) (max (sweepsIn b) (sweepsIn c)) = omega arith in
-      joint-by (as-joint a b bytes-a bytes-b p e) (as-it-is c) ∙ rw (blocks-again, add_assoc, append_assoc, most)
+      let most : max (max (sweeps_in a) (sweeps_in b)) (sweeps_in c) ≡ max (sweeps_in a) (max (sweeps_in b) (sweeps_in c)) = omega arith in
+      joint_by (as_joint a b bytes-a bytes-b p e) (as_it_is c) ∙ rw (blocks_again, add_assoc, append_assoc, most)
 
-  pub by-second : (p : ℕ) → joinAnswer b c p ≡ given tt → jointSheet a (jointSheet b c) ≡ threeSheet a b c
-  by-second p e = joint-by (as-it-is a) (as-joint b c bytes-b bytes-c p e)
+  pub by_second : (p : ℕ) → join_answer b c p ≡ given tt → joint_sheet a (joint_sheet b c) ≡ three_sheet a b c
+  by_second p e = joint_by (as_it_is a) (as_joint b c bytes-b bytes-c p e)
 
   -- both ways are accepted where there is room
-  module _ (known : Three a b c) (p q : ℕ) (room : threeLength a b c ≤ p) (room' : threeLength a b c ≤ q) where
+  module _ (known : Three a b c) (p q : ℕ) (room : three_length a b c ≤ p) (room' : three_length a b c ≤ q) where
     abbrev n : ℕ
     n = order_in a + (order_in b + order_in c)
 
     abbrev codes : List ℕ
-    codes = codesIn a ++ (codesIn b ++ codesIn c)
+    codes = codes_in a ++ (codes_in b ++ codes_in c)
 
-    pub to-first : (joinAnswer a b p ≡ given tt) × (joinAnswer (jointSheet a b) c q ≡ given tt)
-    to-first = (inner, outer)
+    pub to_first : (join_answer a b p ≡ given tt) × (join_answer (joint_sheet a b) c q ≡ given tt)
+    to_first = (inner, outer)
       where
         order : is_order (order_in a + order_in b) ≡ true
-        order = sum-order (order_in a) (order_in b) n (readable-alone a known.first_good).order (omega arith) known.order
+        order = sum_order (order_in a) (order_in b) n (readable_alone a known.first_good).order (omega arith) known.order
 
-        long : lengthFor (order_in a + order_in b) (codesIn a ++ codesIn b) ≤ threeLength a b c
+        long : length_for (order_in a + order_in b) (codes_in a ++ codes_in b) ≤ three_length a b c
         long =
-            let part = rw append_assoc at (wider (codesIn a ++ codesIn b) (codesIn c)).0 in
-            longer (order_in a + order_in b) n (codesIn a ++ codesIn b) codes (omega arith) part
+            let part = rw append_assoc at (wider (codes_in a ++ codes_in b) (codes_in c)).0 in
+            longer (order_in a + order_in b) n (codes_in a ++ codes_in b) codes (omega arith) part
 
-        inner : joinAnswer a b p ≡ given tt
-        inner = both-from (as-it-is a) (as-it-is b) p (known.first_good, known.second-good, known.first-second, order, omega (arith, long))
+        inner : join_answer a b p ≡ given tt
+        inner = both_from (as_it_is a) (as_it_is b) p (known.first_good, known.second_good, known.first_second, order, omega (arith, long))
 
-        outer : joinAnswer (jointSheet a b) c q ≡ given tt
+        outer : join_answer (joint_sheet a b) c q ≡ given tt
         outer =
-            let apart = shared-first (codesIn a) (codesIn b) (codesIn c) ∙ false-or _ _ known.first-third known.second-third in
+            let apart = shared_first (codes_in a) (codes_in b) (codes_in c) ∙ false_or _ _ known.first_third known.second_third in
             let sum = add_assoc (order_in a) (order_in b) (order_in c) in
-            both-from (as-joint a b bytes-a bytes-b p inner) (as-it-is c) q
-            (joint-accepted a b bytes-a bytes-b p inner, known.third-good, apart, rw sum known.order, rw (sum, append_assoc) room')
+            both_from (as_joint a b bytes-a bytes-b p inner) (as_it_is c) q
+            (joint_accepted a b bytes-a bytes-b p inner, known.third_good, apart, rw sum known.order, rw (sum, append_assoc) room')
 
-    pub to-second : (joinAnswer b c p ≡ given tt) × (joinAnswer a (jointSheet b c) q ≡ given tt)
-    to-second = (inner, outer)
+    pub to_second : (join_answer b c p ≡ given tt) × (join_answer a (joint_sheet b c) q ≡ given tt)
+    to_second = (inner, outer)
       where
         order : is_order (order_in b + order_in c) ≡ true
-        order = sum-order (order_in b) (order_in c) n (readable-alone b known.second-good).order (omega arith) known.order
+        order = sum_order (order_in b) (order_in c) n (readable_alone b known.second_good).order (omega arith) known.order
 
-        long : lengthFor (order_in b + order_in c) (codesIn b ++ codesIn c) ≤ threeLength a b c
-        long = longer (order_in b + order_in c) n (codesIn b ++ codesIn c) codes (omega arith) (wider (codesIn a) (codesIn b ++ codesIn c)).1
+        long : length_for (order_in b + order_in c) (codes_in b ++ codes_in c) ≤ three_length a b c
+        long = longer (order_in b + order_in c) n (codes_in b ++ codes_in c) codes (omega arith) (wider (codes_in a) (codes_in b ++ codes_in c)).1
 
-        inner : joinAnswer b c p ≡ given tt
-        inner = both-from (as-it-is b) (as-it-is c) p (known.second-good, known.third-good, known.second-third, order, omega (arith, long))
+        inner : join_answer b c p ≡ given tt
+        inner = both_from (as_it_is b) (as_it_is c) p (known.second_good, known.third_good, known.second_third, order, omega (arith, long))
 
-        outer : joinAnswer a (jointSheet b c) q ≡ given tt
+        outer : join_answer a (joint_sheet b c) q ≡ given tt
         outer =
-            let apart = shared_second (codesIn b) (codesIn c) (codesIn a) ∙ false-or _ _ known.first-second known.first-third in
-            both-from (as-it-is a) (as-joint b c bytes-b bytes-c p inner) q
-            (known.first_good, joint-accepted b c bytes-b bytes-c p inner, apart, known.order, room')
+            let apart = shared_second (codes_in b) (codes_in c) (codes_in a) ∙ false_or _ _ known.first_second known.first_third in
+            both_from (as_it_is a) (as_joint b c bytes-b bytes-c p inner) q
+            (known.first_good, joint_accepted b c bytes-b bytes-c p inner, apart, known.order, room')

@@ -4,53 +4,53 @@ use mathlib.Core.Path.{◌≡◌, refl, sym, ap, ◌∙◌}
 use mathlib.Core.List.{List}
 use lib.ListN.{length, set, drop}
 use lib.Seq.{drop_at}
-use Rattle.refusal.specs.Answers.{Answered, given, refused, giving, unlessRefused}
-use Rattle.refusal.proofs.RefusedOutcomes.{outcome-answers, outcome-left}
+use Rattle.refusal.specs.Answers.{Answered, given, refused, giving, unless_refused}
+use Rattle.refusal.proofs.RefusedOutcomes.{outcome_answers, outcome_left}
 use Rattle.matrix.specs.Matrix.{at}
 use Rattle.sheet.specs.Codes.{width_for}
-use Rattle.sheet.specs.Format.{firstByte, sheetLength, entriesTo, sheetOf}
-use Rattle.sheet_writer.specs.Steps.{withCodes, withEntries}
-use Rattle.sheet_writer.specs.Writer.{WriteOutcome, writeOutcome, writtenOver}
-use Rattle.sheet_writer.proofs.SheetBytes.{sheet-long, written_over}
-use Rattle.sheet_join.specs.Join.{jointOrder, jointSweeps, jointCodes, jointMatrix, jointLength, joinAnswer, joinedOf, join_of}
-use Rattle.sheet_join.proofs.JointContents.{joint-count}
+use Rattle.sheet.specs.Format.{first_byte, sheet_length, entries_to, sheet_of}
+use Rattle.sheet_writer.specs.Steps.{with_codes, with_entries}
+use Rattle.sheet_writer.specs.Writer.{WriteOutcome, write_outcome, overwritten}
+use Rattle.sheet_writer.proofs.SheetBytes.{sheet_long, written_over}
+use Rattle.sheet_join.specs.Join.{joint_order, joint_sweeps, joint_codes, joint_matrix, joint_length, join_answer, joined_of, join_of}
+use Rattle.sheet_join.proofs.JointContents.{joint_count}
 
 module _ (b d l : List ℕ) where
   -- the steps of a joining leave the joint sheet, and the tail
-  pub joined-over : {n w first sweeps count : ℕ} {l₁ l₂ : List ℕ} → jointLength b d ≤ length l → n ≡ jointOrder b d → w ≡ width_for (jointCodes b d)
-      → first ≡ firstByte w n → sweeps ≡ jointSweeps b d → l₁ ≡ withCodes w (jointCodes b d) n (set (set l 0 first) 1 sweeps)
-      → l₂ ≡ withEntries w n (at n (jointMatrix b d)) (entriesTo n) l₁ → count ≡ sheetLength w n → writeOutcome (given count) l₂ ≡ joinedOf b d l
-  joined-over room e w f s g h c =
-      written_over (jointOrder b d) (jointSweeps b d) (jointCodes b d) (jointMatrix b d) l (joint-count b d) room w (rw e at f)
-      (rw (e ∙ sym (joint-count b d), s) at g) (rw e at h) (rw e at c)
+  pub joined_over : {n w first sweeps count : ℕ} {l₁ l₂ : List ℕ} → joint_length b d ≤ length l → n ≡ joint_order b d → w ≡ width_for (joint_codes b d)
+      → first ≡ first_byte w n → sweeps ≡ joint_sweeps b d → l₁ ≡ with_codes w (joint_codes b d) n (set (set l 0 first) 1 sweeps)
+      → l₂ ≡ with_entries w n (at n (joint_matrix b d)) (entries_to n) l₁ → count ≡ sheet_length w n → write_outcome (given count) l₂ ≡ joined_of b d l
+  joined_over room e w f s g h c =
+      written_over (joint_order b d) (joint_sweeps b d) (joint_codes b d) (joint_matrix b d) l (joint_count b d) room w (rw e at f)
+      (rw (e ∙ sym (joint_count b d), s) at g) (rw e at h) (rw e at c)
 
-  pub join-refused : {k : ℕ} {values : List ℕ} → refused k values ≡ joinAnswer b d (length l) → writeOutcome (refused k values) l ≡ join_of b d l
+  pub join_refused : {k : ℕ} {values : List ℕ} → refused k values ≡ join_answer b d (length l) → write_outcome (refused k values) l ≡ join_of b d l
   unfolding join_of
-  join-refused e = rw (← e)
+  join_refused e = rw (← e)
 
-  pub join-accepted-as : {o : WriteOutcome} → given tt ≡ joinAnswer b d (length l) → o ≡ joinedOf b d l → o ≡ join_of b d l
+  pub join_accepted_as : {o : WriteOutcome} → given tt ≡ join_answer b d (length l) → o ≡ joined_of b d l → o ≡ join_of b d l
   unfolding join_of
-  join-accepted-as e f = rw (← e) f
+  join_accepted_as e f = rw (← e) f
 
-  pub join-answers : (join_of b d l).answer ≡ giving (jointLength b d) (joinAnswer b d (length l))
+  pub join_answers : (join_of b d l).answer ≡ giving (joint_length b d) (join_answer b d (length l))
   unfolding join_of
-  join-answers =
-      outcome-answers (λ (o : WriteOutcome). o.answer) (joinedOf b d l) (λ a. writeOutcome a l) refl (λ a. refl) (joinAnswer b d (length l))
+  join_answers =
+      outcome_answers (λ (o : WriteOutcome). o.answer) (joined_of b d l) (λ a. write_outcome a l) refl (λ a. refl) (join_answer b d (length l))
 
-  pub bytes-kept : (k : ℕ) (values : List ℕ) → (join_of b d l).answer ≡ refused k values → (join_of b d l).bytes ≡ l
+  pub bytes_kept : (k : ℕ) (values : List ℕ) → (join_of b d l).answer ≡ refused k values → (join_of b d l).bytes ≡ l
   unfolding join_of
-  bytes-kept k values e =
+  bytes_kept k values e =
       ap (λ (o : WriteOutcome). o.bytes)
-      (outcome-left (λ (o : WriteOutcome). o.answer) (joinedOf b d l) (λ a. writeOutcome a l) refl (λ a. refl) (joinAnswer b d (length l)) e)
+      (outcome_left (λ (o : WriteOutcome). o.answer) (joined_of b d l) (λ a. write_outcome a l) refl (λ a. refl) (join_answer b d (length l)) e)
 
   -- longer bytes keep their tail
-  pub bytes-tail : drop (jointLength b d) (join_of b d l).bytes ≡ drop (jointLength b d) l
+  pub bytes_tail : drop (joint_length b d) (join_of b d l).bytes ≡ drop (joint_length b d) l
   unfolding join_of
-  bytes-tail = go (joinAnswer b d (length l))
+  bytes_tail = go (join_answer b d (length l))
     where
       go : (a : Answered Unit)
-          → drop (jointLength b d) (unlessRefused a (joinedOf b d l) (λ x. writeOutcome x l)).bytes ≡ drop (jointLength b d) l
-      go (given x) = unfold writtenOver in
-          (drop_at (sheetOf (jointOrder b d) (jointSweeps b d) (jointCodes b d) (at (jointOrder b d) (jointMatrix b d))) (drop (jointLength b d) l)
-          (jointLength b d) (sheet-long (jointOrder b d) (jointSweeps b d) (jointCodes b d) (at (jointOrder b d) (jointMatrix b d))))
+          → drop (joint_length b d) (unless_refused a (joined_of b d l) (λ x. write_outcome x l)).bytes ≡ drop (joint_length b d) l
+      go (given x) = unfold overwritten in
+          (drop_at (sheet_of (joint_order b d) (joint_sweeps b d) (joint_codes b d) (at (joint_order b d) (joint_matrix b d))) (drop (joint_length b d) l)
+          (joint_length b d) (sheet_long (joint_order b d) (joint_sweeps b d) (joint_codes b d) (at (joint_order b d) (joint_matrix b d))))
       go (refused k values) = refl

@@ -4,14 +4,14 @@ ghost use Rattle.std.specs.Prelude.{◌≡◌, ◌+◌, ◌*◌, ◌≤◌, max,
 ghost use Rattle.std.specs.Float.{binary64};
 ghost use Rattle.std.specs.Float.Ieee.{to_bits};
 ghost use Rattle.refusal.specs.Answers.{given, answered};
-ghost use Rattle.sizes.specs.Sizes.{largestOrder};
+ghost use Rattle.sizes.specs.Sizes.{largest_order};
 ghost use Rattle.matrix.specs.Matrix.{at};
 ghost use Rattle.sheet.specs.Codes.{width_for};
-ghost use Rattle.sheet.specs.Format.{sheetLength, entriesTo, codesIn};
-ghost use Rattle.sheet_reader.specs.Reader.{sheetAnswer};
-ghost use Rattle.sheet_writer.specs.Steps.{withCodes, withEntries};
-ghost use Rattle.sheet_writer.specs.Writer.{writeOutcome, writingAnswered};
-ghost use Rattle.sheet_join.specs.Join.{jointOrder, jointCodes, jointMatrix, hasCode, sharedCode, joinAnswer, joinedOf, join_of, BothAccepted};
+ghost use Rattle.sheet.specs.Format.{sheet_length, entries_to, codes_in};
+ghost use Rattle.sheet_reader.specs.Reader.{sheet_answer};
+ghost use Rattle.sheet_writer.specs.Steps.{with_codes, with_entries};
+ghost use Rattle.sheet_writer.specs.Writer.{write_outcome, writing_answered};
+ghost use Rattle.sheet_join.specs.Join.{joint_order, joint_codes, joint_matrix, has_code, shared_code, join_answer, joined_of, join_of, BothAccepted};
 
 use refusal::{Answer, Refusal};
 use sheet_writer::Writing;
@@ -19,7 +19,7 @@ use sheet_writer::Writing;
 // Writes the joint sheet of two sheets into lent bytes: the lines of the first, then those of the second, +0 between the two groups, and the
 // larger number of sweeps. A longer buffer keeps its tail.
 pub fn join(first: &[u8], second: &[u8], sheet: &mut [u8]) -> Writing
-    ensures { writeOutcome (writingAnswered result) sheet.new ≡ join_of first.now second.now sheet.old }
+    ensures { write_outcome (writing_answered result) sheet.new ≡ join_of first.now second.now sheet.old }
 {
     match verdict(first, second, sheet.len()) {
         Answer::Accepted => join_accepted(first, second, sheet),
@@ -29,7 +29,7 @@ pub fn join(first: &[u8], second: &[u8], sheet: &mut [u8]) -> Writing
 
 // What the first sheet is refused by, what the second is, and then 10, 1 and 7, where so many bytes are lent.
 fn verdict(first: &[u8], second: &[u8], lent: usize) -> Answer
-    ensures { answered result ≡ joinAnswer first.now second.now lent }
+    ensures { answered result ≡ join_answer first.now second.now lent }
 {
     match sheet_reader::tested(first) {
         Answer::Accepted => {}
@@ -59,7 +59,7 @@ fn verdict(first: &[u8], second: &[u8], lent: usize) -> Answer
 // Whether a code of the first sheet is one of the second.
 fn shares_a_code(first: &[u8], second: &[u8]) -> bool
     requires { BothAccepted first.now second.now }
-    ensures { result ≡ sharedCode (codesIn first.now) (codesIn second.now) }
+    ensures { result ≡ shared_code (codes_in first.now) (codes_in second.now) }
 {
     let width = sheet::width_in(first);
     for k in 0..sheet::order_in(first) {
@@ -72,8 +72,8 @@ fn shares_a_code(first: &[u8], second: &[u8]) -> bool
 
 // Whether a code is one of a sheet.
 fn has_code(code: u16, sheet: &[u8]) -> bool
-    requires { sheetAnswer sheet.now ≡ given tt }
-    ensures { result ≡ hasCode code (codesIn sheet.now) }
+    requires { sheet_answer sheet.now ≡ given tt }
+    ensures { result ≡ has_code code (codes_in sheet.now) }
 {
     let width = sheet::width_in(sheet);
     for k in 0..sheet::order_in(sheet) {
@@ -87,7 +87,7 @@ fn has_code(code: u16, sheet: &[u8]) -> bool
 // The bytes of each code in the joint sheet: two where either sheet has the long form.
 fn joint_width(first: &[u8], second: &[u8]) -> usize
     requires { BothAccepted first.now second.now }
-    ensures { result ≡ width_for (jointCodes first.now second.now) }
+    ensures { result ≡ width_for (joint_codes first.now second.now) }
 {
     if sheet::width_in(first) == 2 {
         return 2;
@@ -97,8 +97,8 @@ fn joint_width(first: &[u8], second: &[u8]) -> usize
 
 // Writes a joint sheet that is not refused.
 fn join_accepted(first: &[u8], second: &[u8], sheet: &mut [u8]) -> Writing
-    requires { joinAnswer first.now second.now (length sheet.old) ≡ given tt }
-    ensures { writeOutcome (writingAnswered result) sheet.new ≡ joinedOf first.now second.now sheet.old }
+    requires { join_answer first.now second.now (length sheet.old) ≡ given tt }
+    ensures { write_outcome (writing_answered result) sheet.new ≡ joined_of first.now second.now sheet.old }
 {
     let n = sheet::order_in(first) + sheet::order_in(second);
     let width = joint_width(first, second);
@@ -119,9 +119,9 @@ fn larger(a: u8, b: u8) -> u8
 }
 
 fn write_codes(width: usize, n: usize, first: &[u8], second: &[u8], sheet: &mut [u8])
-    requires { BothAccepted first.now second.now × (n ≡ jointOrder first.now second.now) × (n ≤ largestOrder) × (1 ≤ width) × (width ≤ 2)
+    requires { BothAccepted first.now second.now × (n ≡ joint_order first.now second.now) × (n ≤ largest_order) × (1 ≤ width) × (width ≤ 2)
         × (2 + width * n ≤ length sheet.old) }
-    ensures { sheet.new ≡ withCodes width (jointCodes first.now second.now) n sheet.old }
+    ensures { sheet.new ≡ with_codes width (joint_codes first.now second.now) n sheet.old }
 {
     for k in 0..n {
         sheet_writer::put_code(width, joint_code(k, first, second), 2 + width * k, sheet);
@@ -130,8 +130,8 @@ fn write_codes(width: usize, n: usize, first: &[u8], second: &[u8], sheet: &mut 
 
 // Code k of the joint sheet, from 0.
 fn joint_code(k: usize, first: &[u8], second: &[u8]) -> u16
-    requires { BothAccepted first.now second.now × (k + 1 ≤ jointOrder first.now second.now) }
-    ensures { result ≡ get_or (jointCodes first.now second.now) k 0 }
+    requires { BothAccepted first.now second.now × (k + 1 ≤ joint_order first.now second.now) }
+    ensures { result ≡ get_or (joint_codes first.now second.now) k 0 }
 {
     let n = sheet::order_in(first);
     if k < n {
@@ -141,10 +141,10 @@ fn joint_code(k: usize, first: &[u8], second: &[u8]) -> u16
 }
 
 fn write_entries(width: usize, n: usize, first: &[u8], second: &[u8], sheet: &mut [u8])
-    requires { BothAccepted first.now second.now × (n ≡ jointOrder first.now second.now) × (n ≤ largestOrder) × (width ≤ 2)
-        × (sheetLength width n ≤ length sheet.old) }
+    requires { BothAccepted first.now second.now × (n ≡ joint_order first.now second.now) × (n ≤ largest_order) × (width ≤ 2)
+        × (sheet_length width n ≤ length sheet.old) }
     ensures { sheet.new
-        ≡ withEntries width n (at n (jointMatrix first.now second.now)) (entriesTo n) sheet.old }
+        ≡ with_entries width n (at n (joint_matrix first.now second.now)) (entries_to n) sheet.old }
 {
     let mut offset = 2 + width * n;
     for i in 0..n {
@@ -157,9 +157,9 @@ fn write_entries(width: usize, n: usize, first: &[u8], second: &[u8], sheet: &mu
 
 // The pattern of the entry in row i and column j of the joint matrix, from 0, up to its diagonal.
 fn joint_pattern(i: usize, j: usize, first: &[u8], second: &[u8]) -> u64
-    requires { BothAccepted first.now second.now × (j ≤ i) × (i + 1 ≤ jointOrder first.now second.now) }
+    requires { BothAccepted first.now second.now × (j ≤ i) × (i + 1 ≤ joint_order first.now second.now) }
     ensures { result ≡ to_bits binary64
-        (at (jointOrder first.now second.now) (jointMatrix first.now second.now) (i + 1) (j + 1)) }
+        (at (joint_order first.now second.now) (joint_matrix first.now second.now) (i + 1) (j + 1)) }
 {
     let n = sheet::order_in(first);
     if i < n {

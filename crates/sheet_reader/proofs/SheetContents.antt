@@ -9,143 +9,143 @@ use lib.Dec.{ltb}
 use lib.ListN.{length, get_or}
 use lib.Ieee.{Float, binary64, of_bits}
 use Rattle.float64.specs.Values.{finite}
-use Rattle.refusal.specs.Answers.{Answered, given, refused, refusedBy, giving, first}
+use Rattle.refusal.specs.Answers.{Answered, given, refused, refused_by, giving, first}
 use Rattle.refusal.specs.declared.Refusal.TheVariants.{NotFinite}
 use Rattle.refusal.proofs.FirstRefusal.{first_found}
-use Rattle.refusal.proofs.RefusedOutcomes.{outcome-answers, outcome-left}
+use Rattle.refusal.proofs.RefusedOutcomes.{outcome_answers, outcome_left}
 use Rattle.refusal.proofs.FirstPlaces.{Searched, searched, place}
-use Rattle.lists.proofs.Tabulated.{length-tabulate, get_d_tabulate}
-use Rattle.lists.proofs.Filled.{Filled, filled-all}
+use Rattle.lists.proofs.Tabulated.{length_tabulate, get_d_tabulate}
+use Rattle.lists.proofs.Filled.{Filled, filled_all}
 use Rattle.matrix.specs.Matrix.{flat}
-use Rattle.sheet.specs.Format.{entriesFrom, entriesTo, entryNumber, wordFrom, width_in, order_in, sweepsIn, code_in, codesIn, patternIn, entryIn}
-use Rattle.sheet.specs.Codes.{badCodes, longCodes}
-use Rattle.sheet_reader.specs.Reader.{OfForm, longInVain, notFiniteIn, storedRow, readAnswer, ReadOutcome, readOutcome, contentOf, read_of}
+use Rattle.sheet.specs.Format.{entries_from, entries_to, entry_number, word_from, width_in, order_in, sweeps_in, code_in, codes_in, pattern_in, entry_in}
+use Rattle.sheet.specs.Codes.{bad_codes, long_codes}
+use Rattle.sheet_reader.specs.Reader.{OfForm, long_in_vain, not_finite_in, stored_row, read_answer, ReadOutcome, read_outcome, content_of, read_of}
 
 -- ---- one stored entry
 module _ (b : List ℕ) where
   -- rows and columns from 0
-  pub pattern-read : {w n o v : ℕ} (i j : ℕ) → OfForm w n b → o ≡ entriesFrom w n + 8 * (entriesTo i + j) → v ≡ wordFrom b o 8
-      → v ≡ patternIn b (i + 1) (j + 1)
-  unfolding patternIn entryNumber
-  pattern-read i j f e g =
+  pub pattern_read : {w n o v : ℕ} (i j : ℕ) → OfForm w n b → o ≡ entries_from w n + 8 * (entries_to i + j) → v ≡ word_from b o 8
+      → v ≡ pattern_in b (i + 1) (j + 1)
+  unfolding pattern_in entry_number
+  pattern_read i j f e g =
       let x : i + 1 - 1 ≡ i = omega arith in
       let y : j + 1 - 1 ≡ j = omega arith in
       rw (x, y, ← f.0, ← f.1, ← e) g
 
   -- ---- both triangles
-  pub above-diagonal : {w : ℕ} (r c : ℕ) → r < c → w ≡ patternIn b c r → of_bits binary64 w ≡ entryIn b r c
-  unfolding entryIn
-  above-diagonal r c h e = rw (lt-ltb r c h, ← e)
+  pub above_diagonal : {w : ℕ} (r c : ℕ) → r < c → w ≡ pattern_in b c r → of_bits binary64 w ≡ entry_in b r c
+  unfolding entry_in
+  above_diagonal r c h e = rw (lt-ltb r c h, ← e)
 
-  pub up-to-diagonal : {w : ℕ} (r c : ℕ) → c ≤ r → w ≡ patternIn b r c → of_bits binary64 w ≡ entryIn b r c
-  unfolding entryIn
-  up-to-diagonal r c h e = rw (le-ltb r c h, ← e)
+  pub up_to_diagonal : {w : ℕ} (r c : ℕ) → c ≤ r → w ≡ pattern_in b r c → of_bits binary64 w ≡ entry_in b r c
+  unfolding entry_in
+  up_to_diagonal r c h e = rw (le-ltb r c h, ← e)
 
   -- an entry at its mirror place
-  pub mirror-read : {w : ℕ} (r c : ℕ) → c ≤ r → w ≡ patternIn b r c → of_bits binary64 w ≡ entryIn b c r
-  mirror-read {w} r c h e = go (ltb c r) refl
+  pub mirror_read : {w : ℕ} (r c : ℕ) → c ≤ r → w ≡ pattern_in b r c → of_bits binary64 w ≡ entry_in b c r
+  mirror_read {w} r c h e = go (ltb c r) refl
     where
-      go : (x : Bool) → ltb c r ≡ x → of_bits binary64 w ≡ entryIn b c r
-      go true z = above-diagonal c r (ltb-true _ _ z) e
-      go false z = let y : r ≤ c = ltb-false _ _ z in let d : c ≡ r = omega arith in rw d (up-to-diagonal r r (omega arith) (rw d at e))
+      go : (x : Bool) → ltb c r ≡ x → of_bits binary64 w ≡ entry_in b c r
+      go true z = above_diagonal c r (ltb-true _ _ z) e
+      go false z = let y : r ≤ c = ltb-false _ _ z in let d : c ≡ r = omega arith in rw d (up_to_diagonal r r (omega arith) (rw d at e))
 
   -- ---- the test
-  pub tested-as : {w : ℕ} {t : Bool} (r c : ℕ) → w ≡ patternIn b r c → t ≡ finite (of_bits binary64 w) → finite (of_bits binary64 (patternIn b r c)) ≡ t
-  tested-as r c e f = rw (← e) (sym f)
+  pub tested_as : {w : ℕ} {t : Bool} (r c : ℕ) → w ≡ pattern_in b r c → t ≡ finite (of_bits binary64 w) → finite (of_bits binary64 (pattern_in b r c)) ≡ t
+  tested_as r c e f = rw (← e) (sym f)
 
-  pub is_finite : (r c : ℕ) → finite (of_bits binary64 (patternIn b r c)) ≡ true → notFiniteIn b r c ≡ given tt
-  unfolding notFiniteIn
+  pub is_finite : (r c : ℕ) → finite (of_bits binary64 (pattern_in b r c)) ≡ true → not_finite_in b r c ≡ given tt
+  unfolding not_finite_in
   is_finite r c e = rw e
 
-  is-not-finite : (r c : ℕ) → finite (of_bits binary64 (patternIn b r c)) ≡ false → notFiniteIn b r c ≡ refusedBy (NotFinite r c)
-  unfolding notFiniteIn
-  is-not-finite r c e = rw e
+  is_not_finite : (r c : ℕ) → finite (of_bits binary64 (pattern_in b r c)) ≡ false → not_finite_in b r c ≡ refused_by (NotFinite r c)
+  unfolding not_finite_in
+  is_not_finite r c e = rw e
 
   -- ---- the rows from top to bottom
-  abbrev rowTested : ℕ → Answered Unit
-  rowTested r = first r (notFiniteIn b r)
+  abbrev row_tested : ℕ → Answered Unit
+  row_tested r = first r (not_finite_in b r)
 
-  pub none_found : (i : ℕ) → i ≡ order_in b → first i rowTested ≡ given tt → given tt ≡ storedRow b
-  unfolding storedRow
+  pub none_found : (i : ℕ) → i ≡ order_in b → first i row_tested ≡ given tt → given tt ≡ stored_row b
+  unfolding stored_row
   none_found i e f = sym (rw e at f)
 
-  pub one_found : (i j : ℕ) → i < order_in b → first i rowTested ≡ given tt → j < i + 1 → first j (notFiniteIn b (i + 1)) ≡ given tt
-      → finite (of_bits binary64 (patternIn b (i + 1) (j + 1))) ≡ false → refusedBy (NotFinite (i + 1) (j + 1)) ≡ storedRow b
-  unfolding storedRow
-  one_found i j h e k f g = sym (first_found rowTested _ _ _ i h e (first_found _ _ _ _ j k f (is-not-finite (i + 1) (j + 1) g)))
+  pub one_found : (i j : ℕ) → i < order_in b → first i row_tested ≡ given tt → j < i + 1 → first j (not_finite_in b (i + 1)) ≡ given tt
+      → finite (of_bits binary64 (pattern_in b (i + 1) (j + 1))) ≡ false → refused_by (NotFinite (i + 1) (j + 1)) ≡ stored_row b
+  unfolding stored_row
+  one_found i j h e k f g = sym (first_found row_tested _ _ _ i h e (first_found _ _ _ _ j k f (is_not_finite (i + 1) (j + 1) g)))
 
   abbrev InTriangle : ℕ → ℕ → Type 0
   InTriangle r c = (1 ≤ r) × (r ≤ order_in b) × (1 ≤ c) × (c ≤ r)
 
-  abbrev storedFinite : ℕ → ℕ → Bool
-  storedFinite r c = finite (of_bits binary64 (patternIn b r c))
+  abbrev stored_finite : ℕ → ℕ → Bool
+  stored_finite r c = finite (of_bits binary64 (pattern_in b r c))
 
-  pub stored-searched : Searched InTriangle storedFinite 5 (storedRow b)
-  unfolding notFiniteIn storedRow
-  stored-searched =
-      searched InTriangle storedFinite 5 (order_in b) (λ r. r) (λ r c y. ((y.0, y.1), (y.2, y.3)))
-      (λ r c y z. place InTriangle storedFinite 5 r c (y.0, y.1, z.0, z.1) (storedFinite r c) refl)
+  pub stored_searched : Searched InTriangle stored_finite 5 (stored_row b)
+  unfolding not_finite_in stored_row
+  stored_searched =
+      searched InTriangle stored_finite 5 (order_in b) (λ r. r) (λ r c y. ((y.0, y.1), (y.2, y.3)))
+      (λ r c y z. place InTriangle stored_finite 5 r c (y.0, y.1, z.0, z.1) (stored_finite r c) refl)
 
   -- ---- codes
-  pub codes-count : length (codesIn b) ≡ order_in b
-  unfolding codesIn
-  codes-count = length-tabulate (order_in b) _
+  pub codes_count : length (codes_in b) ≡ order_in b
+  unfolding codes_in
+  codes_count = length_tabulate (order_in b) _
 
-  pub code_at : (k : ℕ) → k < order_in b → get_or (codesIn b) k 0 ≡ code_in (width_in b) b k
-  unfolding codesIn
+  pub code_at : (k : ℕ) → k < order_in b → get_or (codes_in b) k 0 ≡ code_in (width_in b) b k
+  unfolding codes_in
   code_at k h = get_d_tabulate (order_in b) _ k 0 h
 
-  pub code-of-one : (k : ℕ) → get_or b (2 + k) 0 ≡ code_in 1 b k
-  unfolding code_in wordFrom
-  code-of-one k = let e : 2 + 1 * k + 0 ≡ 2 + k = omega arith in rw e (omega arith)
+  pub code_of_one : (k : ℕ) → get_or b (2 + k) 0 ≡ code_in 1 b k
+  unfolding code_in word_from
+  code_of_one k = let e : 2 + 1 * k + 0 ≡ 2 + k = omega arith in rw e (omega arith)
 
-  pub code-of-two : (k : ℕ) → get_or b (2 + 2 * k) 0 * 256 + get_or b (3 + 2 * k) 0 ≡ code_in 2 b k
-  unfolding code_in wordFrom
-  code-of-two k =
+  pub code_of_two : (k : ℕ) → get_or b (2 + 2 * k) 0 * 256 + get_or b (3 + 2 * k) 0 ≡ code_in 2 b k
+  unfolding code_in word_from
+  code_of_two k =
       let e : 2 + 2 * k + 0 ≡ 2 + 2 * k = omega arith in
       let f : 2 + 2 * k + 1 ≡ 3 + 2 * k = omega arith in
       rw (e, f) (omega arith)
 
   -- ---- the test of the codes
-  module _ {codes : List ℕ} (read : codes ≡ codesIn b) where
-    pub codes-bad : true ≡ badCodes codes → true ≡ (badCodes (codesIn b) || longInVain b)
-    codes-bad e = rw (← read, ← e)
+  module _ {codes : List ℕ} (read : codes ≡ codes_in b) where
+    pub codes_bad : true ≡ bad_codes codes → true ≡ (bad_codes (codes_in b) || long_in_vain b)
+    codes_bad e = rw (← read, ← e)
 
-    module _ {w : ℕ} (form : w ≡ width_in b) (good : false ≡ badCodes codes) where
-      pub codes-short : w ≡ 1 → false ≡ (badCodes (codesIn b) || longInVain b)
-      unfolding longInVain
-      codes-short e = rw (← read, ← good, ← form, e)
+    module _ {w : ℕ} (form : w ≡ width_in b) (good : false ≡ bad_codes codes) where
+      pub codes_short : w ≡ 1 → false ≡ (bad_codes (codes_in b) || long_in_vain b)
+      unfolding long_in_vain
+      codes_short e = rw (← read, ← good, ← form, e)
 
-      pub codes-long : {t : Bool} → w ≡ 2 → t ≡ longCodes codes → not t ≡ (badCodes (codesIn b) || longInVain b)
-      unfolding longInVain
-      codes-long e f = rw (← read, ← good, ← form, e, ← f)
+      pub codes_long : {t : Bool} → w ≡ 2 → t ≡ long_codes codes → not t ≡ (bad_codes (codes_in b) || long_in_vain b)
+      unfolding long_in_vain
+      codes_long e f = rw (← read, ← good, ← form, e, ← f)
 
   -- ---- the whole of it
-  pub codes-read : {w n : ℕ} (k : ℕ) (l : List ℕ) → OfForm w n b → Filled 0 (code_in w b) n k l → n ≤ k → l ≡ codesIn b
-  unfolding codesIn
-  codes-read k l f h o = rw (← f.0, ← f.1) (filled-all k l h o)
+  pub codes_read : {w n : ℕ} (k : ℕ) (l : List ℕ) → OfForm w n b → Filled 0 (code_in w b) n k l → n ≤ k → l ≡ codes_in b
+  unfolding codes_in
+  codes_read k l f h o = rw (← f.0, ← f.1) (filled_all k l h o)
 
-  pub all_read : {n : ℕ} {c : List ℕ} {m : List Float} → n ≡ order_in b → c ≡ codesIn b → m ≡ flat n (entryIn b)
-      → readOutcome (given (n, sweepsIn b)) c m ≡ contentOf b
-  unfolding contentOf
+  pub all_read : {n : ℕ} {c : List ℕ} {m : List Float} → n ≡ order_in b → c ≡ codes_in b → m ≡ flat n (entry_in b)
+      → read_outcome (given (n, sweeps_in b)) c m ≡ content_of b
+  unfolding content_of
   all_read h e f = rw (e, f, h)
 
 -- ---- a refused reading, and one that is not
 module _ (b c : List ℕ) (m : List Float) where
-  pub read-refused : {k : ℕ} {values : List ℕ} → refused k values ≡ readAnswer b (length c) (length m) → readOutcome (refused k values) c m ≡ read_of b c m
+  pub read_refused : {k : ℕ} {values : List ℕ} → refused k values ≡ read_answer b (length c) (length m) → read_outcome (refused k values) c m ≡ read_of b c m
   unfolding read_of
-  read-refused e = rw (← e)
+  read_refused e = rw (← e)
 
-  pub read-accepted-as : {o : ReadOutcome} → given tt ≡ readAnswer b (length c) (length m) → o ≡ contentOf b → o ≡ read_of b c m
+  pub read_accepted_as : {o : ReadOutcome} → given tt ≡ read_answer b (length c) (length m) → o ≡ content_of b → o ≡ read_of b c m
   unfolding read_of
-  read-accepted-as e f = rw (← e) f
+  read_accepted_as e f = rw (← e) f
 
-  pub read-answers : (read_of b c m).answer ≡ giving (order_in b, sweepsIn b) (readAnswer b (length c) (length m))
-  unfolding read_of contentOf
-  read-answers = outcome-answers (λ (o : ReadOutcome). o.answer) (contentOf b) (λ a. readOutcome a c m) refl (λ a. refl) (readAnswer b (length c) (length m))
+  pub read_answers : (read_of b c m).answer ≡ giving (order_in b, sweeps_in b) (read_answer b (length c) (length m))
+  unfolding read_of content_of
+  read_answers = outcome_answers (λ (o : ReadOutcome). o.answer) (content_of b) (λ a. read_outcome a c m) refl (λ a. refl) (read_answer b (length c) (length m))
 
-  pub lent-kept : (k : ℕ) (values : List ℕ) → (read_of b c m).answer ≡ refused k values → ((read_of b c m).codes ≡ c) × ((read_of b c m).matrix ≡ m)
-  unfolding read_of contentOf
-  lent-kept k values e =
-      let w = outcome-left (λ (o : ReadOutcome). o.answer) (contentOf b) (λ a. readOutcome a c m) refl (λ a. refl) (readAnswer b (length c) (length m)) e in
+  pub lent_kept : (k : ℕ) (values : List ℕ) → (read_of b c m).answer ≡ refused k values → ((read_of b c m).codes ≡ c) × ((read_of b c m).matrix ≡ m)
+  unfolding read_of content_of
+  lent_kept k values e =
+      let w = outcome_left (λ (o : ReadOutcome). o.answer) (content_of b) (λ a. read_outcome a c m) refl (λ a. refl) (read_answer b (length c) (length m)) e in
       (ap (λ (o : ReadOutcome). o.codes) w, ap (λ (o : ReadOutcome). o.matrix) w)

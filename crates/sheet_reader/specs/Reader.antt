@@ -3,45 +3,45 @@ use Rattle.std.specs.Prelude.{ℕ, ◌≤◌, ◌≡◌, Bool, not, cond, ◌&&�
 use Rattle.std.specs.Float.{binary64}
 use Rattle.std.specs.Float.Ieee.{of_bits}
 use Rattle.float64.specs.Values.{finite}
-use Rattle.refusal.specs.Answers.{Answered, given, refusedBy, unlessRefused, row, table, first}
+use Rattle.refusal.specs.Answers.{Answered, given, refused_by, unless_refused, row, table, first}
 use Rattle.refusal.specs.declared.Refusal.TheVariants.{Length, Code, NotFinite}
-use Rattle.sizes.specs.Sizes.{largestOrder, orderRow, sweepsRow}
+use Rattle.sizes.specs.Sizes.{largest_order, order_row, sweeps_row}
 use Rattle.matrix.specs.Matrix.{flat}
-use Rattle.matrix.specs.Entries.{isSquare}
-use Rattle.sheet.specs.Format.{sheetLength, width_in, order_in, sweepsIn, lengthIn, codesIn, patternIn, entryIn}
-use Rattle.sheet.specs.Codes.{badCodes, longCodes}
+use Rattle.matrix.specs.Entries.{is_square}
+use Rattle.sheet.specs.Format.{sheet_length, width_in, order_in, sweeps_in, length_in, codes_in, pattern_in, entry_in}
+use Rattle.sheet.specs.Codes.{bad_codes, long_codes}
 use Rattle.sheet_reader.specs.declared.Reading.{Reading}
 use Rattle.sheet_reader.specs.declared.Reading.TheVariants.{Read, Refused}
 
 -- The sheet b has the order n, codes of w bytes and the length of its form.
 abbrev pub OfForm : ℕ → ℕ → List ℕ → Type 0
-OfForm w n b = (w ≡ width_in b) × (n ≡ order_in b) × (n ≤ largestOrder) × (length b ≡ sheetLength w n)
+OfForm w n b = (w ≡ width_in b) × (n ≡ order_in b) × (n ≤ largest_order) × (length b ≡ sheet_length w n)
 
 -- The stored entries in row order.
-unfoldable pub notFiniteIn : List ℕ → ℕ → ℕ → Answered Unit
-notFiniteIn b r c = cond (finite (of_bits binary64 (patternIn b r c))) (given tt) (refusedBy (NotFinite r c))
+unfoldable pub not_finite_in : List ℕ → ℕ → ℕ → Answered Unit
+not_finite_in b r c = cond (finite (of_bits binary64 (pattern_in b r c))) (given tt) (refused_by (NotFinite r c))
 
-unfoldable pub storedRow : List ℕ → Answered Unit
-storedRow b = first (order_in b) (λ r. first r (notFiniteIn b r))
+unfoldable pub stored_row : List ℕ → Answered Unit
+stored_row b = first (order_in b) (λ r. first r (not_finite_in b r))
 
 -- The long form, though every code fits a byte.
-unfoldable pub longInVain : List ℕ → Bool
-longInVain b = eqb (width_in b) 2 && not (longCodes (codesIn b))
+unfoldable pub long_in_vain : List ℕ → Bool
+long_in_vain b = eqb (width_in b) 2 && not (long_codes (codes_in b))
 
 -- The table from top to bottom. long says that all lengths are right.
-abbrev pub sheetTable : List ℕ → Bool → Answered Unit
-sheetTable b long =
+abbrev pub sheet_table : List ℕ → Bool → Answered Unit
+sheet_table b long =
     table
-    (row (ltb (length b) 2) Length ∷ orderRow (order_in b) ∷ sweepsRow (sweepsIn b) ∷ row (not long) Length ∷ row (badCodes (codesIn b)) Code
-    ∷ row (longInVain b) Code ∷ storedRow b ∷ [])
+    (row (ltb (length b) 2) Length ∷ order_row (order_in b) ∷ sweeps_row (sweeps_in b) ∷ row (not long) Length ∷ row (bad_codes (codes_in b)) Code
+    ∷ row (long_in_vain b) Code ∷ stored_row b ∷ [])
 
 -- What a sheet is refused by, by its bytes alone.
-unfoldable pub sheetAnswer : List ℕ → Answered Unit
-sheetAnswer b = sheetTable b (eqb (length b) (lengthIn b))
+unfoldable pub sheet_answer : List ℕ → Answered Unit
+sheet_answer b = sheet_table b (eqb (length b) (length_in b))
 
 -- What a reading is refused by; lc and lm are the lengths of the lent codes and of the lent matrix.
-unfoldable pub readAnswer : List ℕ → ℕ → ℕ → Answered Unit
-readAnswer b lc lm = sheetTable b (eqb lc (order_in b) && (isSquare (order_in b) lm && eqb (length b) (lengthIn b)))
+unfoldable pub read_answer : List ℕ → ℕ → ℕ → Answered Unit
+read_answer b lc lm = sheet_table b (eqb lc (order_in b) && (is_square (order_in b) lm && eqb (length b) (length_in b)))
 
 -- What a reading answers, and what the lent codes and the lent matrix hold after it.
 pub record ReadOutcome : Type 0 where
@@ -49,16 +49,16 @@ pub record ReadOutcome : Type 0 where
   pub codes : List ℕ
   pub matrix : List Float
 
-abbrev pub readOutcome : Answered (ℕ × ℕ) → List ℕ → List Float → ReadOutcome
-readOutcome a c m = record { answer = a; codes = c; matrix = m }
+abbrev pub read_outcome : Answered (ℕ × ℕ) → List ℕ → List Float → ReadOutcome
+read_outcome a c m = record { answer = a; codes = c; matrix = m }
 
-abbrev pub readingAnswered : Reading → Answered (ℕ × ℕ)
-readingAnswered (Read n sweeps) = given (n, sweeps)
-readingAnswered (Refused r) = refusedBy r
+abbrev pub reading_answered : Reading → Answered (ℕ × ℕ)
+reading_answered (Read n sweeps) = given (n, sweeps)
+reading_answered (Refused r) = refused_by r
 
 -- The order and the sweeps, the codes, and the matrix with both triangles.
-unfoldable pub contentOf : List ℕ → ReadOutcome
-contentOf b = readOutcome (given (order_in b, sweepsIn b)) (codesIn b) (flat (order_in b) (entryIn b))
+unfoldable pub content_of : List ℕ → ReadOutcome
+content_of b = read_outcome (given (order_in b, sweeps_in b)) (codes_in b) (flat (order_in b) (entry_in b))
 
 unfoldable pub read_of : List ℕ → List ℕ → List Float → ReadOutcome
-read_of b c m = unlessRefused (readAnswer b (length c) (length m)) (contentOf b) (λ a. readOutcome a c m)
+read_of b c m = unless_refused (read_answer b (length c) (length m)) (content_of b) (λ a. read_outcome a c m)

@@ -3,9 +3,9 @@
 ghost use Rattle.std.specs.Prelude.{◌≡◌, ◌||◌, ◌+◌, ◌*◌, ◌≤◌, length};
 ghost use Rattle.refusal.specs.Answers.{given, answered};
 ghost use Rattle.matrix.specs.Matrix.{flat};
-ghost use Rattle.sheet.specs.Format.{order_in, code_in, codesIn, wordFrom, patternIn, entryIn};
-ghost use Rattle.sheet.specs.Codes.{badCodes};
-ghost use Rattle.sheet_reader.specs.Reader.{OfForm, storedRow, longInVain, sheetAnswer, readAnswer, readOutcome, readingAnswered, contentOf, read_of};
+ghost use Rattle.sheet.specs.Format.{order_in, code_in, codes_in, word_from, pattern_in, entry_in};
+ghost use Rattle.sheet.specs.Codes.{bad_codes};
+ghost use Rattle.sheet_reader.specs.Reader.{OfForm, stored_row, long_in_vain, sheet_answer, read_answer, read_outcome, reading_answered, content_of, read_of};
 
 use refusal::{Answer, Refusal};
 use sizes::LARGEST_ORDER;
@@ -19,7 +19,7 @@ pub enum Reading {
 
 // Reads a sheet into lent codes and a lent matrix.
 pub fn read(sheet: &[u8], codes: &mut [u16], matrix: &mut [f64]) -> Reading
-    ensures { readOutcome (readingAnswered result) codes.new matrix.new
+    ensures { read_outcome (reading_answered result) codes.new matrix.new
         ≡ read_of sheet.now codes.old matrix.old }
 {
     match verdict(sheet, codes.len(), matrix.len()) {
@@ -30,7 +30,7 @@ pub fn read(sheet: &[u8], codes: &mut [u16], matrix: &mut [f64]) -> Reading
 
 // What a sheet is refused by, by its bytes alone.
 pub fn tested(sheet: &[u8]) -> Answer
-    ensures { answered result ≡ sheetAnswer sheet.now }
+    ensures { answered result ≡ sheet_answer sheet.now }
 {
     let n = sheet::order_in(sheet);
     verdict(sheet, n, n * n)
@@ -38,7 +38,7 @@ pub fn tested(sheet: &[u8]) -> Answer
 
 // Refusals 3, 1, 2, 3, 4 and 5 of a sheet, where the lent codes and the lent matrix have these lengths.
 fn verdict(sheet: &[u8], codes: usize, matrix: usize) -> Answer
-    ensures { answered result ≡ readAnswer sheet.now codes matrix }
+    ensures { answered result ≡ read_answer sheet.now codes matrix }
 {
     if sheet.len() < 2 {
         return Answer::Refused(Refusal::Length);
@@ -69,7 +69,7 @@ fn verdict(sheet: &[u8], codes: usize, matrix: usize) -> Answer
 // Whether a code of a sheet is zero or used before, or the sheet has the long form in vain.
 fn has_refused_code(width: usize, n: usize, sheet: &[u8]) -> bool
     requires { OfForm width n sheet.now }
-    ensures { result ≡ (badCodes (codesIn sheet.now) || longInVain sheet.now) }
+    ensures { result ≡ (bad_codes (codes_in sheet.now) || long_in_vain sheet.now) }
 {
     let mut codes = [0u16; LARGEST_ORDER];
     refuses_codes(width, n, sheet, &mut codes[..n])
@@ -78,7 +78,7 @@ fn has_refused_code(width: usize, n: usize, sheet: &[u8]) -> bool
 // The same, by way of codes that are lent.
 fn refuses_codes(width: usize, n: usize, sheet: &[u8], codes: &mut [u16]) -> bool
     requires { OfForm width n sheet.now × (length codes.old ≡ n) }
-    ensures { result ≡ (badCodes (codesIn sheet.now) || longInVain sheet.now) }
+    ensures { result ≡ (bad_codes (codes_in sheet.now) || long_in_vain sheet.now) }
 {
     read_codes(width, n, sheet, codes);
     if sheet::has_bad_code(codes) {
@@ -93,7 +93,7 @@ fn refuses_codes(width: usize, n: usize, sheet: &[u8], codes: &mut [u16]) -> boo
 // The first stored entry that is not finite, by its pattern.
 fn first_not_finite(width: usize, n: usize, sheet: &[u8]) -> Answer
     requires { OfForm width n sheet.now }
-    ensures { answered result ≡ storedRow sheet.now }
+    ensures { answered result ≡ stored_row sheet.now }
 {
     let mut found = Answer::Accepted;
     let mut offset = 2 + width * n;
@@ -112,7 +112,7 @@ fn first_not_finite(width: usize, n: usize, sheet: &[u8]) -> Answer
 // The word of the 8 bytes from `at` on, the highest first.
 fn word_at(bytes: &[u8], at: usize) -> u64
     requires { at + 8 ≤ length bytes.now }
-    ensures { result ≡ wordFrom bytes.now at 8 }
+    ensures { result ≡ word_from bytes.now at 8 }
 {
     let mut word: u64 = 0;
     for k in 0..8 {
@@ -123,8 +123,8 @@ fn word_at(bytes: &[u8], at: usize) -> u64
 
 // Reads a sheet that is not refused.
 fn read_accepted(sheet: &[u8], codes: &mut [u16], matrix: &mut [f64]) -> Reading
-    requires { readAnswer sheet.now (length codes.old) (length matrix.old) ≡ given tt }
-    ensures { readOutcome (readingAnswered result) codes.new matrix.new ≡ contentOf sheet.now }
+    requires { read_answer sheet.now (length codes.old) (length matrix.old) ≡ given tt }
+    ensures { read_outcome (reading_answered result) codes.new matrix.new ≡ content_of sheet.now }
 {
     let n = sheet::order_in(sheet);
     let width = sheet::width_in(sheet);
@@ -135,7 +135,7 @@ fn read_accepted(sheet: &[u8], codes: &mut [u16], matrix: &mut [f64]) -> Reading
 
 fn read_codes(width: usize, n: usize, sheet: &[u8], codes: &mut [u16])
     requires { OfForm width n sheet.now × (length codes.old ≡ n) }
-    ensures { codes.new ≡ codesIn sheet.now }
+    ensures { codes.new ≡ codes_in sheet.now }
 {
     for k in 0..n {
         codes[k] = code_at(width, k, sheet);
@@ -155,8 +155,8 @@ pub fn code_at(width: usize, k: usize, sheet: &[u8]) -> u16
 
 // The pattern of the stored entry in row i and column j, from 0, of a sheet that is not refused.
 pub fn pattern_at(i: usize, j: usize, sheet: &[u8]) -> u64
-    requires { (sheetAnswer sheet.now ≡ given tt) × (j ≤ i) × (i + 1 ≤ order_in sheet.now) }
-    ensures { result ≡ patternIn sheet.now (i + 1) (j + 1) }
+    requires { (sheet_answer sheet.now ≡ given tt) × (j ≤ i) × (i + 1 ≤ order_in sheet.now) }
+    ensures { result ≡ pattern_in sheet.now (i + 1) (j + 1) }
 {
     let from = 2 + sheet::width_in(sheet) * sheet::order_in(sheet);
     word_at(sheet, from + 8 * (i * (i + 1) / 2 + j))
@@ -165,7 +165,7 @@ pub fn pattern_at(i: usize, j: usize, sheet: &[u8]) -> u64
 // Each stored entry goes to its place and to the mirror place.
 fn read_entries(width: usize, n: usize, sheet: &[u8], matrix: &mut [f64])
     requires { OfForm width n sheet.now × (length matrix.old ≡ n * n) }
-    ensures { matrix.new ≡ flat n (entryIn sheet.now) }
+    ensures { matrix.new ≡ flat n (entry_in sheet.now) }
 {
     let mut offset = 2 + width * n;
     for i in 0..n {

@@ -7,101 +7,101 @@ use borrow.Author.Tests.{lt-ltb, le-ltb, eq-eqb, ne_eqb, eqb-true, ltb-false}
 use lib.Dec.{eqb, ltb}
 use lib.ListN.{length}
 use lib.Ieee.{Float}
-use Rattle.refusal.specs.Answers.{Answered, given, refused, refusedBy, or_else, row, table}
+use Rattle.refusal.specs.Answers.{Answered, given, refused, refused_by, or_else, row, table}
 use Rattle.refusal.specs.declared.Refusal.TheVariants.{Length, Code, TooShort}
-use Rattle.refusal.proofs.FirstRefusal.{refused-given, both-given, row-given, table-joined}
-use Rattle.sizes.specs.Sizes.{is_order, mostSweeps, sizesAnswer}
-use Rattle.sizes.proofs.Orders.{sizes-fine, sizes-given, sizes-first}
-use Rattle.matrix.specs.Entries.{isSquare, finiteRow, mirrorRow, entriesOf}
-use Rattle.sheet.specs.Format.{lengthFor}
-use Rattle.sheet.specs.Codes.{badCodes}
-use Rattle.sheet_writer.specs.Writer.{writeAnswer}
+use Rattle.refusal.proofs.FirstRefusal.{refused_given, both_given, row_given, table_joined}
+use Rattle.sizes.specs.Sizes.{is_order, most_sweeps, sizes_answer}
+use Rattle.sizes.proofs.Orders.{sizes_fine, sizes_given, sizes_first}
+use Rattle.matrix.specs.Entries.{is_square, finite_row, mirror_row, entries_of}
+use Rattle.sheet.specs.Format.{length_for}
+use Rattle.sheet.specs.Codes.{bad_codes}
+use Rattle.sheet_writer.specs.Writer.{write_answer}
 
 module _ (n sweeps : ℕ) (codes : List ℕ) (l : List Float) (lb : ℕ) where
   -- the last row, and the rows from the codes and from the lengths on
-  abbrev roomRows : List (Answered Unit)
-  roomRows = row (ltb lb (lengthFor n codes)) TooShort ∷ []
+  abbrev room_rows : List (Answered Unit)
+  room_rows = row (ltb lb (length_for n codes)) TooShort ∷ []
 
-  abbrev codeRows : List (Answered Unit)
-  codeRows = row (badCodes codes) Code ∷ finiteRow n l ∷ mirrorRow n l ∷ roomRows
+  abbrev code_rows : List (Answered Unit)
+  code_rows = row (bad_codes codes) Code ∷ finite_row n l ∷ mirror_row n l ∷ room_rows
 
-  abbrev lengthRows : List (Answered Unit)
-  lengthRows = row (not (eqb (length codes) n && isSquare n (length l))) Length ∷ codeRows
+  abbrev length_rows : List (Answered Unit)
+  length_rows = row (not (eqb (length codes) n && is_square n (length l))) Length ∷ code_rows
 
   -- the whole table, with the rows of the sizes as one answer
-  by-sizes : or_else (sizesAnswer n sweeps) (table lengthRows) ≡ writeAnswer n sweeps codes l lb
-  unfolding writeAnswer
-  by-sizes = sizes-first n sweeps (table lengthRows)
+  by_sizes : or_else (sizes_answer n sweeps) (table length_rows) ≡ write_answer n sweeps codes l lb
+  unfolding write_answer
+  by_sizes = sizes_first n sweeps (table length_rows)
 
-  pub sizes-refused : {k : ℕ} {values : List ℕ} → refused k values ≡ sizesAnswer n sweeps → refused k values ≡ writeAnswer n sweeps codes l lb
-  sizes-refused e = rw (← by-sizes, ← e)
+  pub sizes_refused : {k : ℕ} {values : List ℕ} → refused k values ≡ sizes_answer n sweeps → refused k values ≡ write_answer n sweeps codes l lb
+  sizes_refused e = rw (← by_sizes, ← e)
 
   -- the rows of the entries as one answer
-  entries-first : length l ≡ n * n → or_else (entriesOf n l) (table roomRows) ≡ table (finiteRow n l ∷ mirrorRow n l ∷ roomRows)
-  unfolding entriesOf
-  entries-first e = rw (eq-eqb (length l) (n * n) e) (sym (table-joined (finiteRow n l ∷ mirrorRow n l ∷ []) roomRows))
+  entries_first : length l ≡ n * n → or_else (entries_of n l) (table room_rows) ≡ table (finite_row n l ∷ mirror_row n l ∷ room_rows)
+  unfolding entries_of
+  entries_first e = rw (eq-eqb (length l) (n * n) e) (sym (table_joined (finite_row n l ∷ mirror_row n l ∷ []) room_rows))
 
-  module _ (order : is_order n ≡ true) (few : sweeps ≤ mostSweeps) where
-    by_lengths : {a : Answered Unit} → a ≡ table lengthRows → a ≡ writeAnswer n sweeps codes l lb
-    by_lengths z = rw (← by-sizes, ← sizes-fine n sweeps order few) z
+  module _ (order : is_order n ≡ true) (few : sweeps ≤ most_sweeps) where
+    by_lengths : {a : Answered Unit} → a ≡ table length_rows → a ≡ write_answer n sweeps codes l lb
+    by_lengths z = rw (← by_sizes, ← sizes_fine n sweeps order few) z
 
-    pub write-3 : ¬ (length codes ≡ n) → refusedBy Length ≡ writeAnswer n sweeps codes l lb
-    write-3 e = by_lengths (rw (ne_eqb (length codes) n e))
+    pub write_3 : ¬ (length codes ≡ n) → refused_by Length ≡ write_answer n sweeps codes l lb
+    write_3 e = by_lengths (rw (ne_eqb (length codes) n e))
 
-    module _ (codes-long : length codes ≡ n) where
-      pub write-3-too : ¬ (length l ≡ n * n) → refusedBy Length ≡ writeAnswer n sweeps codes l lb
-      write-3-too e = by_lengths (rw (eq-eqb (length codes) n codes-long, ne_eqb (length l) (n * n) e))
+    module _ (codes_long : length codes ≡ n) where
+      pub write_3_too : ¬ (length l ≡ n * n) → refused_by Length ≡ write_answer n sweeps codes l lb
+      write_3_too e = by_lengths (rw (eq-eqb (length codes) n codes_long, ne_eqb (length l) (n * n) e))
 
-      module _ (matrix-long : length l ≡ n * n) where
-        by_codes : {a : Answered Unit} → a ≡ table codeRows → a ≡ writeAnswer n sweeps codes l lb
-        by_codes z = by_lengths (rw (eq-eqb (length codes) n codes-long, eq-eqb (length l) (n * n) matrix-long) z)
+      module _ (matrix_long : length l ≡ n * n) where
+        by_codes : {a : Answered Unit} → a ≡ table code_rows → a ≡ write_answer n sweeps codes l lb
+        by_codes z = by_lengths (rw (eq-eqb (length codes) n codes_long, eq-eqb (length l) (n * n) matrix_long) z)
 
-        pub write-4 : badCodes codes ≡ true → refusedBy Code ≡ writeAnswer n sweeps codes l lb
-        write-4 e = by_codes (rw e)
+        pub write_4 : bad_codes codes ≡ true → refused_by Code ≡ write_answer n sweeps codes l lb
+        write_4 e = by_codes (rw e)
 
-        module _ (good : badCodes codes ≡ false) where
-          by_entries : {a : Answered Unit} → a ≡ or_else (entriesOf n l) (table roomRows) → a ≡ writeAnswer n sweeps codes l lb
-          by_entries z = by_codes (rw good (z ∙ entries-first matrix-long))
+        module _ (good : bad_codes codes ≡ false) where
+          by_entries : {a : Answered Unit} → a ≡ or_else (entries_of n l) (table room_rows) → a ≡ write_answer n sweeps codes l lb
+          by_entries z = by_codes (rw good (z ∙ entries_first matrix_long))
 
-          pub write-5-6 : {k : ℕ} {values : List ℕ} → refused k values ≡ entriesOf n l → refused k values ≡ writeAnswer n sweeps codes l lb
-          write-5-6 e = by_entries (rw (← e))
+          pub write_5_6 : {k : ℕ} {values : List ℕ} → refused k values ≡ entries_of n l → refused k values ≡ write_answer n sweeps codes l lb
+          write_5_6 e = by_entries (rw (← e))
 
-          pub write-7 : given tt ≡ entriesOf n l → lb < lengthFor n codes → refusedBy TooShort ≡ writeAnswer n sweeps codes l lb
-          write-7 e h = by_entries (rw (← e, lt-ltb lb (lengthFor n codes) h))
+          pub write_7 : given tt ≡ entries_of n l → lb < length_for n codes → refused_by TooShort ≡ write_answer n sweeps codes l lb
+          write_7 e h = by_entries (rw (← e, lt-ltb lb (length_for n codes) h))
 
-          pub write-all : given tt ≡ entriesOf n l → lengthFor n codes ≤ lb → given tt ≡ writeAnswer n sweeps codes l lb
-          write-all e h = by_entries (rw (← e, le-ltb lb (lengthFor n codes) h))
+          pub write_all : given tt ≡ entries_of n l → length_for n codes ≤ lb → given tt ≡ write_answer n sweeps codes l lb
+          write_all e h = by_entries (rw (← e, le-ltb lb (length_for n codes) h))
 
 -- what is known of a sheet that is written
 pub record Writable (n sweeps : ℕ) (codes : List ℕ) (l : List Float) (lb : ℕ) : Type 0 where
   pub order : is_order n ≡ true
-  pub few : sweeps ≤ mostSweeps
-  pub codes-long : length codes ≡ n
-  pub matrix-long : length l ≡ n * n
-  pub codes-good : badCodes codes ≡ false
-  pub entries-good : entriesOf n l ≡ given tt
-  pub room : lengthFor n codes ≤ lb
+  pub few : sweeps ≤ most_sweeps
+  pub codes_long : length codes ≡ n
+  pub matrix_long : length l ≡ n * n
+  pub codes_good : bad_codes codes ≡ false
+  pub entries_good : entries_of n l ≡ given tt
+  pub room : length_for n codes ≤ lb
 
 both_long : (p q : Bool) → row (not (p && q)) Length ≡ given tt → (p ≡ true) × (q ≡ true)
-both_long false q e = refused-given e
-both_long true false e = refused-given e
+both_long false q e = refused_given e
+both_long true false e = refused_given e
 both_long true true e = (refl, refl)
 
-pub writable : (n sweeps : ℕ) (codes : List ℕ) (l : List Float) (lb : ℕ) → writeAnswer n sweeps codes l lb ≡ given tt → Writable n sweeps codes l lb
+pub writable : (n sweeps : ℕ) (codes : List ℕ) (l : List Float) (lb : ℕ) → write_answer n sweeps codes l lb ≡ given tt → Writable n sweeps codes l lb
 writable n sweeps codes l lb e =
-    let below = both-given (sizesAnswer n sweeps) (table (lengthRows n sweeps codes l lb)) (by-sizes n sweeps codes l lb ∙ e) in
-    let sizes = sizes-given n sweeps below.0 in
-    let lengths = both-given _ (table (codeRows n sweeps codes l lb)) below.1 in
-    let long = both_long (eqb (length codes) n) (isSquare n (length l)) lengths.0 in
+    let below = both_given (sizes_answer n sweeps) (table (length_rows n sweeps codes l lb)) (by_sizes n sweeps codes l lb ∙ e) in
+    let sizes = sizes_given n sweeps below.0 in
+    let lengths = both_given _ (table (code_rows n sweeps codes l lb)) below.1 in
+    let long = both_long (eqb (length codes) n) (is_square n (length l)) lengths.0 in
     let square = eqb-true (length l) (n * n) long.1 in
-    let content = both-given (row (badCodes codes) Code) _ lengths.1 in
-    let entries = both-given (entriesOf n l) (table (roomRows n sweeps codes l lb)) (entries-first n sweeps codes l lb square ∙ content.1) in
+    let content = both_given (row (bad_codes codes) Code) _ lengths.1 in
+    let entries = both_given (entries_of n l) (table (room_rows n sweeps codes l lb)) (entries_first n sweeps codes l lb square ∙ content.1) in
     record {
       order = sizes.0;
       few = sizes.1;
-      codes-long = eqb-true _ _ long.0;
-      matrix-long = square;
-      codes-good = row-given _ Code content.0;
-      entries-good = entries.0;
-      room = ltb-false _ _ (row-given _ TooShort (both-given (row (ltb lb (lengthFor n codes)) TooShort) (given tt) entries.1).0);
+      codes_long = eqb-true _ _ long.0;
+      matrix_long = square;
+      codes_good = row_given _ Code content.0;
+      entries_good = entries.0;
+      room = ltb-false _ _ (row_given _ TooShort (both_given (row (ltb lb (length_for n codes)) TooShort) (given tt) entries.1).0);
     }

@@ -1,41 +1,41 @@
 -- Document 01, "Refused, by place", and document 02 (i): what the writer of sheets answers and leaves. Definitions only.
 use Rattle.std.specs.Prelude.{ℕ, not, ◌&&◌, List, [], ◌∷◌, ◌++◌, eqb, ltb, length, drop, Float}
-use Rattle.refusal.specs.Answers.{Answered, given, refusedBy, unlessRefused, row, table}
+use Rattle.refusal.specs.Answers.{Answered, given, refused_by, unless_refused, row, table}
 use Rattle.refusal.specs.declared.Refusal.TheVariants.{Length, Code, TooShort}
-use Rattle.sizes.specs.Sizes.{orderRow, sweepsRow}
+use Rattle.sizes.specs.Sizes.{order_row, sweeps_row}
 use Rattle.matrix.specs.Matrix.{at}
-use Rattle.matrix.specs.Entries.{isSquare, finiteRow, mirrorRow}
-use Rattle.sheet.specs.Format.{lengthFor, sheetOf}
-use Rattle.sheet.specs.Codes.{badCodes}
+use Rattle.matrix.specs.Entries.{is_square, finite_row, mirror_row}
+use Rattle.sheet.specs.Format.{length_for, sheet_of}
+use Rattle.sheet.specs.Codes.{bad_codes}
 use Rattle.sheet_writer.specs.declared.Writing.{Writing}
 use Rattle.sheet_writer.specs.declared.Writing.TheVariants.{Written, Refused}
 
 -- The table from top to bottom. lb is the number of lent bytes.
-unfoldable pub writeAnswer : ℕ → ℕ → List ℕ → List Float → ℕ → Answered Unit
-writeAnswer n sweeps codes l lb =
+unfoldable pub write_answer : ℕ → ℕ → List ℕ → List Float → ℕ → Answered Unit
+write_answer n sweeps codes l lb =
     table
-    (orderRow n ∷ sweepsRow sweeps ∷ row (not (eqb (length codes) n && isSquare n (length l))) Length ∷ row (badCodes codes) Code ∷ finiteRow n l
-    ∷ mirrorRow n l ∷ row (ltb lb (lengthFor n codes)) TooShort ∷ [])
+    (order_row n ∷ sweeps_row sweeps ∷ row (not (eqb (length codes) n && is_square n (length l))) Length ∷ row (bad_codes codes) Code ∷ finite_row n l
+    ∷ mirror_row n l ∷ row (ltb lb (length_for n codes)) TooShort ∷ [])
 
 -- What a writing answers, which is how many bytes it wrote, and what the lent bytes hold after it.
 pub record WriteOutcome : Type 0 where
   pub answer : Answered ℕ
   pub bytes : List ℕ
 
-abbrev pub writeOutcome : Answered ℕ → List ℕ → WriteOutcome
-writeOutcome a b = record { answer = a; bytes = b }
+abbrev pub write_outcome : Answered ℕ → List ℕ → WriteOutcome
+write_outcome a b = record { answer = a; bytes = b }
 
-abbrev pub writingAnswered : Writing → Answered ℕ
-writingAnswered (Written count) = given count
-writingAnswered (Refused r) = refusedBy r
+abbrev pub writing_answered : Writing → Answered ℕ
+writing_answered (Written count) = given count
+writing_answered (Refused r) = refused_by r
 
 -- A longer buffer keeps its tail.
-unfoldable pub writtenOver : ℕ → ℕ → List ℕ → List Float → List ℕ → List ℕ
-writtenOver n sweeps codes l b = sheetOf n sweeps codes (at n l) ++ drop (lengthFor n codes) b
+unfoldable pub overwritten : ℕ → ℕ → List ℕ → List Float → List ℕ → List ℕ
+overwritten n sweeps codes l b = sheet_of n sweeps codes (at n l) ++ drop (length_for n codes) b
 
 -- The outcome where nothing is refused.
 abbrev pub written_of : ℕ → ℕ → List ℕ → List Float → List ℕ → WriteOutcome
-written_of n sweeps codes l b = writeOutcome (given (lengthFor n codes)) (writtenOver n sweeps codes l b)
+written_of n sweeps codes l b = write_outcome (given (length_for n codes)) (overwritten n sweeps codes l b)
 
-unfoldable pub writeOf : ℕ → ℕ → List ℕ → List Float → List ℕ → WriteOutcome
-writeOf n sweeps codes l b = unlessRefused (writeAnswer n sweeps codes l (length b)) (written_of n sweeps codes l b) (λ a. writeOutcome a b)
+unfoldable pub write_of : ℕ → ℕ → List ℕ → List Float → List ℕ → WriteOutcome
+write_of n sweeps codes l b = unless_refused (write_answer n sweeps codes l (length b)) (written_of n sweeps codes l b) (λ a. write_outcome a b)

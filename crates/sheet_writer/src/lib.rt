@@ -3,10 +3,10 @@
 ghost use Rattle.std.specs.Prelude.{◌≡◌, ◌+◌, ◌*◌, ◌≤◌, length};
 ghost use Rattle.refusal.specs.Answers.{given, answered};
 ghost use Rattle.matrix.specs.Matrix.{at};
-ghost use Rattle.sizes.specs.Sizes.{largestOrder};
-ghost use Rattle.sheet.specs.Format.{sheetLength, entriesTo};
-ghost use Rattle.sheet_writer.specs.Steps.{withBytes, withCodes, withEntries};
-ghost use Rattle.sheet_writer.specs.Writer.{writeAnswer, writeOutcome, writingAnswered, written_of, writeOf};
+ghost use Rattle.sizes.specs.Sizes.{largest_order};
+ghost use Rattle.sheet.specs.Format.{sheet_length, entries_to};
+ghost use Rattle.sheet_writer.specs.Steps.{with_bytes, with_codes, with_entries};
+ghost use Rattle.sheet_writer.specs.Writer.{write_answer, write_outcome, writing_answered, written_of, write_of};
 
 use refusal::{Answer, Refusal};
 
@@ -19,8 +19,8 @@ pub enum Writing {
 
 // Writes a sheet into lent bytes, in the short form wherever every code fits a byte. A longer buffer keeps its tail.
 pub fn write(n: usize, sweeps: usize, codes: &[u16], matrix: &[f64], sheet: &mut [u8]) -> Writing
-    ensures { writeOutcome (writingAnswered result) sheet.new
-        ≡ writeOf n sweeps codes.now matrix.now sheet.old }
+    ensures { write_outcome (writing_answered result) sheet.new
+        ≡ write_of n sweeps codes.now matrix.now sheet.old }
 {
     match verdict(n, sweeps, codes, matrix, sheet.len()) {
         Answer::Accepted => write_accepted(n, sweeps, codes, matrix, sheet),
@@ -30,7 +30,7 @@ pub fn write(n: usize, sweeps: usize, codes: &[u16], matrix: &[f64], sheet: &mut
 
 // Refusals 1, 2, 3, 4, 5, 6 and 7, where so many bytes are lent.
 fn verdict(n: usize, sweeps: usize, codes: &[u16], matrix: &[f64], lent: usize) -> Answer
-    ensures { answered result ≡ writeAnswer n sweeps codes.now matrix.now lent }
+    ensures { answered result ≡ write_answer n sweeps codes.now matrix.now lent }
 {
     match sizes::tested(n, sweeps) {
         Answer::Accepted => {}
@@ -67,8 +67,8 @@ fn write_accepted(
     matrix: &[f64],
     sheet: &mut [u8],
 ) -> Writing
-    requires { writeAnswer n sweeps codes.now matrix.now (length sheet.old) ≡ given tt }
-    ensures { writeOutcome (writingAnswered result) sheet.new
+    requires { write_answer n sweeps codes.now matrix.now (length sheet.old) ≡ given tt }
+    ensures { write_outcome (writing_answered result) sheet.new
         ≡ written_of n sweeps codes.now matrix.now sheet.old }
 {
     let width = sheet::width_for(codes);
@@ -80,8 +80,8 @@ fn write_accepted(
 }
 
 fn write_codes(width: usize, codes: &[u16], sheet: &mut [u8])
-    requires { (1 ≤ width) × (width ≤ 2) × (length codes.now ≤ largestOrder) × (2 + width * length codes.now ≤ length sheet.old) }
-    ensures { sheet.new ≡ withCodes width codes.now (length codes.now) sheet.old }
+    requires { (1 ≤ width) × (width ≤ 2) × (length codes.now ≤ largest_order) × (2 + width * length codes.now ≤ length sheet.old) }
+    ensures { sheet.new ≡ with_codes width codes.now (length codes.now) sheet.old }
 {
     for k in 0..codes.len() {
         put_code(width, codes[k], 2 + width * k, sheet);
@@ -91,7 +91,7 @@ fn write_codes(width: usize, codes: &[u16], sheet: &mut [u8])
 // Writes a code into the `width` bytes from `at` on, the highest first.
 pub fn put_code(width: usize, code: u16, at: usize, bytes: &mut [u8])
     requires { (1 ≤ width) × (width ≤ 2) × (at + width ≤ length bytes.old) }
-    ensures { bytes.new ≡ withBytes width code at width bytes.old }
+    ensures { bytes.new ≡ with_bytes width code at width bytes.old }
 {
     if width == 1 {
         bytes[at] = (code % 256) as u8;
@@ -102,8 +102,8 @@ pub fn put_code(width: usize, code: u16, at: usize, bytes: &mut [u8])
 }
 
 fn write_entries(width: usize, n: usize, matrix: &[f64], sheet: &mut [u8])
-    requires { (width ≤ 2) × (n ≤ largestOrder) × (length matrix.now ≡ n * n) × (sheetLength width n ≤ length sheet.old) }
-    ensures { sheet.new ≡ withEntries width n (at n matrix.now) (entriesTo n) sheet.old }
+    requires { (width ≤ 2) × (n ≤ largest_order) × (length matrix.now ≡ n * n) × (sheet_length width n ≤ length sheet.old) }
+    ensures { sheet.new ≡ with_entries width n (at n matrix.now) (entries_to n) sheet.old }
 {
     let mut offset = 2 + width * n;
     for i in 0..n {
@@ -118,7 +118,7 @@ fn write_entries(width: usize, n: usize, matrix: &[f64], sheet: &mut [u8])
 // Writes a word into the 8 bytes from `at` on, the highest first.
 pub fn put_word(word: u64, at: usize, bytes: &mut [u8])
     requires { at + 8 ≤ length bytes.old }
-    ensures { bytes.new ≡ withBytes 8 word at 8 bytes.old }
+    ensures { bytes.new ≡ with_bytes 8 word at 8 bytes.old }
 {
     bytes[at] = (word / 0x100_0000_0000_0000) as u8;
     bytes[at + 1] = (word / 0x1_0000_0000_0000 % 256) as u8;

@@ -7,96 +7,96 @@ use native.Mathlib.Omega.{arith}
 use native.Mathlib.Nat.{suc-mul, mul-le-mul}
 use borrow.Author.Tests.{lt-ltb, le-ltb, ltb-false, leb-true, le-leb, lt-leb}
 use lib.Dec.{ltb, leb}
-use Rattle.refusal.specs.Answers.{Answered, given, refusedBy, or_else, row, table}
+use Rattle.refusal.specs.Answers.{Answered, given, refused_by, or_else, row, table}
 use Rattle.refusal.specs.declared.Refusal.TheVariants.{Order, Sweeps}
-use Rattle.refusal.proofs.FirstRefusal.{refused-given, else-else}
-use Rattle.sizes.specs.Sizes.{mostProcessors, largestOrder, mostSweeps, is_order, processorsOf, sweepSteps, firstLine, lines_of, still_of}
-use Rattle.sizes.specs.Sizes.{steps_of, orderRow, sweepsRow, sizesAnswer}
+use Rattle.refusal.proofs.FirstRefusal.{refused_given, else_else}
+use Rattle.sizes.specs.Sizes.{most_processors, largest_order, most_sweeps, is_order, processors_of, sweep_steps, first_line, lines_of, still_of}
+use Rattle.sizes.specs.Sizes.{steps_of, order_row, sweeps_row, sizes_answer}
 
-and-true : (a b : Bool) → (a && b) ≡ true → (a ≡ true) × (b ≡ true)
-and-true true b e = (refl, e)
-and-true false b e = absurd (true≢false (sym e))
+and_true : (a b : Bool) → (a && b) ≡ true → (a ≡ true) × (b ≡ true)
+and_true true b e = (refl, e)
+and_true false b e = absurd (true≢false (sym e))
 
 -- an order is from 2 to the largest
-pub order_is : (n : ℕ) → is_order n ≡ true → (2 ≤ n) × (n ≤ largestOrder)
+pub order_is : (n : ℕ) → is_order n ≡ true → (2 ≤ n) × (n ≤ largest_order)
 unfolding is_order
-order_is n e = let a = and-true (leb 2 n) _ e in (leb-true _ _ a.0, leb-true _ _ a.1)
+order_is n e = let a = and_true (leb 2 n) _ e in (leb-true _ _ a.0, leb-true _ _ a.1)
 
 -- ---- the test
 module _ (n : ℕ) where
-  pub small-refused : n < 2 → false ≡ is_order n
+  pub small_refused : n < 2 → false ≡ is_order n
   unfolding is_order
-  small-refused h = rw (lt-leb 2 n h)
+  small_refused h = rw (lt-leb 2 n h)
 
-  pub by-largest : 2 ≤ n → leb n largestOrder ≡ is_order n
+  pub by_largest : 2 ≤ n → leb n largest_order ≡ is_order n
   unfolding is_order
-  by-largest h = rw (le-leb 2 n h)
+  by_largest h = rw (le-leb 2 n h)
 
 -- ---- what follows from it
-pub order-half : (n : ℕ) → is_order n ≡ true → (1 ≤ processorsOf n) × (processorsOf n ≤ mostProcessors)
-order-half n e = let o = order_is n e in (omega arith, omega arith)
+pub order_half : (n : ℕ) → is_order n ≡ true → (1 ≤ processors_of n) × (processors_of n ≤ most_processors)
+order_half n e = let o = order_is n e in (omega arith, omega arith)
 
 -- the last processor, counted from 0, and one more
-pub processors-end : (n : ℕ) → is_order n ≡ true → processorsOf n ≡ suc (processorsOf n - 1)
-processors-end n e = let o = order-half n e in omega arith
+pub processors_end : (n : ℕ) → is_order n ≡ true → processors_of n ≡ suc (processors_of n - 1)
+processors_end n e = let o = order_half n e in omega arith
 
 -- the lines in the registers are those from the first line to n
-pub lines_end : (n : ℕ) → firstLine n + lines_of n ≡ n + 1
+pub lines_end : (n : ℕ) → first_line n + lines_of n ≡ n + 1
 lines_end n = omega arith
 
 -- one processor at most is always still
-pub still-few : (n : ℕ) → still_of n ≤ 1
-still-few n = omega arith
+pub still_few : (n : ℕ) → still_of n ≤ 1
+still_few n = omega arith
 
 -- the steps of a sweep, by the last processor
-pub sweep-is : (n : ℕ) → is_order n ≡ true → sweepSteps n ≡ 2 * (processorsOf n - 1) + 1
-sweep-is n e = let o = order_is n e in omega arith
+pub sweep_is : (n : ℕ) → is_order n ≡ true → sweep_steps n ≡ 2 * (processors_of n - 1) + 1
+sweep_is n e = let o = order_is n e in omega arith
 
-pub few-steps : (n : ℕ) → is_order n ≡ true → sweepSteps n ≤ largestOrder
-few-steps n e = let o = order_is n e in omega arith
+pub few_steps : (n : ℕ) → is_order n ≡ true → sweep_steps n ≤ largest_order
+few_steps n e = let o = order_is n e in omega arith
 
 -- the steps of a run are few
-pub steps_next : (n sweeps : ℕ) → steps_of n (sweeps + 1) ≡ steps_of n sweeps + sweepSteps n
-steps_next n sweeps = let e : sweeps + 1 ≡ suc sweeps = omega arith in rw e (suc-mul sweeps (sweepSteps n))
+pub steps_next : (n sweeps : ℕ) → steps_of n (sweeps + 1) ≡ steps_of n sweeps + sweep_steps n
+steps_next n sweeps = let e : sweeps + 1 ≡ suc sweeps = omega arith in rw e (suc-mul sweeps (sweep_steps n))
 
-pub product-few : (a b : ℕ) → a ≤ mostSweeps → b ≤ largestOrder → a * b ≤ mostSweeps * largestOrder
-product-few a b h k = mul-le-mul h k
+pub product_few : (a b : ℕ) → a ≤ most_sweeps → b ≤ largest_order → a * b ≤ most_sweeps * largest_order
+product_few a b h k = mul-le-mul h k
 
-pub steps-few : (n sweeps : ℕ) → is_order n ≡ true → sweeps ≤ mostSweeps → steps_of n sweeps ≤ mostSweeps * largestOrder
-steps-few n sweeps e h = product-few sweeps (sweepSteps n) h (few-steps n e)
+pub steps_few : (n sweeps : ℕ) → is_order n ≡ true → sweeps ≤ most_sweeps → steps_of n sweeps ≤ most_sweeps * largest_order
+steps_few n sweeps e h = product_few sweeps (sweep_steps n) h (few_steps n e)
 
-pub steps-fit : (n sweeps : ℕ) {steps : ℕ} → is_order n ≡ true → sweeps ≤ mostSweeps → steps ≡ sweepSteps n → sweeps * steps < 2 ^ 64
-steps-fit n sweeps {steps} e h z =
-    let w : sweeps * steps ≤ mostSweeps * largestOrder = product-few sweeps steps h (let f = few-steps n e in omega arith) in
+pub steps_fit : (n sweeps : ℕ) {steps : ℕ} → is_order n ≡ true → sweeps ≤ most_sweeps → steps ≡ sweep_steps n → sweeps * steps < 2 ^ 64
+steps_fit n sweeps {steps} e h z =
+    let w : sweeps * steps ≤ most_sweeps * largest_order = product_few sweeps steps h (let f = few_steps n e in omega arith) in
     omega arith
 
 -- ---- refusals 1 and 2
 module _ (n sweeps : ℕ) where
-  pub refused-1 : is_order n ≡ false → refusedBy Order ≡ sizesAnswer n sweeps
-  unfolding sizesAnswer
-  refused-1 e = rw e
+  pub refused_1 : is_order n ≡ false → refused_by Order ≡ sizes_answer n sweeps
+  unfolding sizes_answer
+  refused_1 e = rw e
 
-  pub refused-2 : is_order n ≡ true → mostSweeps < sweeps → refusedBy Sweeps ≡ sizesAnswer n sweeps
-  unfolding sizesAnswer
-  refused-2 e h = rw (e, lt-ltb mostSweeps sweeps h)
+  pub refused_2 : is_order n ≡ true → most_sweeps < sweeps → refused_by Sweeps ≡ sizes_answer n sweeps
+  unfolding sizes_answer
+  refused_2 e h = rw (e, lt-ltb most_sweeps sweeps h)
 
-  pub sizes-fine : is_order n ≡ true → sweeps ≤ mostSweeps → given tt ≡ sizesAnswer n sweeps
-  unfolding sizesAnswer
-  sizes-fine e h = rw (e, le-ltb mostSweeps sweeps h)
+  pub sizes_fine : is_order n ≡ true → sweeps ≤ most_sweeps → given tt ≡ sizes_answer n sweeps
+  unfolding sizes_answer
+  sizes_fine e h = rw (e, le-ltb most_sweeps sweeps h)
 
   -- and back
-  pub sizes-given : sizesAnswer n sweeps ≡ given tt → (is_order n ≡ true) × (sweeps ≤ mostSweeps)
-  unfolding sizesAnswer
-  sizes-given e = go (is_order n) (ltb mostSweeps sweeps) refl refl e
+  pub sizes_given : sizes_answer n sweeps ≡ given tt → (is_order n ≡ true) × (sweeps ≤ most_sweeps)
+  unfolding sizes_answer
+  sizes_given e = go (is_order n) (ltb most_sweeps sweeps) refl refl e
     where
-      go : (a b : Bool) → is_order n ≡ a → ltb mostSweeps sweeps ≡ b → table (row (not a) Order ∷ row b Sweeps ∷ []) ≡ given tt
-          → (is_order n ≡ true) × (sweeps ≤ mostSweeps)
-      go false b x y z = refused-given z
-      go true true x y z = refused-given z
-      go true false x y z = (x, ltb-false mostSweeps sweeps y)
+      go : (a b : Bool) → is_order n ≡ a → ltb most_sweeps sweeps ≡ b → table (row (not a) Order ∷ row b Sweeps ∷ []) ≡ given tt
+          → (is_order n ≡ true) × (sweeps ≤ most_sweeps)
+      go false b x y z = refused_given z
+      go true true x y z = refused_given z
+      go true false x y z = (x, ltb-false most_sweeps sweeps y)
 
   -- the rows of a table that begins with them
-  pub sizes-first : (rest : Answered Unit) → or_else (sizesAnswer n sweeps) rest ≡ or_else (orderRow n) (or_else (sweepsRow sweeps) rest)
-  unfolding sizesAnswer
-  sizes-first rest =
-      else-else (orderRow n) (or_else (sweepsRow sweeps) (given tt)) rest ∙ ap (or_else (orderRow n)) (else-else (sweepsRow sweeps) (given tt) rest)
+  pub sizes_first : (rest : Answered Unit) → or_else (sizes_answer n sweeps) rest ≡ or_else (order_row n) (or_else (sweeps_row sweeps) rest)
+  unfolding sizes_answer
+  sizes_first rest =
+      else_else (order_row n) (or_else (sweeps_row sweeps) (given tt)) rest ∙ ap (or_else (order_row n)) (else_else (sweeps_row sweeps) (given tt) rest)

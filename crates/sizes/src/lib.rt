@@ -2,7 +2,7 @@
 // The sizes of documents 01 and 02, and their limits.
 ghost use Rattle.std.specs.Prelude.{◌≡◌, true, ◌≤◌};
 ghost use Rattle.refusal.specs.Answers.{answered};
-ghost use Rattle.sizes.specs.Sizes.{mostSweeps, is_order, processorsOf, sweepSteps, firstLine, still_of, steps_of, ticksOf, sizesAnswer};
+ghost use Rattle.sizes.specs.Sizes.{most_sweeps, is_order, processors_of, sweep_steps, first_line, still_of, steps_of, ticks_of, sizes_answer};
 
 use refusal::{Answer, Refusal};
 
@@ -26,7 +26,7 @@ pub const MOST_ENTRIES: usize = LARGEST_ORDER * LARGEST_ORDER;
 
 // Refusals 1 and 2.
 pub fn tested(n: usize, sweeps: usize) -> Answer
-    ensures { answered result ≡ sizesAnswer n sweeps }
+    ensures { answered result ≡ sizes_answer n sweeps }
 {
     if !is_order(n) {
         return Answer::Refused(Refusal::Order);
@@ -49,14 +49,14 @@ pub fn is_order(n: usize) -> bool
 
 // The number of processors.
 pub fn processors_of(n: usize) -> usize
-    ensures { result ≡ processorsOf n }
+    ensures { result ≡ processors_of n }
 {
     n / 2 + n % 2
 }
 
 // The number of steps in a sweep.
 pub fn sweep_steps(n: usize) -> usize
-    ensures { result ≡ sweepSteps n }
+    ensures { result ≡ sweep_steps n }
 {
     if n == 0 {
         return 0;
@@ -66,7 +66,7 @@ pub fn sweep_steps(n: usize) -> usize
 
 // The line in the left register of processor 1 at first.
 pub fn first_line(n: usize) -> usize
-    ensures { result ≡ firstLine n }
+    ensures { result ≡ first_line n }
 {
     1 - n % 2
 }
@@ -80,7 +80,7 @@ pub fn still_of(n: usize) -> usize
 
 // The number of steps in a run.
 pub fn steps_of(n: usize, sweeps: usize) -> usize
-    requires { (is_order n ≡ true) × (sweeps ≤ mostSweeps) }
+    requires { (is_order n ≡ true) × (sweeps ≤ most_sweeps) }
     ensures { result ≡ steps_of n sweeps }
 {
     sweeps * sweep_steps(n)
@@ -88,8 +88,8 @@ pub fn steps_of(n: usize, sweeps: usize) -> usize
 
 // The number of ticks in a run.
 pub fn ticks_of(n: usize, sweeps: usize) -> usize
-    requires { (is_order n ≡ true) × (sweeps ≤ mostSweeps) }
-    ensures { result ≡ ticksOf n sweeps }
+    requires { (is_order n ≡ true) × (sweeps ≤ most_sweeps) }
+    ensures { result ≡ ticks_of n sweeps }
 {
     3 * steps_of(n, sweeps) + processors_of(n)
 }

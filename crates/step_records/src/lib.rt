@@ -1,11 +1,11 @@
 #![tactic(auto)]
 // The records of a step (document 01, "One rotation", last paragraph, and document 02 (ii) and (vii)).
 ghost use Rattle.std.specs.Prelude.{◌≡◌, cond, ltb};
-ghost use Rattle.refusal.specs.Answers.{refusedBy, given, answered};
+ghost use Rattle.refusal.specs.Answers.{refused_by, given, answered};
 ghost use Rattle.refusal.specs.declared.Refusal.TheVariants.{TooShort};
-ghost use Rattle.ordering.specs.Pairs.{orNone, registersAt};
-ghost use Rattle.step_records.specs.Records.{recordOf, recordAt, beforeRecords, rowOutcome, recordsOf, written};
-ghost use Rattle.sizes.specs.Sizes.{processorsOf};
+ghost use Rattle.ordering.specs.Pairs.{or_none, registers_at};
+ghost use Rattle.step_records.specs.Records.{record_of, record_at, before_records, row_outcome, records_of, written};
+ghost use Rattle.sizes.specs.Sizes.{processors_of};
 
 use ordering::Registers;
 use refusal::{Answer, Refusal};
@@ -30,7 +30,7 @@ pub struct Recorded {
 
 // Writes the records of a step's N pairs to the front of a lent row.
 pub fn of_step(n: usize, matrix: &[f64], step: usize, row: &mut [Record]) -> Answer
-    ensures { rowOutcome (answered result) row.new ≡ recordsOf n matrix.now step row.old }
+    ensures { row_outcome (answered result) row.new ≡ records_of n matrix.now step row.old }
 {
     let answer = verdict(n, matrix, row.len());
     let count = count(n, answer);
@@ -45,7 +45,7 @@ pub fn of_step(n: usize, matrix: &[f64], step: usize, row: &mut [Record]) -> Ans
 
 // The same for a row that is handed over and given back.
 pub fn in_row(n: usize, matrix: &[f64], step: usize, row: [Record; MOST_PROCESSORS]) -> Recorded
-    ensures { rowOutcome (answered result.answer) result.row ≡ recordsOf n matrix.now step row }
+    ensures { row_outcome (answered result.answer) result.row ≡ records_of n matrix.now step row }
 {
     let mut written = row;
     let answer = of_step(n, matrix, step, &mut written);
@@ -57,7 +57,7 @@ pub fn in_row(n: usize, matrix: &[f64], step: usize, row: [Record; MOST_PROCESSO
 
 // Refusals 1, 3, 5, 6 and 7 of a call that is lent a row of `room` records.
 pub fn verdict(n: usize, matrix: &[f64], room: usize) -> Answer
-    ensures { answered result ≡ beforeRecords n matrix.now room }
+    ensures { answered result ≡ before_records n matrix.now room }
 {
     if !sizes::is_order(n) {
         return Answer::Refused(Refusal::Order);
@@ -70,7 +70,7 @@ pub fn verdict(n: usize, matrix: &[f64], room: usize) -> Answer
 
 // Refusal 7.
 fn with_room(n: usize, room: usize) -> Answer
-    ensures { answered result ≡ cond (ltb room (processorsOf n)) (refusedBy TooShort) (given tt) }
+    ensures { answered result ≡ cond (ltb room (processors_of n)) (refused_by TooShort) (given tt) }
 {
     if room < sizes::processors_of(n) {
         return Answer::Refused(Refusal::TooShort);
@@ -90,7 +90,7 @@ fn count(n: usize, answer: Answer) -> usize
 
 // The registers at a step, zeros only where the order is refused.
 fn registers(n: usize, step: usize) -> Registers
-    ensures { result ≡ orNone n (registersAt n step) }
+    ensures { result ≡ or_none n (registers_at n step) }
 {
     let listed = ordering::pairs(n, step);
     listed.registers
@@ -98,7 +98,7 @@ fn registers(n: usize, step: usize) -> Registers
 
 // The record of the pair of processor k, from 0.
 pub fn of_processor(n: usize, matrix: &[f64], registers: Registers, k: usize) -> Record
-    ensures { result ≡ recordAt n matrix.now registers k }
+    ensures { result ≡ record_at n matrix.now registers k }
 {
     let lefts = registers.left;
     let rights = registers.right;
@@ -111,7 +111,7 @@ pub fn of_processor(n: usize, matrix: &[f64], registers: Registers, k: usize) ->
 
 // The record of a pair of which this is found.
 pub fn of_found(found: Found) -> Record
-    ensures { result ≡ recordOf found }
+    ensures { result ≡ record_of found }
 {
     let parameters = found.parameters;
     let exact = found.exact;

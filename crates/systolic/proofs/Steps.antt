@@ -7,10 +7,10 @@ use borrow.Author.Tests.{ltb-true, ltb-false, eqb-true, eqb-false, eq-eqb, ne_eq
 use lib.Dec.{ltb, eqb}
 use Rattle.systolic.specs.Slots.{Side, left, right, Slot, slot}
 use Rattle.systolic.specs.Blocks.{Block, cell, tab}
-use Rattle.systolic.specs.Synchronous.{rotateAll}
-use Rattle.systolic.specs.Sequential.{Rules, turnRows, turnColumns, pairBlock, place, pairStep}
-use Rattle.systolic.specs.Sequential.{pairsStep, block_at, turnBlockRows, turnBlockColumns, operationsOf}
-use Rattle.systolic.proofs.Cells.{cell-tab, tab-ext, tab-cell}
+use Rattle.systolic.specs.Synchronous.{rotate_all}
+use Rattle.systolic.specs.Sequential.{Rules, turn_rows, turn_columns, pair_block, place, pair_step}
+use Rattle.systolic.specs.Sequential.{pairs_step, block_at, turn_block_rows, turn_block_columns, operations_of}
+use Rattle.systolic.proofs.Cells.{cell_tab, tab_ext, tab_cell}
 use Rattle.lists.proofs.Bounded.{up_to}
 use Rattle.systolic.proofs.Lines.{Distinct}
 
@@ -19,42 +19,42 @@ abbrev pub end : Side → ℕ → ℕ → ℕ
 end left p q = p
 end right p q = q
 
-side-no : Side → Bool
-side-no left = true
-side-no right = false
+side_no : Side → Bool
+side_no left = true
+side_no right = false
 
 left≢right : ¬ (left ≡ right)
-unfolding side-no
-left≢right e = true≢false (ap side-no e)
+unfolding side_no
+left≢right e = true≢false (ap side_no e)
 
 -- ---- one pair, entry by entry
 module _ {X H W D : Type 0} (R : Rules X H W D) (k i p q : ℕ) (ne : ¬ (p ≡ q)) (M : ℕ → ℕ → X) where
   qp : eqb q p ≡ false
   qp = ne_eqb q p (λ e. ne (sym e))
 
-  pub pair-none : (r c : ℕ) → ¬ (r ≡ p) → ¬ (r ≡ q) → ¬ (c ≡ p) → ¬ (c ≡ q) → pairStep R k i p q M r c ≡ M r c
-  unfolding pairStep place turnColumns turnRows
-  pair-none r c a b d e = rw (ne_eqb r p a, ne_eqb r q b, ne_eqb c p d, ne_eqb c q e)
+  pub pair_none : (r c : ℕ) → ¬ (r ≡ p) → ¬ (r ≡ q) → ¬ (c ≡ p) → ¬ (c ≡ q) → pair_step R k i p q M r c ≡ M r c
+  unfolding pair_step place turn_columns turn_rows
+  pair_none r c a b d e = rw (ne_eqb r p a, ne_eqb r q b, ne_eqb c p d, ne_eqb c q e)
 
   pub pair_row : (s : Side) (r c : ℕ) → r ≡ end s p q → ¬ (c ≡ p) → ¬ (c ≡ q)
-      → pairStep R k i p q M r c ≡ R.rowTurn (R.sendsRow k i (pairBlock p q M)) s (M p c) (M q c)
-  unfolding pairStep place turnColumns turnRows
+      → pair_step R k i p q M r c ≡ R.row_turn (R.sends_row k i (pair_block p q M)) s (M p c) (M q c)
+  unfolding pair_step place turn_columns turn_rows
   pair_row left r c z d e = rw (z, eq-eqb p p refl, ne_eqb c p d, ne_eqb c q e)
   pair_row right r c z d e = rw (z, qp, eq-eqb q q refl, ne_eqb c p d, ne_eqb c q e)
 
-  pub pair-column : (s : Side) (r c : ℕ) → c ≡ end s p q → ¬ (r ≡ p) → ¬ (r ≡ q)
-      → pairStep R k i p q M r c ≡ R.columnTurn (R.sendsColumn k i (pairBlock p q M)) s (M r p) (M r q)
-  unfolding pairStep place turnColumns turnRows
-  pair-column left r c z d e = rw (z, eq-eqb p p refl, qp, eq-eqb q q refl, ne_eqb r p d, ne_eqb r q e)
-  pair-column right r c z d e = rw (z, eq-eqb p p refl, qp, eq-eqb q q refl, ne_eqb r p d, ne_eqb r q e)
+  pub pair_column : (s : Side) (r c : ℕ) → c ≡ end s p q → ¬ (r ≡ p) → ¬ (r ≡ q)
+      → pair_step R k i p q M r c ≡ R.column_turn (R.sends_column k i (pair_block p q M)) s (M r p) (M r q)
+  unfolding pair_step place turn_columns turn_rows
+  pair_column left r c z d e = rw (z, eq-eqb p p refl, qp, eq-eqb q q refl, ne_eqb r p d, ne_eqb r q e)
+  pair_column right r c z d e = rw (z, eq-eqb p p refl, qp, eq-eqb q q refl, ne_eqb r p d, ne_eqb r q e)
 
-  pub pair-cells : (s t : Side) (r c : ℕ) → r ≡ end s p q → c ≡ end t p q
-      → pairStep R k i p q M r c ≡ cell s t (R.diagonal k i (pairBlock p q M))
-  unfolding pairStep place cell
-  pair-cells left left r c y z = rw (y, z, eq-eqb p p refl)
-  pair-cells left right r c y z = rw (y, z, eq-eqb p p refl, qp, eq-eqb q q refl)
-  pair-cells right left r c y z = rw (y, z, eq-eqb p p refl, qp, eq-eqb q q refl)
-  pair-cells right right r c y z = rw (y, z, qp, eq-eqb q q refl)
+  pub pair_cells : (s t : Side) (r c : ℕ) → r ≡ end s p q → c ≡ end t p q
+      → pair_step R k i p q M r c ≡ cell s t (R.diagonal k i (pair_block p q M))
+  unfolding pair_step place cell
+  pair_cells left left r c y z = rw (y, z, eq-eqb p p refl)
+  pair_cells left right r c y z = rw (y, z, eq-eqb p p refl, qp, eq-eqb q q refl)
+  pair_cells right left r c y z = rw (y, z, eq-eqb p p refl, qp, eq-eqb q q refl)
+  pair_cells right right r c y z = rw (y, z, qp, eq-eqb q q refl)
 
 -- ---- one pair, block by block
 module _ {X H W D : Type 0} (R : Rules X H W D) (k m : ℕ) (L : Slot → ℕ) (one : Distinct m L) where
@@ -70,98 +70,98 @@ module _ {X H W D : Type 0} (R : Rules X H W D) (k m : ℕ) (L : Slot → ℕ) (
   unfolding slot
   other n i l h d s t e = d (ap (λ u. u.processor) (one (slot i s) (slot n t) h l e))
 
-  pair-block : (n : ℕ) (M : ℕ → ℕ → X) → pairBlock (L (slot n left)) (L (slot n right)) M ≡ block_at L M n n
-  unfolding pairBlock block_at tab
-  pair-block n M = refl
+  pair_block_lem : (n : ℕ) (M : ℕ → ℕ → X) → pair_block (L (slot n left)) (L (slot n right)) M ≡ block_at L M n n
+  unfolding pair_block block_at tab
+  pair_block_lem n M = refl
 
   abbrev acted : ℕ → (ℕ → ℕ → X) → ℕ → ℕ → X
-  acted n M = pairStep R k n (L (slot n left)) (L (slot n right)) M
+  acted n M = pair_step R k n (L (slot n left)) (L (slot n right)) M
 
   module _ (n : ℕ) (l : n ≤ m) (M : ℕ → ℕ → X) where
     -- it changes the blocks of its row and its column only
-    step-none : (i j : ℕ) → i ≤ m → j ≤ m → ¬ (i ≡ n) → ¬ (j ≡ n) → block_at L (acted n M) i j ≡ block_at L M i j
+    step_none : (i j : ℕ) → i ≤ m → j ≤ m → ¬ (i ≡ n) → ¬ (j ≡ n) → block_at L (acted n M) i j ≡ block_at L M i j
     unfolding block_at
-    step-none i j h g d e =
-        tab-ext _ _ (λ r s. pair-none R k n _ _ (ends n l) M _ _
+    step_none i j h g d e =
+        tab_ext _ _ (λ r s. pair_none R k n _ _ (ends n l) M _ _
         (other n i l h d r left) (other n i l h d r right) (other n j l g e s left) (other n j l g e s right))
 
-    step_row : (j : ℕ) → j ≤ m → ¬ (j ≡ n) → block_at L (acted n M) n j ≡ turnBlockRows R (R.sendsRow k n (block_at L M n n)) (block_at L M n j)
-    unfolding turnBlockRows
+    step_row : (j : ℕ) → j ≤ m → ¬ (j ≡ n) → block_at L (acted n M) n j ≡ turn_block_rows R (R.sends_row k n (block_at L M n n)) (block_at L M n j)
+    unfolding turn_block_rows
     step_row j g e =
-        rw (← (pair-block n M))
-        (unfold block_at in (tab-ext _ _ (λ r s.
-        pair_row R k n _ _ (ends n l) M r _ _ (end_of n r) (other n j l g e s left) (other n j l g e s right) ∙ rw (cell-tab _ left s, cell-tab _ right s))))
+        rw (← (pair_block_lem n M))
+        (unfold block_at in (tab_ext _ _ (λ r s.
+        pair_row R k n _ _ (ends n l) M r _ _ (end_of n r) (other n j l g e s left) (other n j l g e s right) ∙ rw (cell_tab _ left s, cell_tab _ right s))))
 
-    step-column : (i : ℕ) → i ≤ m → ¬ (i ≡ n) → block_at L (acted n M) i n ≡ turnBlockColumns R (R.sendsColumn k n (block_at L M n n)) (block_at L M i n)
-    unfolding turnBlockColumns
-    step-column i h d =
-        rw (← (pair-block n M))
-        (unfold block_at in (tab-ext _ _ (λ r s.
-        pair-column R k n _ _ (ends n l) M s _ _ (end_of n s) (other n i l h d r left) (other n i l h d r right) ∙ rw (cell-tab _ r left, cell-tab _ r right))))
+    step_column : (i : ℕ) → i ≤ m → ¬ (i ≡ n) → block_at L (acted n M) i n ≡ turn_block_columns R (R.sends_column k n (block_at L M n n)) (block_at L M i n)
+    unfolding turn_block_columns
+    step_column i h d =
+        rw (← (pair_block_lem n M))
+        (unfold block_at in (tab_ext _ _ (λ r s.
+        pair_column R k n _ _ (ends n l) M s _ _ (end_of n s) (other n i l h d r left) (other n i l h d r right) ∙ rw (cell_tab _ r left, cell_tab _ r right))))
 
-    step-diagonal : block_at L (acted n M) n n ≡ R.diagonal k n (block_at L M n n)
-    step-diagonal =
-        rw (← (pair-block n M))
-        (unfold block_at in (tab-ext _ _ (λ r s. pair-cells R k n _ _ (ends n l) M r s _ _ (end_of n r) (end_of n s))
-        ∙ tab-cell (R.diagonal k n (pairBlock (L (slot n left)) (L (slot n right)) M))))
+    step_diagonal : block_at L (acted n M) n n ≡ R.diagonal k n (block_at L M n n)
+    step_diagonal =
+        rw (← (pair_block_lem n M))
+        (unfold block_at in (tab_ext _ _ (λ r s. pair_cells R k n _ _ (ends n l) M r s _ _ (end_of n r) (end_of n s))
+        ∙ tab_cell (R.diagonal k n (pair_block (L (slot n left)) (L (slot n right)) M))))
 
   -- ---- the first n pairs, one after the other
   module _ (M : ℕ → ℕ → X) where
     abbrev h : ℕ → H
-    h i = R.sendsRow k i (block_at L M i i)
+    h i = R.sends_row k i (block_at L M i i)
 
     abbrev v : ℕ → W
-    v i = R.sendsColumn k i (block_at L M i i)
+    v i = R.sends_column k i (block_at L M i i)
 
     record Mid (n : ℕ) (A : ℕ → ℕ → X) : Type 0 where
       same : (i j : ℕ) → i ≤ m → j ≤ m → n ≤ i → n ≤ j → block_at L A i j ≡ block_at L M i j
       diagonal : (i : ℕ) → i ≤ m → i < n → block_at L A i i ≡ R.diagonal k i (block_at L M i i)
-      row : (i j : ℕ) → j ≤ m → i < n → n ≤ j → block_at L A i j ≡ turnBlockRows R (h i) (block_at L M i j)
-      column : (i j : ℕ) → i ≤ m → j < n → n ≤ i → block_at L A i j ≡ turnBlockColumns R (v j) (block_at L M i j)
-      upper : (i j : ℕ) → j ≤ m → i < j → j < n → block_at L A i j ≡ turnBlockColumns R (v j) (turnBlockRows R (h i) (block_at L M i j))
-      lower : (i j : ℕ) → i ≤ m → j < i → i < n → block_at L A i j ≡ turnBlockRows R (h i) (turnBlockColumns R (v j) (block_at L M i j))
+      row : (i j : ℕ) → j ≤ m → i < n → n ≤ j → block_at L A i j ≡ turn_block_rows R (h i) (block_at L M i j)
+      column : (i j : ℕ) → i ≤ m → j < n → n ≤ i → block_at L A i j ≡ turn_block_columns R (v j) (block_at L M i j)
+      upper : (i j : ℕ) → j ≤ m → i < j → j < n → block_at L A i j ≡ turn_block_columns R (v j) (turn_block_rows R (h i) (block_at L M i j))
+      lower : (i j : ℕ) → i ≤ m → j < i → i < n → block_at L A i j ≡ turn_block_rows R (h i) (turn_block_columns R (v j) (block_at L M i j))
 
     module _ (n : ℕ) (l : n ≤ m) (A : ℕ → ℕ → X) (z : Mid n A) where
       here : block_at L A n n ≡ block_at L M n n
       here = z.same n n l l (omega arith) (omega arith)
 
-      row-turned : (j : ℕ) → j ≤ m → ¬ (j ≡ n) → (b : Block X) → block_at L A n j ≡ b → block_at L (acted n A) n j ≡ turnBlockRows R (h n) b
-      row-turned j g d b e = step_row n l A j g d ∙ ap (λ x. turnBlockRows R (R.sendsRow k n x) (block_at L A n j)) here ∙ ap (turnBlockRows R (h n)) e
+      row_turned_lem : (j : ℕ) → j ≤ m → ¬ (j ≡ n) → (b : Block X) → block_at L A n j ≡ b → block_at L (acted n A) n j ≡ turn_block_rows R (h n) b
+      row_turned_lem j g d b e = step_row n l A j g d ∙ ap (λ x. turn_block_rows R (R.sends_row k n x) (block_at L A n j)) here ∙ ap (turn_block_rows R (h n)) e
 
-      column-turned : (i : ℕ) → i ≤ m → ¬ (i ≡ n) → (b : Block X) → block_at L A i n ≡ b → block_at L (acted n A) i n ≡ turnBlockColumns R (v n) b
-      column-turned i g d b e =
-          step-column n l A i g d ∙ ap (λ x. turnBlockColumns R (R.sendsColumn k n x) (block_at L A i n)) here ∙ ap (turnBlockColumns R (v n)) e
+      column_turned_lem : (i : ℕ) → i ≤ m → ¬ (i ≡ n) → (b : Block X) → block_at L A i n ≡ b → block_at L (acted n A) i n ≡ turn_block_columns R (v n) b
+      column_turned_lem i g d b e =
+          step_column n l A i g d ∙ ap (λ x. turn_block_columns R (R.sends_column k n x) (block_at L A i n)) here ∙ ap (turn_block_columns R (v n)) e
 
-      diagonal-turned : block_at L (acted n A) n n ≡ R.diagonal k n (block_at L M n n)
-      diagonal-turned = rw (← here) (step-diagonal n l A)
+      diagonal_turned : block_at L (acted n A) n n ≡ R.diagonal k n (block_at L M n n)
+      diagonal_turned = rw (← here) (step_diagonal n l A)
 
-      mid-more : Mid (suc n) (acted n A)
-      mid-more =
+      mid_more : Mid (suc n) (acted n A)
+      mid_more =
           record {
-            same = λ i j p q o o'. step-none n l A i j p q (λ e. omega arith) (λ e. omega arith) ∙ z.same i j p q (omega arith) (omega arith);
+            same = λ i j p q o o'. step_none n l A i j p q (λ e. omega arith) (λ e. omega arith) ∙ z.same i j p q (omega arith) (omega arith);
             diagonal = λ i p o.
                 up_to (λ a. block_at L (acted n A) a a ≡ R.diagonal k a (block_at L M a a)) n i o
-                (λ u. step-none n l A i i p p (λ e. omega arith) (λ e. omega arith) ∙ z.diagonal i p u) diagonal-turned;
+                (λ u. step_none n l A i i p p (λ e. omega arith) (λ e. omega arith) ∙ z.diagonal i p u) diagonal_turned;
             row = λ i j q o o'.
-                up_to (λ a. block_at L (acted n A) a j ≡ turnBlockRows R (h a) (block_at L M a j)) n i o
-                (λ u. step-none n l A i j (omega arith) q (λ e. omega arith) (λ e. omega arith) ∙ z.row i j q u (omega arith))
-                (row-turned j q (λ e. omega arith) _ (z.same n j l q (omega arith) (omega arith)));
+                up_to (λ a. block_at L (acted n A) a j ≡ turn_block_rows R (h a) (block_at L M a j)) n i o
+                (λ u. step_none n l A i j (omega arith) q (λ e. omega arith) (λ e. omega arith) ∙ z.row i j q u (omega arith))
+                (row_turned_lem j q (λ e. omega arith) _ (z.same n j l q (omega arith) (omega arith)));
             column = λ i j p o o'.
-                up_to (λ a. block_at L (acted n A) i a ≡ turnBlockColumns R (v a) (block_at L M i a)) n j o
-                (λ u. step-none n l A i j p (omega arith) (λ e. omega arith) (λ e. omega arith) ∙ z.column i j p u (omega arith))
-                (column-turned i p (λ e. omega arith) _ (z.same i n p l (omega arith) (omega arith)));
+                up_to (λ a. block_at L (acted n A) i a ≡ turn_block_columns R (v a) (block_at L M i a)) n j o
+                (λ u. step_none n l A i j p (omega arith) (λ e. omega arith) (λ e. omega arith) ∙ z.column i j p u (omega arith))
+                (column_turned_lem i p (λ e. omega arith) _ (z.same i n p l (omega arith) (omega arith)));
             upper = λ i j q w o.
-                up_to (λ a. i < a → block_at L (acted n A) i a ≡ turnBlockColumns R (v a) (turnBlockRows R (h i) (block_at L M i a))) n j o
-                (λ u w'. step-none n l A i j (omega arith) q (λ e. omega arith) (λ e. omega arith) ∙ z.upper i j q w' u)
-                (λ w'. column-turned i (omega arith) (λ e. omega arith) _ (z.row i n l w' (omega arith))) w;
+                up_to (λ a. i < a → block_at L (acted n A) i a ≡ turn_block_columns R (v a) (turn_block_rows R (h i) (block_at L M i a))) n j o
+                (λ u w'. step_none n l A i j (omega arith) q (λ e. omega arith) (λ e. omega arith) ∙ z.upper i j q w' u)
+                (λ w'. column_turned_lem i (omega arith) (λ e. omega arith) _ (z.row i n l w' (omega arith))) w;
             lower = λ i j p w o.
-                up_to (λ a. j < a → block_at L (acted n A) a j ≡ turnBlockRows R (h a) (turnBlockColumns R (v j) (block_at L M a j))) n i o
-                (λ u w'. step-none n l A i j p (omega arith) (λ e. omega arith) (λ e. omega arith) ∙ z.lower i j p w' u)
-                (λ w'. row-turned j (omega arith) (λ e. omega arith) _ (z.column n j l w' (omega arith))) w;
+                up_to (λ a. j < a → block_at L (acted n A) a j ≡ turn_block_rows R (h a) (turn_block_columns R (v j) (block_at L M a j))) n i o
+                (λ u w'. step_none n l A i j p (omega arith) (λ e. omega arith) (λ e. omega arith) ∙ z.lower i j p w' u)
+                (λ w'. row_turned_lem j (omega arith) (λ e. omega arith) _ (z.column n j l w' (omega arith))) w;
           }
 
-    mid : (n : ℕ) → n ≤ suc m → Mid n (pairsStep R k L n M)
-    unfolding pairsStep
+    mid : (n : ℕ) → n ≤ suc m → Mid n (pairs_step R k L n M)
+    unfolding pairs_step
     mid zero o =
         record {
           same = λ i j p q o o'. refl;
@@ -171,25 +171,25 @@ module _ {X H W D : Type 0} (R : Rules X H W D) (k m : ℕ) (L : Slot → ℕ) (
           upper = λ i j q w o. absurd (omega arith);
           lower = λ i j p w o. absurd (omega arith);
         }
-    mid (suc n) o = mid-more n (omega arith) (pairsStep R k L n M) (mid n (omega arith))
+    mid (suc n) o = mid_more n (omega arith) (pairs_step R k L n M) (mid n (omega arith))
 
     -- the four entries of a pair at its turn are those before the step
-    pub at_turn : (i : ℕ) → i ≤ m → pairBlock (L (slot i left)) (L (slot i right)) (pairsStep R k L i M) ≡ block_at L M i i
-    at_turn i p = pair-block i (pairsStep R k L i M) ∙ (mid i (omega arith)).same i i p p (omega arith) (omega arith)
+    pub at_turn : (i : ℕ) → i ≤ m → pair_block (L (slot i left)) (L (slot i right)) (pairs_step R k L i M) ≡ block_at L M i i
+    at_turn i p = pair_block_lem i (pairs_step R k L i M) ∙ (mid i (omega arith)).same i i p p (omega arith) (omega arith)
 
     -- the blocks after all pairs are the rotated blocks
-    pub step-agrees : (l : Slot → ℕ) (M₀ : ℕ → ℕ → X) (x : X) (h₀ : H) (w₀ : W) (d₀ : D) (i j : ℕ) → i ≤ m → j ≤ m
-        → rotateAll (operationsOf R l M₀ x h₀ w₀ d₀) k (block_at L M) i j ≡ block_at L (pairsStep R k L (suc m) M) i j
-    unfolding rotateAll operationsOf
-    step-agrees l M₀ x h₀ w₀ d₀ i j p q = go (eqb i j) (ltb i j) refl refl
+    pub step_agrees : (l : Slot → ℕ) (M₀ : ℕ → ℕ → X) (x : X) (h₀ : H) (w₀ : W) (d₀ : D) (i j : ℕ) → i ≤ m → j ≤ m
+        → rotate_all (operations_of R l M₀ x h₀ w₀ d₀) k (block_at L M) i j ≡ block_at L (pairs_step R k L (suc m) M) i j
+    unfolding rotate_all operations_of
+    step_agrees l M₀ x h₀ w₀ d₀ i j p q = go (eqb i j) (ltb i j) refl refl
       where
-        z : Mid (suc m) (pairsStep R k L (suc m) M)
+        z : Mid (suc m) (pairs_step R k L (suc m) M)
         z = mid (suc m) (omega arith)
 
         go : (b c : Bool) → eqb i j ≡ b → ltb i j ≡ c
             → cond b (R.diagonal k i (block_at L M i i))
-            (cond c (turnBlockColumns R (v j) (turnBlockRows R (h i) (block_at L M i j))) (turnBlockRows R (h i) (turnBlockColumns R (v j) (block_at L M i j))))
-            ≡ block_at L (pairsStep R k L (suc m) M) i j
+            (cond c (turn_block_columns R (v j) (turn_block_rows R (h i) (block_at L M i j))) (turn_block_rows R (h i) (turn_block_columns R (v j) (block_at L M i j))))
+            ≡ block_at L (pairs_step R k L (suc m) M) i j
         go true c e f = let w : i ≡ j = eqb-true _ _ e in rw (← w) (sym (z.diagonal i p (omega arith)))
         go false true e f = let w : i < j = ltb-true _ _ f in sym (z.upper i j q w (omega arith))
         go false false e f =

@@ -29,26 +29,26 @@ moved (suc m) right zero = slot 1 left
 moved (suc m) right (suc i) = slot i right
 
 -- Where a line was before the step: the inverse of `moved`.
-unfoldable pub intoLast : ℕ → Slot
-intoLast zero = slot 0 right
-intoLast (suc m) = slot (suc m) left
+unfoldable pub into_last : ℕ → Slot
+into_last zero = slot 0 right
+into_last (suc m) = slot (suc m) left
 
-unfoldable pub cameFrom : ℕ → Side → ℕ → Slot
-cameFrom m left zero = slot 0 left
-cameFrom m left (suc zero) = slot 0 right
-cameFrom m left (suc (suc i)) = slot (suc i) left
-cameFrom m right i = cond (eqb i m) (intoLast m) (slot (suc i) right)
+unfoldable pub came_from : ℕ → Side → ℕ → Slot
+came_from m left zero = slot 0 left
+came_from m left (suc zero) = slot 0 right
+came_from m left (suc (suc i)) = slot (suc i) left
+came_from m right i = cond (eqb i m) (into_last m) (slot (suc i) right)
 
 unfoldable pub next : ℕ → Slot → Slot
 next m u = moved m u.side u.processor
 
 unfoldable pub prior : ℕ → Slot → Slot
-prior m u = cameFrom m u.side u.processor
+prior m u = came_from m u.side u.processor
 
 -- after s steps
-unfoldable pub nextBy : ℕ → ℕ → Slot → Slot
-nextBy m zero u = u
-nextBy m (suc s) u = next m (nextBy m s u)
+unfoldable pub next_by : ℕ → ℕ → Slot → Slot
+next_by m zero u = u
+next_by m (suc s) u = next m (next_by m s u)
 
 -- The line that stands in a slot at step s, where the labelling l says which stands there at the start.
 unfoldable pub line_at : (Slot → ℕ) → ℕ → ℕ → Slot → ℕ
@@ -56,22 +56,22 @@ line_at l m zero u = l u
 line_at l m (suc s) u = line_at l m s (prior m u)
 
 -- The labelling with the lines b to b + 2 N - 1 in order: left k has b + 2 (k - 1), and right k the one after it.
-unfoldable pub inOrderAt : ℕ → Side → ℕ → ℕ
-inOrderAt b left i = 2 * i + b
-inOrderAt b right i = 2 * i + 1 + b
+unfoldable pub in_order_at : ℕ → Side → ℕ → ℕ
+in_order_at b left i = 2 * i + b
+in_order_at b right i = 2 * i + 1 + b
 
-unfoldable pub inOrder : ℕ → Slot → ℕ
-unfolding inOrderAt
-inOrder b u = inOrderAt b u.side u.processor
+unfoldable pub ordered_line : ℕ → Slot → ℕ
+unfolding in_order_at
+ordered_line b u = in_order_at b u.side u.processor
 
 -- The lines p and q stand in the two registers of processor i at step s.
-unfoldable pub meetIn : (Slot → ℕ) → ℕ → ℕ → ℕ → ℕ → ℕ → Bool
-meetIn l m s p q i =
+unfoldable pub meet_in : (Slot → ℕ) → ℕ → ℕ → ℕ → ℕ → ℕ → Bool
+meet_in l m s p q i =
     (eqb (line_at l m s (slot i left)) p && eqb (line_at l m s (slot i right)) q) || (eqb (line_at l m s (slot i left)) q && eqb (line_at l m s (slot i right)) p)
 
 -- They meet in step s.
 unfoldable pub meet_at : (Slot → ℕ) → ℕ → ℕ → ℕ → ℕ → Bool
-meet_at l m s p q = any (suc m) (meetIn l m s p q)
+meet_at l m s p q = any (suc m) (meet_in l m s p q)
 
 -- the same as a proposition
 pub data Meet (l : Slot → ℕ) (m s p q : ℕ) : Type 0 where

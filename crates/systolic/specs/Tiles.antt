@@ -13,8 +13,8 @@ distance i j = (i - j) + (j - i)
 pub record Tile (X H W D : Type 0) : Type 0 where
   pub cells : Block X
   pub wires : Block X
-  pub rowWire : H
-  pub columnWire : W
+  pub row_wire : H
+  pub column_wire : W
   pub mark : Bool
   pub kept : D
 
@@ -32,13 +32,13 @@ joined m left (suc i) = slot i right
 joined m right i = cond (eqb i m) (slot m right) (slot (suc i) left)
 
 -- the phase, T - Δ modulo 3, in which tile (i, j) sets a wire
-unfoldable pub phaseOf : ℕ → Side → Side → ℕ → ℕ → ℕ
-phaseOf m left left zero j = 1
-phaseOf m left left (suc i) zero = 1
-phaseOf m left left (suc i) (suc j) = 2
-phaseOf m left right i j = cond (ltb j i) 0 2
-phaseOf m right left i j = cond (ltb i j) 0 2
-phaseOf m right right i j = cond (eqb i m) 1 (cond (eqb j m) 1 2)
+unfoldable pub phase_of : ℕ → Side → Side → ℕ → ℕ → ℕ
+phase_of m left left zero j = 1
+phase_of m left left (suc i) zero = 1
+phase_of m left left (suc i) (suc j) = 2
+phase_of m left right i j = cond (ltb j i) 0 2
+phase_of m right left i j = cond (ltb i j) 0 2
+phase_of m right right i j = cond (eqb i m) 1 (cond (eqb j m) 1 2)
 
 -- What a tile does in a tick: nothing; its first rotation, at T = Δ, which reads no cells; a later rotation; nothing but setting wires in the
 -- two phases after a rotation; its last reading, at T = Δ + 3 K.
@@ -52,83 +52,83 @@ action K t =
     (cond (eqb (t % 3) 0) (cond (eqb (t / 3) 0) first rotate) (cond (eqb (t % 3) 1) phase1 phase2))
     (cond (eqb t (3 * K)) (cond (eqb K 0) idle final) idle)
 
-unfoldable pub actionAt : ℕ → ℕ → ℕ → Action
-actionAt K Δ t = cond (ltb t Δ) idle (action K (t - Δ))
+unfoldable pub action_at : ℕ → ℕ → ℕ → Action
+action_at K Δ t = cond (ltb t Δ) idle (action K (t - Δ))
 
 -- the step that a tile at distance Δ is in
-unfoldable pub stepAt : ℕ → ℕ → ℕ
-stepAt Δ t = (t - Δ) / 3
+unfoldable pub step_at : ℕ → ℕ → ℕ
+step_at Δ t = (t - Δ) / 3
 
-unfoldable pub turnTile : {X H W D : Type 0} → Operations X H W D → ℕ → ℕ → ℕ → H → W → Block X → Block X
-turnTile S k i j h v b = cond (eqb i j) (S.diagonal k i b) (S.offDiagonal k i j h v b)
+unfoldable pub turn_tile : {X H W D : Type 0} → Operations X H W D → ℕ → ℕ → ℕ → H → W → Block X → Block X
+turn_tile S k i j h v b = cond (eqb i j) (S.diagonal k i b) (S.off_diagonal k i j h v b)
 
 -- the cells after the tick, from the cells b, what the cell wires bring in, and what the parameter wires bring in
-unfoldable pub newCells : {X H W D : Type 0} → Operations X H W D → ℕ → ℕ → ℕ → Action → Block X → Block X → H → W → Block X
-newCells S k i j idle b ins h v = b
-newCells S k i j first b ins h v = turnTile S k i j h v b
-newCells S k i j rotate b ins h v = turnTile S k i j h v ins
-newCells S k i j phase1 b ins h v = b
-newCells S k i j phase2 b ins h v = b
-newCells S k i j final b ins h v = ins
+unfoldable pub new_cells : {X H W D : Type 0} → Operations X H W D → ℕ → ℕ → ℕ → Action → Block X → Block X → H → W → Block X
+new_cells S k i j idle b ins h v = b
+new_cells S k i j first b ins h v = turn_tile S k i j h v b
+new_cells S k i j rotate b ins h v = turn_tile S k i j h v ins
+new_cells S k i j phase1 b ins h v = b
+new_cells S k i j phase2 b ins h v = b
+new_cells S k i j final b ins h v = ins
 
 -- A parameter wire: a diagonal tile sends f of the cells that it rotates, any other passes on what comes in.
-unfoldable pub newParameter : {X P : Type 0} → (Block X → P) → ℕ → ℕ → Action → Block X → Block X → P → P → P
-newParameter f i j idle b ins p old = old
-newParameter f i j first b ins p old = cond (eqb i j) (f b) p
-newParameter f i j rotate b ins p old = cond (eqb i j) (f ins) p
-newParameter f i j phase1 b ins p old = old
-newParameter f i j phase2 b ins p old = old
-newParameter f i j final b ins p old = old
+unfoldable pub new_parameter : {X P : Type 0} → (Block X → P) → ℕ → ℕ → Action → Block X → Block X → P → P → P
+new_parameter f i j idle b ins p old = old
+new_parameter f i j first b ins p old = cond (eqb i j) (f b) p
+new_parameter f i j rotate b ins p old = cond (eqb i j) (f ins) p
+new_parameter f i j phase1 b ins p old = old
+new_parameter f i j phase2 b ins p old = old
+new_parameter f i j final b ins p old = old
 
 -- What a tile keeps for itself: on the diagonal f of the cells that it rotates and of what it kept.
-abbrev pub newKept : {X D : Type 0} → (Block X → D → D) → ℕ → ℕ → Action → Block X → Block X → D → D
-newKept f i j a b ins old = newParameter (λ c. f c old) i j a b ins old old
+abbrev pub new_kept : {X D : Type 0} → (Block X → D → D) → ℕ → ℕ → Action → Block X → Block X → D → D
+new_kept f i j a b ins old = new_parameter (λ c. f c old) i j a b ins old old
 
 -- the phase in which the tile is; 3 where it sets no wire
-unfoldable pub phaseIn : Action → ℕ
-phaseIn idle = 3
-phaseIn first = 0
-phaseIn rotate = 0
-phaseIn phase1 = 1
-phaseIn phase2 = 2
-phaseIn final = 3
+unfoldable pub phase_in : Action → ℕ
+phase_in idle = 3
+phase_in first = 0
+phase_in rotate = 0
+phase_in phase1 = 1
+phase_in phase2 = 2
+phase_in final = 3
 
 -- the tile (i, j) sets its wire by the corner (r, s) in an action
-abbrev pub setsIn : ℕ → Action → Side → Side → ℕ → ℕ → Bool
-setsIn m a r s i j = eqb (phaseIn a) (phaseOf m r s i j)
+abbrev pub sets_in : ℕ → Action → Side → Side → ℕ → ℕ → Bool
+sets_in m a r s i j = eqb (phase_in a) (phase_of m r s i j)
 
 -- the cell wires after the tick, from the cells c after it: a wire keeps its value until it is set
-unfoldable pub newWires : {X : Type 0} → ℕ → ℕ → ℕ → Action → Block X → Block X → Block X
-newWires m i j a c old =
-    tab (λ r s. cond (setsIn m a r s i j) (cell (carried i r) (carried j s) c) (cell r s old))
+unfoldable pub new_wires : {X : Type 0} → ℕ → ℕ → ℕ → Action → Block X → Block X → Block X
+new_wires m i j a c old =
+    tab (λ r s. cond (sets_in m a r s i j) (cell (carried i r) (carried j s) c) (cell r s old))
 
 -- the first part of a tick: the cells, the parameter wires and what is kept
-abbrev pub turnedTile : {X H W D : Type 0} → Operations X H W D → ℕ → ℕ → ℕ → Action → Tile X H W D → Block X → H → W → Tile X H W D
-turnedTile S k i j a old ins h v =
+abbrev pub turned_tile : {X H W D : Type 0} → Operations X H W D → ℕ → ℕ → ℕ → Action → Tile X H W D → Block X → H → W → Tile X H W D
+turned_tile S k i j a old ins h v =
     record {
-      cells = newCells S k i j a old.cells ins h v;
+      cells = new_cells S k i j a old.cells ins h v;
       wires = old.wires;
-      rowWire = newParameter (S.sendsRow k i) i j a old.cells ins h old.rowWire;
-      columnWire = newParameter (S.sendsColumn k i) i j a old.cells ins v old.columnWire;
+      row_wire = new_parameter (S.sends_row k i) i j a old.cells ins h old.row_wire;
+      column_wire = new_parameter (S.sends_column k i) i j a old.cells ins v old.column_wire;
       mark = old.mark;
-      kept = newKept (S.keeps k i) i j a old.cells ins old.kept;
+      kept = new_kept (S.keeps k i) i j a old.cells ins old.kept;
     }
 
 -- The second part: the cell wires and the mark. A tile is marked, for good, once its cells are bad at the end of a tick.
-abbrev pub settledTile : {X H W D : Type 0} → Operations X H W D → ℕ → ℕ → ℕ → Action → Tile X H W D → Tile X H W D
-settledTile S m i j a x =
+abbrev pub settled_tile : {X H W D : Type 0} → Operations X H W D → ℕ → ℕ → ℕ → Action → Tile X H W D → Tile X H W D
+settled_tile S m i j a x =
     record {
       cells = x.cells;
-      wires = newWires m i j a x.cells x.wires;
-      rowWire = x.rowWire;
-      columnWire = x.columnWire;
+      wires = new_wires m i j a x.cells x.wires;
+      row_wire = x.row_wire;
+      column_wire = x.column_wire;
       mark = x.mark || S.fails x.cells;
       kept = x.kept;
     }
 
-unfoldable pub newTile : {X H W D : Type 0} → Operations X H W D → ℕ → ℕ → ℕ → ℕ → Action → Tile X H W D → Block X → H → W → Tile X H W D
-newTile S m k i j a old ins h v = settledTile S m i j a (turnedTile S k i j a old ins h v)
+unfoldable pub new_tile : {X H W D : Type 0} → Operations X H W D → ℕ → ℕ → ℕ → ℕ → Action → Tile X H W D → Block X → H → W → Tile X H W D
+new_tile S m k i j a old ins h v = settled_tile S m i j a (turned_tile S k i j a old ins h v)
 
 -- Tile (i, j) after tick t of an array of m + 1 by m + 1 tiles that runs K steps: a function of the tile and what comes in, and of nothing else.
-unfoldable pub tickTile : {X H W D : Type 0} → Operations X H W D → ℕ → ℕ → ℕ → ℕ → ℕ → Tile X H W D → Block X → H → W → Tile X H W D
-tickTile S m K t i j old ins h v = newTile S m (stepAt (distance i j) t) i j (actionAt K (distance i j) t) old ins h v
+unfoldable pub tick_tile : {X H W D : Type 0} → Operations X H W D → ℕ → ℕ → ℕ → ℕ → ℕ → Tile X H W D → Block X → H → W → Tile X H W D
+tick_tile S m K t i j old ins h v = new_tile S m (step_at (distance i j) t) i j (action_at K (distance i j) t) old ins h v

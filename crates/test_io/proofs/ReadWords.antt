@@ -9,7 +9,7 @@ use native.Mathlib.Omega.{arith}
 use borrow.Author.Tests.{lt-ltb, le-ltb}
 use lib.Dec.{lit<}
 use lib.ListN.{get_or}
-use Rattle.test_io.specs.TextLines.{digitOf, then, spelt}
+use Rattle.test_io.specs.TextLines.{digit_of, then, spelt}
 use Rattle.test_io.specs.declared.TextLine.{TextLine}
 use Rattle.test_io.specs.declared.TextLine.TheVariants.{Word, End}
 
@@ -19,17 +19,17 @@ no_digit End d h = refl
 no_digit (Word n) d h = simp (le-ltb d 16 h)
 
 -- a byte that is no digit's code spoils every longer reading
-pub spoilt : (s : List ℕ) (i k : ℕ) → i < k → 16 ≤ digitOf (get_or s i 0) → spelt k s ≡ End
+pub spoilt : (s : List ℕ) (i k : ℕ) → i < k → 16 ≤ digit_of (get_or s i 0) → spelt k s ≡ End
 unfolding spelt then
 spoilt s i zero h b = absurd (omega arith)
 spoilt s i (suc k) h b =
     let le : i ≤ k = omega arith in
     ⊎_elim (λ same. no_digit (spelt k s) _ (rw same at b))
-    (λ below. ap (λ (l : TextLine). then l (digitOf (get_or s k 0))) (spoilt s i k below b))
+    (λ below. ap (λ (l : TextLine). then l (digit_of (get_or s k 0))) (spoilt s i k below b))
     (eq-or-lt_of_le le)
 
 -- a digit more
-pub one_more : (s : List ℕ) (i n : ℕ) → spelt i s ≡ Word n → digitOf (get_or s i 0) < 16 → spelt (i + 1) s ≡ Word (n * 16 + digitOf (get_or s i 0))
+pub one_more : (s : List ℕ) (i n : ℕ) → spelt i s ≡ Word n → digit_of (get_or s i 0) < 16 → spelt (i + 1) s ≡ Word (n * 16 + digit_of (get_or s i 0))
 unfolding spelt then
 one_more s i n h b = rw (add-one, h, lt-ltb _ _ b)
 

@@ -1,13 +1,13 @@
 -- The heads of runs. Definitions only.
 use Rattle.std.specs.Prelude.{ℕ, ◌+◌, ◌*◌, ◌≤◌}
-use Rattle.sizes.specs.Sizes.{largestOrder}
+use Rattle.sizes.specs.Sizes.{largest_order}
 use Rattle.test_io.specs.declared.runs.Run.{Run}
 use Rattle.test_io.specs.declared.runs.Head.{Head}
 use Rattle.test_io.specs.declared.runs.Head.TheVariants as head
 
 -- The values that a buffer holds: those of a matrix of the first even order above the largest.
 abbrev pub limit : ℕ
-limit = (largestOrder + 2) * (largestOrder + 2)
+limit = (largest_order + 2) * (largest_order + 2)
 
 -- The buffers of a run have room for what it asks.
 abbrev pub Lendable : Head → Type 0

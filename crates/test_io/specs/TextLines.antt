@@ -1,17 +1,17 @@
 -- The text lines that the crate reads and writes, as lists of ASCII codes. Definitions only.
 use Rattle.std.specs.Prelude.{◌≡◌, cond, List, [], ◌∷◌, ◌++◌, ℕ, zero, suc, ◌+◌, ◌-◌, ◌*◌, ltb, leb, eqb, length, take, get_or}
-use Rattle.text.specs.Text.{hexOf, newline}
+use Rattle.text.specs.Text.{hex_of, newline}
 use Rattle.io.specs.Digits.{last_digits, IsDigitCount}
 use Rattle.test_io.specs.declared.TextLine.{TextLine}
 use Rattle.test_io.specs.declared.TextLine.TheVariants.{Word, End}
 
 -- The digit that b is the code of, and 16 where it is none's.
-unfoldable pub digitOf : ℕ → ℕ
-digitOf b = cond (ltb b 48) 16 (cond (leb b 57) (b - 48) (cond (ltb b 65) 16 (cond (leb b 70) (b - 55) 16)))
+unfoldable pub digit_of : ℕ → ℕ
+digit_of b = cond (ltb b 48) 16 (cond (leb b 57) (b - 48) (cond (ltb b 65) 16 (cond (leb b 70) (b - 55) 16)))
 
 -- The text line of n: 16 digits and a newline.
-unfoldable pub wordTextLine : ℕ → List ℕ
-wordTextLine n = hexOf 16 n ++ newline
+unfoldable pub word_text_line : ℕ → List ℕ
+word_text_line n = hex_of 16 n ++ newline
 
 -- What is read so far, and the digit after it.
 unfoldable pub then : TextLine → ℕ → TextLine
@@ -20,9 +20,9 @@ then (Word n) d = cond (ltb d 16) (Word (n * 16 + d)) End
 
 -- What the first k bytes of a text line spell.
 unfoldable pub spelt : ℕ → List ℕ → TextLine
-unfolding then digitOf
+unfolding then digit_of
 spelt zero s = Word 0
-spelt (suc k) s = then (spelt k s) (digitOf (get_or s k 0))
+spelt (suc k) s = then (spelt k s) (digit_of (get_or s k 0))
 
 -- What is read, where the byte b is the last of its text line.
 unfoldable pub ended : TextLine → ℕ → TextLine

@@ -5,7 +5,7 @@
 // heads of runs.
 ghost use Rattle.std.specs.Prelude.{◌≡◌, ◌+◌, ◌<◌, ◌≤◌, length, take};
 ghost use Rattle.io.specs.Counts.{IsPrefixLen};
-ghost use Rattle.test_io.specs.TextLines.{digitOf, wordTextLine, word_of, Extended, Numbered};
+ghost use Rattle.test_io.specs.TextLines.{digit_of, word_text_line, word_of, Extended, Numbered};
 
 use libc::{STDIN_FILENO, STDOUT_FILENO};
 
@@ -68,7 +68,7 @@ fn parse(text: &[u8; 17]) -> TextLine
 
 // The text line of n: 16 digits and a newline.
 fn spell(n: u64) -> [u8; 17]
-    ensures { result ≡ wordTextLine n }
+    ensures { result ≡ word_text_line n }
 {
     let mut bytes = [b'\n'; 17];
     text::put_hex(n, 0, &mut bytes);
@@ -99,7 +99,7 @@ fn put(out: &mut [u8], at: usize, text: &[u8]) -> usize
 
 // The digit that b is the code of, and 16 where it is none's.
 fn digit(b: u8) -> u64
-    ensures { result ≡ digitOf b }
+    ensures { result ≡ digit_of b }
 {
     if b < b'0' {
         return 16;

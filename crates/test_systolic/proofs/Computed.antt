@@ -2,41 +2,41 @@
 -- Assumes nothing.
 use mathlib.Core.Path.{◌≡◌, refl}
 use mathlib.Core.List.{[], ◌∷◌}
-use Rattle.test_systolic.specs.Readings.{up_to, registersOver, movesOver, meetingSteps, connections, outputs}
-use Rattle.test_systolic.specs.Readings.{cellsAfter, wiresAfter, parametersAfter, marksAfter, keptAfter, tilesAfter}
-use Rattle.test_systolic.specs.Readings.{stampedAfter, trafficIn, wiresSetOver, receivedOver, plain_over, plainKeptOver}
-use Rattle.test_systolic.specs.Readings.{failsOver, blocksOver, sentOver, keptOver}
+use Rattle.test_systolic.specs.Readings.{up_to, registers_over, moves_over, meeting_steps, connections, outputs}
+use Rattle.test_systolic.specs.Readings.{cells_after, wires_after, parameters_after, marks_after, kept_after, tiles_after}
+use Rattle.test_systolic.specs.Readings.{stamped_after, traffic_in, wires_set_over, received_over, plain_over, plain_kept_over}
+use Rattle.test_systolic.specs.Readings.{fails_over, blocks_over, sent_over, kept_over}
 
 -- the left and the right register of each processor, a digit each, before steps 0 to 2 N
-registers-1-1 : registersOver 1 0 ≡
+registers_1_1 : registers_over 1 0 ≡
     (12 ∷ []) ∷
     (12 ∷ []) ∷
     (12 ∷ []) ∷
     []
-unfolding registersOver
-registers-1-1 = refl
+unfolding registers_over
+registers_1_1 = refl
 
-registers-2-0 : registersOver 0 1 ≡
+registers_2_0 : registers_over 0 1 ≡
     (1 ∷ 23 ∷ []) ∷
     (3 ∷ 12 ∷ []) ∷
     (2 ∷ 31 ∷ []) ∷
     (1 ∷ 23 ∷ []) ∷
     (3 ∷ 12 ∷ []) ∷
     []
-unfolding registersOver
-registers-2-0 = refl
+unfolding registers_over
+registers_2_0 = refl
 
-registers-2-1 : registersOver 1 1 ≡
+registers_2_1 : registers_over 1 1 ≡
     (12 ∷ 34 ∷ []) ∷
     (14 ∷ 23 ∷ []) ∷
     (13 ∷ 42 ∷ []) ∷
     (12 ∷ 34 ∷ []) ∷
     (14 ∷ 23 ∷ []) ∷
     []
-unfolding registersOver
-registers-2-1 = refl
+unfolding registers_over
+registers_2_1 = refl
 
-registers-3-1 : registersOver 1 2 ≡
+registers_3_1 : registers_over 1 2 ≡
     (12 ∷ 34 ∷ 56 ∷ []) ∷
     (14 ∷ 26 ∷ 35 ∷ []) ∷
     (16 ∷ 45 ∷ 23 ∷ []) ∷
@@ -45,10 +45,10 @@ registers-3-1 : registersOver 1 2 ≡
     (12 ∷ 34 ∷ 56 ∷ []) ∷
     (14 ∷ 26 ∷ 35 ∷ []) ∷
     []
-unfolding registersOver
-registers-3-1 = refl
+unfolding registers_over
+registers_3_1 = refl
 
-registers-4-0 : registersOver 0 3 ≡
+registers_4_0 : registers_over 0 3 ≡
     (1 ∷ 23 ∷ 45 ∷ 67 ∷ []) ∷
     (3 ∷ 15 ∷ 27 ∷ 46 ∷ []) ∷
     (5 ∷ 37 ∷ 16 ∷ 24 ∷ []) ∷
@@ -59,10 +59,10 @@ registers-4-0 : registersOver 0 3 ≡
     (1 ∷ 23 ∷ 45 ∷ 67 ∷ []) ∷
     (3 ∷ 15 ∷ 27 ∷ 46 ∷ []) ∷
     []
-unfolding registersOver
-registers-4-0 = refl
+unfolding registers_over
+registers_4_0 = refl
 
-registers-4-1 : registersOver 1 3 ≡
+registers_4_1 : registers_over 1 3 ≡
     (12 ∷ 34 ∷ 56 ∷ 78 ∷ []) ∷
     (14 ∷ 26 ∷ 38 ∷ 57 ∷ []) ∷
     (16 ∷ 48 ∷ 27 ∷ 35 ∷ []) ∷
@@ -73,68 +73,68 @@ registers-4-1 : registersOver 1 3 ≡
     (12 ∷ 34 ∷ 56 ∷ 78 ∷ []) ∷
     (14 ∷ 26 ∷ 38 ∷ 57 ∷ []) ∷
     []
-unfolding registersOver
-registers-4-1 = refl
+unfolding registers_over
+registers_4_1 = refl
 
 -- after 0 to 2 N steps, where the line that began in each register stands, a digit each: left k as 2 (k - 1), right k as 2 k - 1
-moves-1 : movesOver 0 ≡ 1 ∷ 1 ∷ 1 ∷ []
-unfolding movesOver
-moves-1 = refl
+moves_1 : moves_over 0 ≡ 1 ∷ 1 ∷ 1 ∷ []
+unfolding moves_over
+moves_1 = refl
 
-moves-2 : movesOver 1 ≡ 123 ∷ 231 ∷ 312 ∷ 123 ∷ 231 ∷ []
-unfolding movesOver
-moves-2 = refl
+moves_2 : moves_over 1 ≡ 123 ∷ 231 ∷ 312 ∷ 123 ∷ 231 ∷ []
+unfolding moves_over
+moves_2 = refl
 
-moves-3 : movesOver 2 ≡ 12345 ∷ 24153 ∷ 45231 ∷ 53412 ∷ 31524 ∷ 12345 ∷ 24153 ∷ []
-unfolding movesOver
-moves-3 = refl
+moves_3 : moves_over 2 ≡ 12345 ∷ 24153 ∷ 45231 ∷ 53412 ∷ 31524 ∷ 12345 ∷ 24153 ∷ []
+unfolding moves_over
+moves_3 = refl
 
-moves-4 : movesOver 3 ≡ 1234567 ∷ 2416375 ∷ 4627153 ∷ 6745231 ∷ 7563412 ∷ 5371624 ∷ 3152746 ∷ 1234567 ∷ 2416375 ∷ []
-unfolding movesOver
-moves-4 = refl
+moves_4 : moves_over 3 ≡ 1234567 ∷ 2416375 ∷ 4627153 ∷ 6745231 ∷ 7563412 ∷ 5371624 ∷ 3152746 ∷ 1234567 ∷ 2416375 ∷ []
+unfolding moves_over
+moves_4 = refl
 
 -- the step of a sweep, from 1, in which two lines meet: a row for each line and in it a digit for each line, 0 for itself
-meetings-1-1 : meetingSteps 1 0 ≡ 1 ∷ 10 ∷ []
-unfolding meetingSteps
-meetings-1-1 = refl
+meetings_1_1 : meeting_steps 1 0 ≡ 1 ∷ 10 ∷ []
+unfolding meeting_steps
+meetings_1_1 = refl
 
-meetings-2-0 : meetingSteps 0 1 ≡ 132 ∷ 1023 ∷ 3201 ∷ 2310 ∷ []
-unfolding meetingSteps
-meetings-2-0 = refl
+meetings_2_0 : meeting_steps 0 1 ≡ 132 ∷ 1023 ∷ 3201 ∷ 2310 ∷ []
+unfolding meeting_steps
+meetings_2_0 = refl
 
-meetings-2-1 : meetingSteps 1 1 ≡ 132 ∷ 1023 ∷ 3201 ∷ 2310 ∷ []
-unfolding meetingSteps
-meetings-2-1 = refl
+meetings_2_1 : meeting_steps 1 1 ≡ 132 ∷ 1023 ∷ 3201 ∷ 2310 ∷ []
+unfolding meeting_steps
+meetings_2_1 = refl
 
-meetings-3-1 : meetingSteps 1 2 ≡ 15243 ∷ 103452 ∷ 530124 ∷ 241035 ∷ 452301 ∷ 324510 ∷ []
-unfolding meetingSteps
-meetings-3-1 = refl
+meetings_3_1 : meeting_steps 1 2 ≡ 15243 ∷ 103452 ∷ 530124 ∷ 241035 ∷ 452301 ∷ 324510 ∷ []
+unfolding meeting_steps
+meetings_3_1 = refl
 
-meetings-4-0 : meetingSteps 0 3 ≡ 1726354 ∷ 10457236 ∷ 74013562 ∷ 25104673 ∷ 67340125 ∷ 32561047 ∷ 53672401 ∷ 46235710 ∷ []
-unfolding meetingSteps
-meetings-4-0 = refl
+meetings_4_0 : meeting_steps 0 3 ≡ 1726354 ∷ 10457236 ∷ 74013562 ∷ 25104673 ∷ 67340125 ∷ 32561047 ∷ 53672401 ∷ 46235710 ∷ []
+unfolding meeting_steps
+meetings_4_0 = refl
 
-meetings-4-1 : meetingSteps 1 3 ≡ 1726354 ∷ 10457236 ∷ 74013562 ∷ 25104673 ∷ 67340125 ∷ 32561047 ∷ 53672401 ∷ 46235710 ∷ []
-unfolding meetingSteps
-meetings-4-1 = refl
+meetings_4_1 : meeting_steps 1 3 ≡ 1726354 ∷ 10457236 ∷ 74013562 ∷ 25104673 ∷ 67340125 ∷ 32561047 ∷ 53672401 ∷ 46235710 ∷ []
+unfolding meeting_steps
+meetings_4_1 = refl
 
 -- where α β γ δ of each tile lead: row and column of a tile, from 0, and its input as 0 to 3 for α β γ δ
-connections-1 : connections 0 ≡
+connections_1 : connections 0 ≡
     (0 ∷ 1 ∷ 2 ∷ 3 ∷ []) ∷
     []
 unfolding connections
-connections-1 = refl
+connections_1 = refl
 
-connections-2 : connections 1 ≡
+connections_2 : connections 1 ≡
     (0 ∷ 10 ∷ 100 ∷ 110 ∷ []) ∷
     (1 ∷ 11 ∷ 101 ∷ 111 ∷ []) ∷
     (2 ∷ 12 ∷ 102 ∷ 112 ∷ []) ∷
     (3 ∷ 13 ∷ 103 ∷ 113 ∷ []) ∷
     []
 unfolding connections
-connections-2 = refl
+connections_2 = refl
 
-connections-3 : connections 2 ≡
+connections_3 : connections 2 ≡
     (0 ∷ 10 ∷ 100 ∷ 110 ∷ []) ∷
     (1 ∷ 20 ∷ 101 ∷ 120 ∷ []) ∷
     (11 ∷ 21 ∷ 111 ∷ 121 ∷ []) ∷
@@ -146,9 +146,9 @@ connections-3 : connections 2 ≡
     (113 ∷ 123 ∷ 213 ∷ 223 ∷ []) ∷
     []
 unfolding connections
-connections-3 = refl
+connections_3 = refl
 
-connections-4 : connections 3 ≡
+connections_4 : connections 3 ≡
     (0 ∷ 10 ∷ 100 ∷ 110 ∷ []) ∷
     (1 ∷ 20 ∷ 101 ∷ 120 ∷ []) ∷
     (11 ∷ 30 ∷ 111 ∷ 130 ∷ []) ∷
@@ -167,25 +167,25 @@ connections-4 : connections 3 ≡
     (223 ∷ 233 ∷ 323 ∷ 333 ∷ []) ∷
     []
 unfolding connections
-connections-4 = refl
+connections_4 = refl
 
 -- of each tile Algorithm Interchange on the cells 1 2 / 3 4, and its wires, at 5 6 / 7 8, after each of the three phases
-outputs-1 : outputs 0 ≡
+outputs_1 : outputs 0 ≡
     (1234 ∷ 5678 ∷ 1674 ∷ 5238 ∷ []) ∷
     []
 unfolding outputs
-outputs-1 = refl
+outputs_1 = refl
 
-outputs-2 : outputs 1 ≡
+outputs_2 : outputs 1 ≡
     (1234 ∷ 5678 ∷ 1678 ∷ 5234 ∷ []) ∷
     (2143 ∷ 5648 ∷ 2673 ∷ 5178 ∷ []) ∷
     (3412 ∷ 5478 ∷ 3672 ∷ 5618 ∷ []) ∷
     (4321 ∷ 5678 ∷ 5671 ∷ 4328 ∷ []) ∷
     []
 unfolding outputs
-outputs-2 = refl
+outputs_2 = refl
 
-outputs-3 : outputs 2 ≡
+outputs_3 : outputs 2 ≡
     (1234 ∷ 5678 ∷ 1678 ∷ 5234 ∷ []) ∷
     (2143 ∷ 5648 ∷ 2678 ∷ 5173 ∷ []) ∷
     (2143 ∷ 5648 ∷ 2673 ∷ 5178 ∷ []) ∷
@@ -197,9 +197,9 @@ outputs-3 : outputs 2 ≡
     (4321 ∷ 5678 ∷ 5671 ∷ 4328 ∷ []) ∷
     []
 unfolding outputs
-outputs-3 = refl
+outputs_3 = refl
 
-outputs-4 : outputs 3 ≡
+outputs_4 : outputs 3 ≡
     (1234 ∷ 5678 ∷ 1678 ∷ 5234 ∷ []) ∷
     (2143 ∷ 5648 ∷ 2678 ∷ 5173 ∷ []) ∷
     (2143 ∷ 5648 ∷ 2678 ∷ 5173 ∷ []) ∷
@@ -218,10 +218,10 @@ outputs-4 : outputs 3 ≡
     (4321 ∷ 5678 ∷ 5671 ∷ 4328 ∷ []) ∷
     []
 unfolding outputs
-outputs-4 = refl
+outputs_4 = refl
 
 -- the array of N by N tiles that runs K steps, named by N and K: the cells of every tile after some ticks
-cells-1-1 : cellsAfter 0 1 (up_to 5) ≡
+cells_1_1 : cells_after 0 1 (up_to 5) ≡
     (260378329464 ∷ []) ∷
     (566436251774 ∷ []) ∷
     (566436251774 ∷ []) ∷
@@ -229,10 +229,10 @@ cells-1-1 : cellsAfter 0 1 (up_to 5) ≡
     (566436251774 ∷ []) ∷
     (566436251774 ∷ []) ∷
     []
-unfolding cellsAfter
-cells-1-1 = refl
+unfolding cells_after
+cells_1_1 = refl
 
-cells-1-2 : cellsAfter 0 2 (up_to 8) ≡
+cells_1_2 : cells_after 0 2 (up_to 8) ≡
     (260378329464 ∷ []) ∷
     (566436251774 ∷ []) ∷
     (566436251774 ∷ []) ∷
@@ -243,10 +243,10 @@ cells-1-2 : cellsAfter 0 2 (up_to 8) ≡
     (152726481640 ∷ []) ∷
     (152726481640 ∷ []) ∷
     []
-unfolding cellsAfter
-cells-1-2 = refl
+unfolding cells_after
+cells_1_2 = refl
 
-cells-2-1 : cellsAfter 1 1 (up_to 6) ≡
+cells_2_1 : cells_after 1 1 (up_to 6) ≡
     (260378329464 ∷ 496614599734 ∷ 408560497666 ∷ 712864835007 ∷ []) ∷
     (566436251774 ∷ 496614599734 ∷ 408560497666 ∷ 278293221107 ∷ []) ∷
     (566436251774 ∷ 977457203819 ∷ 634805324576 ∷ 278293221107 ∷ []) ∷
@@ -255,10 +255,10 @@ cells-2-1 : cellsAfter 1 1 (up_to 6) ≡
     (566457324107 ∷ 436977576221 ∷ 251819634293 ∷ 774203805278 ∷ []) ∷
     (566457324107 ∷ 436977576221 ∷ 251819634293 ∷ 774203805278 ∷ []) ∷
     []
-unfolding cellsAfter
-cells-2-1 = refl
+unfolding cells_after
+cells_2_1 = refl
 
-cells-2-2 : cellsAfter 1 2 (up_to 9) ≡
+cells_2_2 : cells_after 1 2 (up_to 9) ≡
     (260378329464 ∷ 496614599734 ∷ 408560497666 ∷ 712864835007 ∷ []) ∷
     (566436251774 ∷ 496614599734 ∷ 408560497666 ∷ 278293221107 ∷ []) ∷
     (566436251774 ∷ 977457203819 ∷ 634805324576 ∷ 278293221107 ∷ []) ∷
@@ -270,16 +270,16 @@ cells-2-2 : cellsAfter 1 2 (up_to 9) ≡
     (896621842237 ∷ 313347264418 ∷ 833911990416 ∷ 968522734177 ∷ []) ∷
     (896621842237 ∷ 313347264418 ∷ 833911990416 ∷ 968522734177 ∷ []) ∷
     []
-unfolding cellsAfter
-cells-2-2 = refl
+unfolding cells_after
+cells_2_2 = refl
 
-cells-2-3 : cellsAfter 1 3 (11 ∷ []) ≡
+cells_2_3 : cells_after 1 3 (11 ∷ []) ≡
     (574733771673 ∷ 57215687851 ∷ 91281101815 ∷ 566807644471 ∷ []) ∷
     []
-unfolding cellsAfter
-cells-2-3 = refl
+unfolding cells_after
+cells_2_3 = refl
 
-cells-3-1 : cellsAfter 2 1 (up_to 7) ≡
+cells_3_1 : cells_after 2 1 (up_to 7) ≡
     (260378329464 ∷ 496614599734 ∷ 732850869007 ∷ 408560497666 ∷ 712864835007 ∷ 19171176345 ∷ 596782705908 ∷ 968157114317 ∷
     343529520723 ∷ []) ∷
     (566436251774 ∷ 496614599734 ∷ 732850869007 ∷ 408560497666 ∷ 278293221107 ∷ 19171176345 ∷ 596782705908 ∷ 968157114317 ∷
@@ -297,10 +297,10 @@ cells-3-1 : cellsAfter 2 1 (up_to 7) ≡
     (566457324107 ∷ 436570576546 ∷ 977476221002 ∷ 251819260943 ∷ 774309087790 ∷ 203428731368 ∷ 634293648514 ∷ 805176181972 ∷
     278355725988 ∷ []) ∷
     []
-unfolding cellsAfter
-cells-3-1 = refl
+unfolding cells_after
+cells_3_1 = refl
 
-cells-3-2 : cellsAfter 2 2 (up_to 10) ≡
+cells_3_2 : cells_after 2 2 (up_to 10) ≡
     (260378329464 ∷ 496614599734 ∷ 732850869007 ∷ 408560497666 ∷ 712864835007 ∷ 19171176345 ∷ 596782705908 ∷ 968157114317 ∷
     343529520723 ∷ []) ∷
     (566436251774 ∷ 496614599734 ∷ 732850869007 ∷ 408560497666 ∷ 278293221107 ∷ 19171176345 ∷ 596782705908 ∷ 968157114317 ∷
@@ -324,10 +324,10 @@ cells-3-2 : cellsAfter 2 2 (up_to 10) ≡
     (896817623294 ∷ 313007992203 ∷ 22039216227 ∷ 833143060521 ∷ 968880841135 ∷ 929062438499 ∷ 618522425445 ∷ 353520424864 ∷
     489087736236 ∷ []) ∷
     []
-unfolding cellsAfter
-cells-3-2 = refl
+unfolding cells_after
+cells_3_2 = refl
 
-cells-4-1 : cellsAfter 3 1 (up_to 8) ≡
+cells_4_1 : cells_after 3 1 (up_to 8) ≡
     (260378329464 ∷ 496614599734 ∷ 732850869007 ∷ 968089142277 ∷ 408560497666 ∷ 712864835007 ∷ 19171176345 ∷ 323475514683 ∷ 596782705908 ∷
     968157114317 ∷ 343529520723 ∷ 715901926132 ∷ 824047953193 ∷ 267487430667 ∷ 707927904144 ∷ 150370381618 ∷ []) ∷
     (566436251774 ∷ 496614599734 ∷ 732850869007 ∷ 968089142277 ∷ 408560497666 ∷ 278293221107 ∷ 19171176345 ∷ 323475514683 ∷ 596782705908 ∷
@@ -347,10 +347,10 @@ cells-4-1 : cellsAfter 3 1 (up_to 8) ≡
     (566457324107 ∷ 436570576546 ∷ 977862221090 ∷ 476306002309 ∷ 251819260943 ∷ 774309087790 ∷ 203247731877 ∷ 428578368191 ∷
     634293855332 ∷ 805176711314 ∷ 278225220829 ∷ 355654198692 ∷ 648514375820 ∷ 181972802086 ∷ 725800842479 ∷ 988409264702 ∷ []) ∷
     []
-unfolding cellsAfter
-cells-4-1 = refl
+unfolding cells_after
+cells_4_1 = refl
 
-cells-4-2 : cellsAfter 3 2 (4 ∷ 7 ∷ 10 ∷ []) ≡
+cells_4_2 : cells_after 3 2 (4 ∷ 7 ∷ 10 ∷ []) ≡
     (896313833968 ∷ 977457203819 ∷ 476570428309 ∷ 306862578247 ∷ 634805324576 ∷ 489522216294 ∷ 355176002546 ∷ 654225309090 ∷
     648181260087 ∷ 725514731943 ∷ 196447476469 ∷ 409800191877 ∷ 375802855711 ∷ 842820220332 ∷ 264086198314 ∷ 515443662434 ∷ []) ∷
     (896817623294 ∷ 22817929143 ∷ 595979449423 ∷ 824750631620 ∷ 618353623992 ∷ 968423351469 ∷ 580285168331 ∷ 425413210901 ∷ 824743850351 ∷
@@ -358,19 +358,19 @@ cells-4-2 : cellsAfter 3 2 (4 ∷ 7 ∷ 10 ∷ []) ≡
     (896817623294 ∷ 313979992331 ∷ 22750216901 ∷ 595824168210 ∷ 833143850141 ∷ 968423351469 ∷ 929620417794 ∷ 449631476085 ∷ 618522005204 ∷
     353285175931 ∷ 489413975434 ∷ 580425253662 ∷ 824652910381 ∷ 743447828415 ∷ 166711707443 ∷ 196574448515 ∷ []) ∷
     []
-unfolding cellsAfter
-cells-4-2 = refl
+unfolding cells_after
+cells_4_2 = refl
 
-cells-5-2 : cellsAfter 4 2 (5 ∷ []) ≡
+cells_5_2 : cells_after 4 2 (5 ∷ []) ≡
     (896313833968 ∷ 22817929143 ∷ 476570428309 ∷ 306862578247 ∷ 766276560695 ∷ 618353623992 ∷ 489522216294 ∷ 580285168331 ∷ 654225309090 ∷
     202323926530 ∷ 648181260087 ∷ 166652417141 ∷ 196447476469 ∷ 852281227023 ∷ 639835555046 ∷ 375802855711 ∷ 842820220332 ∷
     995484557738 ∷ 776581378974 ∷ 205975874313 ∷ 608122205111 ∷ 637582986245 ∷ 438481331951 ∷ 785308294867 ∷ 966261224899 ∷ []) ∷
     []
-unfolding cellsAfter
-cells-5-2 = refl
+unfolding cells_after
+cells_5_2 = refl
 
 -- its outgoing wires
-wires-1-1 : wiresAfter 0 1 (up_to 5) ≡
+wires_1_1 : wires_after 0 1 (up_to 5) ≡
     (901901901901 ∷ []) ∷
     (901901901901 ∷ []) ∷
     (566901901774 ∷ []) ∷
@@ -378,10 +378,10 @@ wires-1-1 : wiresAfter 0 1 (up_to 5) ≡
     (566436251774 ∷ []) ∷
     (566436251774 ∷ []) ∷
     []
-unfolding wiresAfter
-wires-1-1 = refl
+unfolding wires_after
+wires_1_1 = refl
 
-wires-1-2 : wiresAfter 0 2 (up_to 8) ≡
+wires_1_2 : wires_after 0 2 (up_to 8) ≡
     (901901901901 ∷ []) ∷
     (901901901901 ∷ []) ∷
     (566901901774 ∷ []) ∷
@@ -392,10 +392,10 @@ wires-1-2 : wiresAfter 0 2 (up_to 8) ≡
     (152726481640 ∷ []) ∷
     (152726481640 ∷ []) ∷
     []
-unfolding wiresAfter
-wires-1-2 = refl
+unfolding wires_after
+wires_1_2 = refl
 
-wires-2-1 : wiresAfter 1 1 (up_to 6) ≡
+wires_2_1 : wires_after 1 1 (up_to 6) ≡
     (901901901901 ∷ 901901901901 ∷ 901901901901 ∷ 901901901901 ∷ []) ∷
     (901901901901 ∷ 901901901901 ∷ 901901901901 ∷ 901901901901 ∷ []) ∷
     (566901901901 ∷ 901901819901 ∷ 901576901901 ∷ 901901901278 ∷ []) ∷
@@ -404,10 +404,10 @@ wires-2-1 : wiresAfter 1 1 (up_to 6) ≡
     (566436251774 ∷ 457977819203 ∷ 324576634805 ∷ 107221293278 ∷ []) ∷
     (566436251774 ∷ 457977819203 ∷ 324576634805 ∷ 107221293278 ∷ []) ∷
     []
-unfolding wiresAfter
-wires-2-1 = refl
+unfolding wires_after
+wires_2_1 = refl
 
-wires-2-2 : wiresAfter 1 2 (up_to 9) ≡
+wires_2_2 : wires_after 1 2 (up_to 9) ≡
     (901901901901 ∷ 901901901901 ∷ 901901901901 ∷ 901901901901 ∷ []) ∷
     (901901901901 ∷ 901901901901 ∷ 901901901901 ∷ 901901901901 ∷ []) ∷
     (566901901901 ∷ 901901819901 ∷ 901576901901 ∷ 901901901278 ∷ []) ∷
@@ -419,16 +419,16 @@ wires-2-2 : wiresAfter 1 2 (up_to 9) ≡
     (896313833968 ∷ 621347911522 ∷ 842264990734 ∷ 237418416177 ∷ []) ∷
     (896313833968 ∷ 621347911522 ∷ 842264990734 ∷ 237418416177 ∷ []) ∷
     []
-unfolding wiresAfter
-wires-2-2 = refl
+unfolding wires_after
+wires_2_2 = refl
 
-wires-2-3 : wiresAfter 1 3 (9 ∷ []) ≡
+wires_2_3 : wires_after 1 3 (9 ∷ []) ≡
     (574057091566 ∷ 733347281807 ∷ 771687990644 ∷ 673851815471 ∷ []) ∷
     []
-unfolding wiresAfter
-wires-2-3 = refl
+unfolding wires_after
+wires_2_3 = refl
 
-wires-3-1 : wiresAfter 2 1 (up_to 7) ≡
+wires_3_1 : wires_after 2 1 (up_to 7) ≡
     (901901901901 ∷ 901901901901 ∷ 901901901901 ∷ 901901901901 ∷ 901901901901 ∷ 901901901901 ∷ 901901901901 ∷ 901901901901 ∷
     901901901901 ∷ []) ∷
     (901901901901 ∷ 901901901901 ∷ 901901901901 ∷ 901901901901 ∷ 901901901901 ∷ 901901901901 ∷ 901901901901 ∷ 901901901901 ∷
@@ -446,10 +446,10 @@ wires-3-1 : wiresAfter 2 1 (up_to 7) ≡
     (566436251774 ∷ 457977819203 ∷ 570476309428 ∷ 324576634805 ∷ 107221293278 ∷ 546002176355 ∷ 260087648181 ∷ 943731514725 ∷
     790368972988 ∷ []) ∷
     []
-unfolding wiresAfter
-wires-3-1 = refl
+unfolding wires_after
+wires_3_1 = refl
 
-wires-3-2 : wiresAfter 2 2 (up_to 10) ≡
+wires_3_2 : wires_after 2 2 (up_to 10) ≡
     (901901901901 ∷ 901901901901 ∷ 901901901901 ∷ 901901901901 ∷ 901901901901 ∷ 901901901901 ∷ 901901901901 ∷ 901901901901 ∷
     901901901901 ∷ []) ∷
     (901901901901 ∷ 901901901901 ∷ 901901901901 ∷ 901901901901 ∷ 901901901901 ∷ 901901901901 ∷ 901901901901 ∷ 901901901901 ∷
@@ -473,10 +473,10 @@ wires-3-2 : wiresAfter 2 2 (up_to 10) ≡
     (896313833968 ∷ 817022143929 ∷ 7039880062 ∷ 623992618353 ∷ 294216522489 ∷ 203227520087 ∷ 60841425424 ∷ 521438445736 ∷
     135499864236 ∷ []) ∷
     []
-unfolding wiresAfter
-wires-3-2 = refl
+unfolding wires_after
+wires_3_2 = refl
 
-wires-4-1 : wiresAfter 3 1 (up_to 8) ≡
+wires_4_1 : wires_after 3 1 (up_to 8) ≡
     (901901901901 ∷ 901901901901 ∷ 901901901901 ∷ 901901901901 ∷ 901901901901 ∷ 901901901901 ∷ 901901901901 ∷ 901901901901 ∷
     901901901901 ∷ 901901901901 ∷ 901901901901 ∷ 901901901901 ∷ 901901901901 ∷ 901901901901 ∷ 901901901901 ∷ 901901901901 ∷ []) ∷
     (901901901901 ∷ 901901901901 ∷ 901901901901 ∷ 901901901901 ∷ 901901901901 ∷ 901901901901 ∷ 901901901901 ∷ 901901901901 ∷
@@ -496,10 +496,10 @@ wires-4-1 : wiresAfter 3 1 (up_to 8) ≡
     (566436251774 ∷ 457977819203 ∷ 570476309428 ∷ 862306247578 ∷ 324576634805 ∷ 107221293278 ∷ 546002176355 ∷ 90309225654 ∷ 260087648181 ∷
     943731514725 ∷ 790368972988 ∷ 877191800409 ∷ 855711375802 ∷ 332220820842 ∷ 314198086264 ∷ 829692479702 ∷ []) ∷
     []
-unfolding wiresAfter
-wires-4-1 = refl
+unfolding wires_after
+wires_4_1 = refl
 
-wires-4-2 : wiresAfter 3 2 (2 ∷ 4 ∷ 6 ∷ 8 ∷ 10 ∷ []) ≡
+wires_4_2 : wires_after 3 2 (2 ∷ 4 ∷ 6 ∷ 8 ∷ 10 ∷ []) ≡
     (566901901901 ∷ 901901819901 ∷ 901901901901 ∷ 901901901901 ∷ 901576901901 ∷ 901901901901 ∷ 901901176901 ∷ 901901901901 ∷
     901901901901 ∷ 901731901901 ∷ 901901901901 ∷ 901901800901 ∷ 901901901901 ∷ 901901901901 ∷ 901198901901 ∷ 901901901702 ∷ []) ∷
     (566436251774 ∷ 457977819203 ∷ 570901309901 ∷ 901901247901 ∷ 324576634805 ∷ 107221293278 ∷ 546002176355 ∷ 901901225654 ∷
@@ -511,19 +511,19 @@ wires-4-2 : wiresAfter 3 2 (2 ∷ 4 ∷ 6 ∷ 8 ∷ 10 ∷ []) ≡
     (896313833968 ∷ 817022143929 ∷ 979595423449 ∷ 750824620631 ∷ 623992618353 ∷ 294216522489 ∷ 331168285580 ∷ 901210413425 ∷
     850351824743 ∷ 141417652166 ∷ 469476447196 ∷ 794085711574 ∷ 5175910828 ∷ 204975381707 ∷ 931253415448 ∷ 434662443515 ∷ []) ∷
     []
-unfolding wiresAfter
-wires-4-2 = refl
+unfolding wires_after
+wires_4_2 = refl
 
-wires-5-2 : wiresAfter 4 2 (5 ∷ []) ≡
+wires_5_2 : wires_after 4 2 (5 ∷ []) ≡
     (896436251774 ∷ 457977143203 ∷ 570476309428 ∷ 862901247901 ∷ 901901695901 ∷ 324992634805 ∷ 107221293278 ∷ 546002285355 ∷ 90309225654 ∷
     901901323202 ∷ 260087648181 ∷ 943417514725 ∷ 790368972988 ∷ 877191281409 ∷ 46555835639 ∷ 855711901901 ∷ 332220820842 ∷ 314557086264 ∷
     829692479702 ∷ 360369975117 ∷ 901111901901 ∷ 901986901637 ∷ 951331481438 ∷ 567294612442 ∷ 224196808966 ∷ []) ∷
     []
-unfolding wiresAfter
-wires-5-2 = refl
+unfolding wires_after
+wires_5_2 = refl
 
 -- its parameter wires, along the row and along the column
-parameters-1-1 : parametersAfter 0 1 (up_to 5) ≡
+parameters_1_1 : parameters_after 0 1 (up_to 5) ≡
     (902903 ∷ []) ∷
     (511781 ∷ []) ∷
     (511781 ∷ []) ∷
@@ -531,10 +531,10 @@ parameters-1-1 : parametersAfter 0 1 (up_to 5) ≡
     (511781 ∷ []) ∷
     (511781 ∷ []) ∷
     []
-unfolding parametersAfter
-parameters-1-1 = refl
+unfolding parameters_after
+parameters_1_1 = refl
 
-parameters-1-2 : parametersAfter 0 2 (up_to 8) ≡
+parameters_1_2 : parameters_after 0 2 (up_to 8) ≡
     (902903 ∷ []) ∷
     (511781 ∷ []) ∷
     (511781 ∷ []) ∷
@@ -545,10 +545,10 @@ parameters-1-2 : parametersAfter 0 2 (up_to 8) ≡
     (894205 ∷ []) ∷
     (894205 ∷ []) ∷
     []
-unfolding parametersAfter
-parameters-1-2 = refl
+unfolding parameters_after
+parameters_1_2 = refl
 
-parameters-2-1 : parametersAfter 1 1 (up_to 6) ≡
+parameters_2_1 : parameters_after 1 1 (up_to 6) ≡
     (902903 ∷ 902903 ∷ 902903 ∷ 902903 ∷ []) ∷
     (511781 ∷ 902903 ∷ 902903 ∷ 946540 ∷ []) ∷
     (511781 ∷ 511540 ∷ 946781 ∷ 946540 ∷ []) ∷
@@ -557,10 +557,10 @@ parameters-2-1 : parametersAfter 1 1 (up_to 6) ≡
     (511781 ∷ 511540 ∷ 946781 ∷ 946540 ∷ []) ∷
     (511781 ∷ 511540 ∷ 946781 ∷ 946540 ∷ []) ∷
     []
-unfolding parametersAfter
-parameters-2-1 = refl
+unfolding parameters_after
+parameters_2_1 = refl
 
-parameters-2-2 : parametersAfter 1 2 (up_to 9) ≡
+parameters_2_2 : parameters_after 1 2 (up_to 9) ≡
     (902903 ∷ 902903 ∷ 902903 ∷ 902903 ∷ []) ∷
     (511781 ∷ 902903 ∷ 902903 ∷ 946540 ∷ []) ∷
     (511781 ∷ 511540 ∷ 946781 ∷ 946540 ∷ []) ∷
@@ -572,16 +572,16 @@ parameters-2-2 : parametersAfter 1 2 (up_to 9) ≡
     (116605 ∷ 116803 ∷ 985605 ∷ 985803 ∷ []) ∷
     (116605 ∷ 116803 ∷ 985605 ∷ 985803 ∷ []) ∷
     []
-unfolding parametersAfter
-parameters-2-2 = refl
+unfolding parameters_after
+parameters_2_2 = refl
 
-parameters-2-3 : parametersAfter 1 3 (8 ∷ []) ≡
+parameters_2_3 : parameters_after 1 3 (8 ∷ []) ≡
     (341190 ∷ 341388 ∷ 168190 ∷ 168388 ∷ []) ∷
     []
-unfolding parametersAfter
-parameters-2-3 = refl
+unfolding parameters_after
+parameters_2_3 = refl
 
-parameters-3-1 : parametersAfter 2 1 (up_to 7) ≡
+parameters_3_1 : parameters_after 2 1 (up_to 7) ≡
     (902903 ∷ 902903 ∷ 902903 ∷ 902903 ∷ 902903 ∷ 902903 ∷ 902903 ∷ 902903 ∷ 902903 ∷ []) ∷
     (511781 ∷ 902903 ∷ 902903 ∷ 902903 ∷ 946540 ∷ 902903 ∷ 902903 ∷ 902903 ∷ 267241 ∷ []) ∷
     (511781 ∷ 511540 ∷ 902903 ∷ 946781 ∷ 946540 ∷ 946241 ∷ 902903 ∷ 267540 ∷ 267241 ∷ []) ∷
@@ -591,10 +591,10 @@ parameters-3-1 : parametersAfter 2 1 (up_to 7) ≡
     (511781 ∷ 511540 ∷ 511241 ∷ 946781 ∷ 946540 ∷ 946241 ∷ 267781 ∷ 267540 ∷ 267241 ∷ []) ∷
     (511781 ∷ 511540 ∷ 511241 ∷ 946781 ∷ 946540 ∷ 946241 ∷ 267781 ∷ 267540 ∷ 267241 ∷ []) ∷
     []
-unfolding parametersAfter
-parameters-3-1 = refl
+unfolding parameters_after
+parameters_3_1 = refl
 
-parameters-3-2 : parametersAfter 2 2 (up_to 10) ≡
+parameters_3_2 : parameters_after 2 2 (up_to 10) ≡
     (902903 ∷ 902903 ∷ 902903 ∷ 902903 ∷ 902903 ∷ 902903 ∷ 902903 ∷ 902903 ∷ 902903 ∷ []) ∷
     (511781 ∷ 902903 ∷ 902903 ∷ 902903 ∷ 946540 ∷ 902903 ∷ 902903 ∷ 902903 ∷ 267241 ∷ []) ∷
     (511781 ∷ 511540 ∷ 902903 ∷ 946781 ∷ 946540 ∷ 946241 ∷ 902903 ∷ 267540 ∷ 267241 ∷ []) ∷
@@ -607,10 +607,10 @@ parameters-3-2 : parametersAfter 2 2 (up_to 10) ≡
     (116605 ∷ 116823 ∷ 116416 ∷ 825605 ∷ 825823 ∷ 825416 ∷ 757605 ∷ 757823 ∷ 757416 ∷ []) ∷
     (116605 ∷ 116823 ∷ 116416 ∷ 825605 ∷ 825823 ∷ 825416 ∷ 757605 ∷ 757823 ∷ 757416 ∷ []) ∷
     []
-unfolding parametersAfter
-parameters-3-2 = refl
+unfolding parameters_after
+parameters_3_2 = refl
 
-parameters-4-1 : parametersAfter 3 1 (up_to 8) ≡
+parameters_4_1 : parameters_after 3 1 (up_to 8) ≡
     (902903 ∷ 902903 ∷ 902903 ∷ 902903 ∷ 902903 ∷ 902903 ∷ 902903 ∷ 902903 ∷ 902903 ∷ 902903 ∷ 902903 ∷ 902903 ∷ 902903 ∷ 902903 ∷
     902903 ∷ 902903 ∷ []) ∷
     (511781 ∷ 902903 ∷ 902903 ∷ 902903 ∷ 902903 ∷ 946540 ∷ 902903 ∷ 902903 ∷ 902903 ∷ 902903 ∷ 267241 ∷ 902903 ∷ 902903 ∷ 902903 ∷
@@ -630,10 +630,10 @@ parameters-4-1 : parametersAfter 3 1 (up_to 8) ≡
     (511781 ∷ 511540 ∷ 511241 ∷ 511881 ∷ 946781 ∷ 946540 ∷ 946241 ∷ 946881 ∷ 267781 ∷ 267540 ∷ 267241 ∷ 267881 ∷ 468781 ∷ 468540 ∷
     468241 ∷ 468881 ∷ []) ∷
     []
-unfolding parametersAfter
-parameters-4-1 = refl
+unfolding parameters_after
+parameters_4_1 = refl
 
-parameters-4-2 : parametersAfter 3 2 (up_to 11) ≡
+parameters_4_2 : parameters_after 3 2 (up_to 11) ≡
     (902903 ∷ 902903 ∷ 902903 ∷ 902903 ∷ 902903 ∷ 902903 ∷ 902903 ∷ 902903 ∷ 902903 ∷ 902903 ∷ 902903 ∷ 902903 ∷ 902903 ∷ 902903 ∷
     902903 ∷ 902903 ∷ []) ∷
     (511781 ∷ 902903 ∷ 902903 ∷ 902903 ∷ 902903 ∷ 946540 ∷ 902903 ∷ 902903 ∷ 902903 ∷ 902903 ∷ 267241 ∷ 902903 ∷ 902903 ∷ 902903 ∷
@@ -659,63 +659,63 @@ parameters-4-2 : parametersAfter 3 2 (up_to 11) ≡
     (116605 ∷ 116823 ∷ 116777 ∷ 116641 ∷ 825605 ∷ 825823 ∷ 825777 ∷ 825641 ∷ 239605 ∷ 239823 ∷ 239777 ∷ 239641 ∷ 801605 ∷ 801823 ∷
     801777 ∷ 801641 ∷ []) ∷
     []
-unfolding parametersAfter
-parameters-4-2 = refl
+unfolding parameters_after
+parameters_4_2 = refl
 
-parameters-5-2 : parametersAfter 4 2 (5 ∷ 6 ∷ []) ≡
+parameters_5_2 : parameters_after 4 2 (5 ∷ 6 ∷ []) ≡
     (116605 ∷ 116823 ∷ 511241 ∷ 511881 ∷ 511466 ∷ 825605 ∷ 825823 ∷ 825777 ∷ 946881 ∷ 946466 ∷ 267781 ∷ 239823 ∷ 239777 ∷ 239993 ∷
     267466 ∷ 468781 ∷ 468540 ∷ 5777 ∷ 5993 ∷ 5486 ∷ 552781 ∷ 552540 ∷ 552241 ∷ 770993 ∷ 770486 ∷ []) ∷
     (116605 ∷ 116823 ∷ 116777 ∷ 511881 ∷ 511466 ∷ 825605 ∷ 825823 ∷ 825777 ∷ 825993 ∷ 946466 ∷ 239605 ∷ 239823 ∷ 239777 ∷ 239993 ∷
     239486 ∷ 468781 ∷ 5823 ∷ 5777 ∷ 5993 ∷ 5486 ∷ 552781 ∷ 552540 ∷ 770777 ∷ 770993 ∷ 770486 ∷ []) ∷
     []
-unfolding parametersAfter
-parameters-5-2 = refl
+unfolding parameters_after
+parameters_5_2 = refl
 
 -- its marks, a digit for each tile
-marks-1-1 : marksAfter 0 1 (up_to 5) ≡ 0 ∷ 1 ∷ 1 ∷ 1 ∷ 1 ∷ 1 ∷ []
-unfolding marksAfter
-marks-1-1 = refl
+marks_1_1 : marks_after 0 1 (up_to 5) ≡ 0 ∷ 1 ∷ 1 ∷ 1 ∷ 1 ∷ 1 ∷ []
+unfolding marks_after
+marks_1_1 = refl
 
-marks-1-2 : marksAfter 0 2 (up_to 8) ≡ 0 ∷ 1 ∷ 1 ∷ 1 ∷ 1 ∷ 1 ∷ 1 ∷ 1 ∷ 1 ∷ []
-unfolding marksAfter
-marks-1-2 = refl
+marks_1_2 : marks_after 0 2 (up_to 8) ≡ 0 ∷ 1 ∷ 1 ∷ 1 ∷ 1 ∷ 1 ∷ 1 ∷ 1 ∷ 1 ∷ []
+unfolding marks_after
+marks_1_2 = refl
 
-marks-2-1 : marksAfter 1 1 (up_to 6) ≡ 0 ∷ 1000 ∷ 1000 ∷ 1000 ∷ 1000 ∷ 1100 ∷ 1100 ∷ []
-unfolding marksAfter
-marks-2-1 = refl
+marks_2_1 : marks_after 1 1 (up_to 6) ≡ 0 ∷ 1000 ∷ 1000 ∷ 1000 ∷ 1000 ∷ 1100 ∷ 1100 ∷ []
+unfolding marks_after
+marks_2_1 = refl
 
-marks-2-2 : marksAfter 1 2 (up_to 9) ≡ 0 ∷ 1000 ∷ 1000 ∷ 1000 ∷ 1000 ∷ 1100 ∷ 1100 ∷ 1101 ∷ 1111 ∷ 1111 ∷ []
-unfolding marksAfter
-marks-2-2 = refl
+marks_2_2 : marks_after 1 2 (up_to 9) ≡ 0 ∷ 1000 ∷ 1000 ∷ 1000 ∷ 1000 ∷ 1100 ∷ 1100 ∷ 1101 ∷ 1111 ∷ 1111 ∷ []
+unfolding marks_after
+marks_2_2 = refl
 
-marks-2-3 : marksAfter 1 3 (8 ∷ []) ≡ 1100 ∷ []
-unfolding marksAfter
-marks-2-3 = refl
+marks_2_3 : marks_after 1 3 (8 ∷ []) ≡ 1100 ∷ []
+unfolding marks_after
+marks_2_3 = refl
 
-marks-3-1 : marksAfter 2 1 (up_to 7) ≡ 0 ∷ 100000010 ∷ 100000010 ∷ 100000010 ∷ 100000010 ∷ 110000010 ∷ 110000010 ∷ 110000010 ∷ []
-unfolding marksAfter
-marks-3-1 = refl
+marks_3_1 : marks_after 2 1 (up_to 7) ≡ 0 ∷ 100000010 ∷ 100000010 ∷ 100000010 ∷ 100000010 ∷ 110000010 ∷ 110000010 ∷ 110000010 ∷ []
+unfolding marks_after
+marks_3_1 = refl
 
-marks-3-2 : marksAfter 2 2 (3 ∷ 5 ∷ 7 ∷ 10 ∷ []) ≡ 100000010 ∷ 100001010 ∷ 100011010 ∷ 101011010 ∷ []
-unfolding marksAfter
-marks-3-2 = refl
+marks_3_2 : marks_after 2 2 (3 ∷ 5 ∷ 7 ∷ 10 ∷ []) ≡ 100000010 ∷ 100001010 ∷ 100011010 ∷ 101011010 ∷ []
+unfolding marks_after
+marks_3_2 = refl
 
-marks-4-1 : marksAfter 3 1 (up_to 8) ≡
+marks_4_1 : marks_after 3 1 (up_to 8) ≡
     0 ∷ 1001000101010001 ∷ 1001000101010001 ∷ 1001000101010001 ∷ 1001000101010001 ∷ 1101000101010001 ∷ 1101000101010001 ∷
     1101000101010001 ∷ 1101000101010001 ∷ []
-unfolding marksAfter
-marks-4-1 = refl
+unfolding marks_after
+marks_4_1 = refl
 
-marks-4-2 : marksAfter 3 2 (5 ∷ 8 ∷ 11 ∷ []) ≡ 1001000101010001 ∷ 1001011101010001 ∷ 1001011101010001 ∷ []
-unfolding marksAfter
-marks-4-2 = refl
+marks_4_2 : marks_after 3 2 (5 ∷ 8 ∷ 11 ∷ []) ≡ 1001000101010001 ∷ 1001011101010001 ∷ 1001011101010001 ∷ []
+unfolding marks_after
+marks_4_2 = refl
 
-marks-5-2 : marksAfter 4 2 (5 ∷ []) ≡ 1001000010010110001100011 ∷ []
-unfolding marksAfter
-marks-5-2 = refl
+marks_5_2 : marks_after 4 2 (5 ∷ []) ≡ 1001000010010110001100011 ∷ []
+unfolding marks_after
+marks_5_2 = refl
 
 -- what its tiles keep
-kept-1-1 : keptAfter 0 1 (up_to 5) ≡
+kept_1_1 : kept_after 0 1 (up_to 5) ≡
     (904 ∷ []) ∷
     (804 ∷ []) ∷
     (804 ∷ []) ∷
@@ -723,10 +723,10 @@ kept-1-1 : keptAfter 0 1 (up_to 5) ≡
     (804 ∷ []) ∷
     (804 ∷ []) ∷
     []
-unfolding keptAfter
-kept-1-1 = refl
+unfolding kept_after
+kept_1_1 = refl
 
-kept-1-2 : keptAfter 0 2 (up_to 8) ≡
+kept_1_2 : kept_after 0 2 (up_to 8) ≡
     (904 ∷ []) ∷
     (804 ∷ []) ∷
     (804 ∷ []) ∷
@@ -737,10 +737,10 @@ kept-1-2 : keptAfter 0 2 (up_to 8) ≡
     (440 ∷ []) ∷
     (440 ∷ []) ∷
     []
-unfolding keptAfter
-kept-1-2 = refl
+unfolding kept_after
+kept_1_2 = refl
 
-kept-2-1 : keptAfter 1 1 (up_to 6) ≡
+kept_2_1 : kept_after 1 1 (up_to 6) ≡
     (904 ∷ 904 ∷ 904 ∷ 904 ∷ []) ∷
     (804 ∷ 904 ∷ 904 ∷ 373 ∷ []) ∷
     (804 ∷ 904 ∷ 904 ∷ 373 ∷ []) ∷
@@ -749,10 +749,10 @@ kept-2-1 : keptAfter 1 1 (up_to 6) ≡
     (804 ∷ 904 ∷ 904 ∷ 373 ∷ []) ∷
     (804 ∷ 904 ∷ 904 ∷ 373 ∷ []) ∷
     []
-unfolding keptAfter
-kept-2-1 = refl
+unfolding kept_after
+kept_2_1 = refl
 
-kept-2-2 : keptAfter 1 2 (up_to 9) ≡
+kept_2_2 : kept_after 1 2 (up_to 9) ≡
     (904 ∷ 904 ∷ 904 ∷ 904 ∷ []) ∷
     (804 ∷ 904 ∷ 904 ∷ 373 ∷ []) ∷
     (804 ∷ 904 ∷ 904 ∷ 373 ∷ []) ∷
@@ -764,16 +764,16 @@ kept-2-2 : keptAfter 1 2 (up_to 9) ≡
     (740 ∷ 904 ∷ 904 ∷ 205 ∷ []) ∷
     (740 ∷ 904 ∷ 904 ∷ 205 ∷ []) ∷
     []
-unfolding keptAfter
-kept-2-2 = refl
+unfolding kept_after
+kept_2_2 = refl
 
-kept-2-3 : keptAfter 1 3 (8 ∷ []) ≡
+kept_2_3 : kept_after 1 3 (8 ∷ []) ≡
     (591 ∷ 904 ∷ 904 ∷ 795 ∷ []) ∷
     []
-unfolding keptAfter
-kept-2-3 = refl
+unfolding kept_after
+kept_2_3 = refl
 
-kept-3-1 : keptAfter 2 1 (up_to 7) ≡
+kept_3_1 : kept_after 2 1 (up_to 7) ≡
     (904 ∷ 904 ∷ 904 ∷ 904 ∷ 904 ∷ 904 ∷ 904 ∷ 904 ∷ 904 ∷ []) ∷
     (804 ∷ 904 ∷ 904 ∷ 904 ∷ 373 ∷ 904 ∷ 904 ∷ 904 ∷ 295 ∷ []) ∷
     (804 ∷ 904 ∷ 904 ∷ 904 ∷ 373 ∷ 904 ∷ 904 ∷ 904 ∷ 295 ∷ []) ∷
@@ -783,18 +783,18 @@ kept-3-1 : keptAfter 2 1 (up_to 7) ≡
     (804 ∷ 904 ∷ 904 ∷ 904 ∷ 373 ∷ 904 ∷ 904 ∷ 904 ∷ 295 ∷ []) ∷
     (804 ∷ 904 ∷ 904 ∷ 904 ∷ 373 ∷ 904 ∷ 904 ∷ 904 ∷ 295 ∷ []) ∷
     []
-unfolding keptAfter
-kept-3-1 = refl
+unfolding kept_after
+kept_3_1 = refl
 
-kept-3-2 : keptAfter 2 2 (3 ∷ 4 ∷ 11 ∷ []) ≡
+kept_3_2 : kept_after 2 2 (3 ∷ 4 ∷ 11 ∷ []) ≡
     (804 ∷ 904 ∷ 904 ∷ 904 ∷ 373 ∷ 904 ∷ 904 ∷ 904 ∷ 295 ∷ []) ∷
     (740 ∷ 904 ∷ 904 ∷ 904 ∷ 695 ∷ 904 ∷ 904 ∷ 904 ∷ 695 ∷ []) ∷
     (740 ∷ 904 ∷ 904 ∷ 904 ∷ 695 ∷ 904 ∷ 904 ∷ 904 ∷ 695 ∷ []) ∷
     []
-unfolding keptAfter
-kept-3-2 = refl
+unfolding kept_after
+kept_3_2 = refl
 
-kept-4-1 : keptAfter 3 1 (up_to 8) ≡
+kept_4_1 : kept_after 3 1 (up_to 8) ≡
     (904 ∷ 904 ∷ 904 ∷ 904 ∷ 904 ∷ 904 ∷ 904 ∷ 904 ∷ 904 ∷ 904 ∷ 904 ∷ 904 ∷ 904 ∷ 904 ∷ 904 ∷ 904 ∷ []) ∷
     (804 ∷ 904 ∷ 904 ∷ 904 ∷ 904 ∷ 373 ∷ 904 ∷ 904 ∷ 904 ∷ 904 ∷ 295 ∷ 904 ∷ 904 ∷ 904 ∷ 904 ∷ 570 ∷ []) ∷
     (804 ∷ 904 ∷ 904 ∷ 904 ∷ 904 ∷ 373 ∷ 904 ∷ 904 ∷ 904 ∷ 904 ∷ 295 ∷ 904 ∷ 904 ∷ 904 ∷ 904 ∷ 570 ∷ []) ∷
@@ -805,34 +805,34 @@ kept-4-1 : keptAfter 3 1 (up_to 8) ≡
     (804 ∷ 904 ∷ 904 ∷ 904 ∷ 904 ∷ 373 ∷ 904 ∷ 904 ∷ 904 ∷ 904 ∷ 295 ∷ 904 ∷ 904 ∷ 904 ∷ 904 ∷ 570 ∷ []) ∷
     (804 ∷ 904 ∷ 904 ∷ 904 ∷ 904 ∷ 373 ∷ 904 ∷ 904 ∷ 904 ∷ 904 ∷ 295 ∷ 904 ∷ 904 ∷ 904 ∷ 904 ∷ 570 ∷ []) ∷
     []
-unfolding keptAfter
-kept-4-1 = refl
+unfolding kept_after
+kept_4_1 = refl
 
-kept-4-2 : keptAfter 3 2 (1 ∷ 4 ∷ 11 ∷ []) ≡
+kept_4_2 : kept_after 3 2 (1 ∷ 4 ∷ 11 ∷ []) ≡
     (804 ∷ 904 ∷ 904 ∷ 904 ∷ 904 ∷ 373 ∷ 904 ∷ 904 ∷ 904 ∷ 904 ∷ 295 ∷ 904 ∷ 904 ∷ 904 ∷ 904 ∷ 570 ∷ []) ∷
     (740 ∷ 904 ∷ 904 ∷ 904 ∷ 904 ∷ 695 ∷ 904 ∷ 904 ∷ 904 ∷ 904 ∷ 682 ∷ 904 ∷ 904 ∷ 904 ∷ 904 ∷ 43 ∷ []) ∷
     (740 ∷ 904 ∷ 904 ∷ 904 ∷ 904 ∷ 695 ∷ 904 ∷ 904 ∷ 904 ∷ 904 ∷ 682 ∷ 904 ∷ 904 ∷ 904 ∷ 904 ∷ 43 ∷ []) ∷
     []
-unfolding keptAfter
-kept-4-2 = refl
+unfolding kept_after
+kept_4_2 = refl
 
-kept-5-2 : keptAfter 4 2 (5 ∷ []) ≡
+kept_5_2 : kept_after 4 2 (5 ∷ []) ≡
     (740 ∷ 904 ∷ 904 ∷ 904 ∷ 904 ∷ 904 ∷ 695 ∷ 904 ∷ 904 ∷ 904 ∷ 904 ∷ 904 ∷ 682 ∷ 904 ∷ 904 ∷ 904 ∷ 904 ∷ 904 ∷ 717 ∷ 904 ∷ 904 ∷ 904 ∷
     904 ∷ 904 ∷ 672 ∷ []) ∷
     []
-unfolding keptAfter
-kept-5-2 = refl
+unfolding kept_after
+kept_5_2 = refl
 
 -- an array that runs no step: of every tile the cells, the wires, the parameter wires, the mark and what is kept, beside each other
-tiles-1-0 : tilesAfter 0 0 (up_to 2) ≡
+tiles_1_0 : tiles_after 0 0 (up_to 2) ≡
     (2603783294649019019019019029030904 ∷ []) ∷
     (2603783294649019019019019029030904 ∷ []) ∷
     (2603783294649019019019019029030904 ∷ []) ∷
     []
-unfolding tilesAfter
-tiles-1-0 = refl
+unfolding tiles_after
+tiles_1_0 = refl
 
-tiles-2-0 : tilesAfter 1 0 (up_to 3) ≡
+tiles_2_0 : tiles_after 1 0 (up_to 3) ≡
     (2603783294649019019019019029030904 ∷ 4966145997349019019019019029030904 ∷ 4085604976669019019019019029030904 ∷
     7128648350079019019019019029030904 ∷ []) ∷
     (2603783294649019019019019029030904 ∷ 4966145997349019019019019029030904 ∷ 4085604976669019019019019029030904 ∷
@@ -842,10 +842,10 @@ tiles-2-0 : tilesAfter 1 0 (up_to 3) ≡
     (2603783294649019019019019029030904 ∷ 4966145997349019019019019029030904 ∷ 4085604976669019019019019029030904 ∷
     7128648350079019019019019029031904 ∷ []) ∷
     []
-unfolding tilesAfter
-tiles-2-0 = refl
+unfolding tiles_after
+tiles_2_0 = refl
 
-tiles-3-0 : tilesAfter 2 0 (up_to 4) ≡
+tiles_3_0 : tiles_after 2 0 (up_to 4) ≡
     (2603783294649019019019019029030904 ∷ 4966145997349019019019019029030904 ∷ 7328508690079019019019019029030904 ∷
     4085604976669019019019019029030904 ∷ 7128648350079019019019019029030904 ∷ 191711763459019019019019029030904 ∷
     5967827059089019019019019029030904 ∷ 9681571143179019019019019029030904 ∷ 3435295207239019019019019029030904 ∷ []) ∷
@@ -862,10 +862,10 @@ tiles-3-0 : tilesAfter 2 0 (up_to 4) ≡
     4085604976669019019019019029030904 ∷ 7128648350079019019019019029031904 ∷ 191711763459019019019019029030904 ∷
     5967827059089019019019019029030904 ∷ 9681571143179019019019019029031904 ∷ 3435295207239019019019019029030904 ∷ []) ∷
     []
-unfolding tilesAfter
-tiles-3-0 = refl
+unfolding tiles_after
+tiles_3_0 = refl
 
-tiles-4-0 : tilesAfter 3 0 (up_to 5) ≡
+tiles_4_0 : tiles_after 3 0 (up_to 5) ≡
     (2603783294649019019019019029030904 ∷ 4966145997349019019019019029030904 ∷ 7328508690079019019019019029030904 ∷
     9680891422779019019019019029030904 ∷ 4085604976669019019019019029030904 ∷ 7128648350079019019019019029030904 ∷
     191711763459019019019019029030904 ∷ 3234755146839019019019019029030904 ∷ 5967827059089019019019019029030904 ∷
@@ -903,11 +903,11 @@ tiles-4-0 : tilesAfter 3 0 (up_to 5) ≡
     8240479531939019019019019029030904 ∷ 2674874306679019019019019029030904 ∷ 7079279041449019019019019029030904 ∷
     1503703816189019019019019029030904 ∷ []) ∷
     []
-unfolding tilesAfter
-tiles-4-0 = refl
+unfolding tiles_after
+tiles_4_0 = refl
 
--- the cells where an off-diagonal processor stamps them with its step, row and column
-stamped-2-2 : stampedAfter 1 2 (up_to 9) ≡
+-- the cells where an off_diagonal processor stamps them with its step, row and column
+stamped_2_2 : stamped_after 1 2 (up_to 9) ≡
     (260378329464 ∷ 496614599734 ∷ 408560497666 ∷ 712864835007 ∷ []) ∷
     (566436251774 ∷ 496614599734 ∷ 408560497666 ∷ 278293221107 ∷ []) ∷
     (566436251774 ∷ 989036643231 ∷ 287016469859 ∷ 278293221107 ∷ []) ∷
@@ -919,10 +919,10 @@ stamped-2-2 : stampedAfter 1 2 (up_to 9) ≡
     (358085769625 ∷ 903103454294 ∷ 885978304923 ∷ 460401876543 ∷ []) ∷
     (358085769625 ∷ 903103454294 ∷ 885978304923 ∷ 460401876543 ∷ []) ∷
     []
-unfolding stampedAfter
-stamped-2-2 = refl
+unfolding stamped_after
+stamped_2_2 = refl
 
-stamped-4-1 : stampedAfter 3 1 (up_to 8) ≡
+stamped_4_1 : stamped_after 3 1 (up_to 8) ≡
     (260378329464 ∷ 496614599734 ∷ 732850869007 ∷ 968089142277 ∷ 408560497666 ∷ 712864835007 ∷ 19171176345 ∷ 323475514683 ∷ 596782705908 ∷
     968157114317 ∷ 343529520723 ∷ 715901926132 ∷ 824047953193 ∷ 267487430667 ∷ 707927904144 ∷ 150370381618 ∷ []) ∷
     (566436251774 ∷ 496614599734 ∷ 732850869007 ∷ 968089142277 ∷ 408560497666 ∷ 278293221107 ∷ 19171176345 ∷ 323475514683 ∷ 596782705908 ∷
@@ -942,11 +942,11 @@ stamped-4-1 : stampedAfter 3 1 (up_to 8) ≡
     (566036469107 ∷ 436447859924 ∷ 989800221197 ∷ 539089088396 ∷ 251231341769 ∷ 774607083790 ∷ 643809717622 ∷ 883126368472 ∷
     287293019101 ∷ 16307344681 ∷ 278864463829 ∷ 656342907692 ∷ 95465863361 ∷ 585972277387 ∷ 914051821479 ∷ 988558779702 ∷ []) ∷
     []
-unfolding stampedAfter
-stamped-4-1 = refl
+unfolding stamped_after
+stamped_4_1 = refl
 
 -- in each tick of a run of 2 steps and one beyond, of every tile: whether it sets α β γ δ, and whether it receives parameters
-traffic-1 : trafficIn 0 2 8 ≡
+traffic_1 : traffic_in 0 2 8 ≡
     (0 ∷ []) ∷
     (10010 ∷ []) ∷
     (1100 ∷ []) ∷
@@ -956,10 +956,10 @@ traffic-1 : trafficIn 0 2 8 ≡
     (0 ∷ []) ∷
     (0 ∷ []) ∷
     []
-unfolding trafficIn
-traffic-1 = refl
+unfolding traffic_in
+traffic_1 = refl
 
-traffic-2 : trafficIn 1 2 9 ≡
+traffic_2 : traffic_in 1 2 9 ≡
     (0 ∷ 0 ∷ 0 ∷ 0 ∷ []) ∷
     (10000 ∷ 101 ∷ 1001 ∷ 10 ∷ []) ∷
     (1110 ∷ 10010 ∷ 10010 ∷ 11100 ∷ []) ∷
@@ -970,10 +970,10 @@ traffic-2 : trafficIn 1 2 9 ≡
     (0 ∷ 0 ∷ 0 ∷ 0 ∷ []) ∷
     (0 ∷ 0 ∷ 0 ∷ 0 ∷ []) ∷
     []
-unfolding trafficIn
-traffic-2 = refl
+unfolding traffic_in
+traffic_2 = refl
 
-traffic-3 : trafficIn 2 2 10 ≡
+traffic_3 : traffic_in 2 2 10 ≡
     (0 ∷ 0 ∷ 0 ∷ 0 ∷ 0 ∷ 0 ∷ 0 ∷ 0 ∷ 0 ∷ []) ∷
     (10000 ∷ 101 ∷ 0 ∷ 1001 ∷ 0 ∷ 101 ∷ 0 ∷ 1001 ∷ 10 ∷ []) ∷
     (1110 ∷ 10000 ∷ 101 ∷ 10000 ∷ 11110 ∷ 10 ∷ 1001 ∷ 10 ∷ 11100 ∷ []) ∷
@@ -985,10 +985,10 @@ traffic-3 : trafficIn 2 2 10 ≡
     (0 ∷ 0 ∷ 0 ∷ 0 ∷ 0 ∷ 0 ∷ 0 ∷ 0 ∷ 0 ∷ []) ∷
     (0 ∷ 0 ∷ 0 ∷ 0 ∷ 0 ∷ 0 ∷ 0 ∷ 0 ∷ 0 ∷ []) ∷
     []
-unfolding trafficIn
-traffic-3 = refl
+unfolding traffic_in
+traffic_3 = refl
 
-traffic-4 : trafficIn 3 2 11 ≡
+traffic_4 : traffic_in 3 2 11 ≡
     (0 ∷ 0 ∷ 0 ∷ 0 ∷ 0 ∷ 0 ∷ 0 ∷ 0 ∷ 0 ∷ 0 ∷ 0 ∷ 0 ∷ 0 ∷ 0 ∷ 0 ∷ 0 ∷ []) ∷
     (10000 ∷ 101 ∷ 0 ∷ 0 ∷ 1001 ∷ 0 ∷ 101 ∷ 0 ∷ 0 ∷ 1001 ∷ 0 ∷ 101 ∷ 0 ∷ 0 ∷ 1001 ∷ 10 ∷ []) ∷
     (1110 ∷ 10000 ∷ 101 ∷ 0 ∷ 10000 ∷ 11110 ∷ 0 ∷ 101 ∷ 1001 ∷ 0 ∷ 11110 ∷ 10 ∷ 0 ∷ 1001 ∷ 10 ∷ 11100 ∷ []) ∷
@@ -1001,30 +1001,30 @@ traffic-4 : trafficIn 3 2 11 ≡
     (0 ∷ 0 ∷ 0 ∷ 0 ∷ 0 ∷ 0 ∷ 0 ∷ 0 ∷ 0 ∷ 0 ∷ 0 ∷ 0 ∷ 0 ∷ 0 ∷ 0 ∷ 0 ∷ []) ∷
     (0 ∷ 0 ∷ 0 ∷ 0 ∷ 0 ∷ 0 ∷ 0 ∷ 0 ∷ 0 ∷ 0 ∷ 0 ∷ 0 ∷ 0 ∷ 0 ∷ 0 ∷ 0 ∷ []) ∷
     []
-unfolding trafficIn
-traffic-4 = refl
+unfolding traffic_in
+traffic_4 = refl
 
 -- how many wires are set and how many parameters received in runs of 0 to 3 steps, for N = 1 to 4
-wires-set : wiresSetOver 4 ≡
+wires_set_lem : wires_set_over 4 ≡
     (0 ∷ 4 ∷ 8 ∷ 12 ∷ []) ∷
     (0 ∷ 16 ∷ 32 ∷ 48 ∷ []) ∷
     (0 ∷ 36 ∷ 72 ∷ 108 ∷ []) ∷
     (0 ∷ 64 ∷ 128 ∷ 192 ∷ []) ∷
     []
-unfolding wiresSetOver
-wires-set = refl
+unfolding wires_set_over
+wires_set_lem = refl
 
-received : receivedOver 4 ≡
+received : received_over 4 ≡
     (0 ∷ 0 ∷ 0 ∷ 0 ∷ []) ∷
     (0 ∷ 4 ∷ 8 ∷ 12 ∷ []) ∷
     (0 ∷ 12 ∷ 24 ∷ 36 ∷ []) ∷
     (0 ∷ 24 ∷ 48 ∷ 72 ∷ []) ∷
     []
-unfolding receivedOver
+unfolding received_over
 received = refl
 
 -- the plain run, named by N and the first line: the rows of the matrix after 0, 1, .. steps
-plain-1-1 : plain_over 1 0 5 ≡
+plain_1_1 : plain_over 1 0 5 ≡
     (260378 ∷ 329464 ∷ []) ∷
     (566436 ∷ 251774 ∷ []) ∷
     (152726 ∷ 481640 ∷ []) ∷
@@ -1032,9 +1032,9 @@ plain-1-1 : plain_over 1 0 5 ≡
     (956094 ∷ 73759 ∷ []) ∷
     []
 unfolding plain_over
-plain-1-1 = refl
+plain_1_1 = refl
 
-plain-2-0 : plain_over 0 1 5 ≡
+plain_2_0 : plain_over 0 1 5 ≡
     (100201302403 ∷ 142260378496 ∷ 194329464599 ∷ 256408560712 ∷ []) ∷
     (343576553530 ∷ 970386186274 ∷ 807503553022 ∷ 234684353041 ∷ []) ∷
     (754356181358 ∷ 639762851650 ∷ 137294359326 ∷ 674226413132 ∷ []) ∷
@@ -1042,9 +1042,9 @@ plain-2-0 : plain_over 0 1 5 ≡
     (621038092096 ∷ 298280027178 ∷ 791115803253 ∷ 176306703793 ∷ []) ∷
     []
 unfolding plain_over
-plain-2-0 = refl
+plain_2_0 = refl
 
-plain-2-1 : plain_over 1 1 5 ≡
+plain_2_1 : plain_over 1 1 5 ≡
     (260378496614 ∷ 329464599734 ∷ 408560712864 ∷ 497666835007 ∷ []) ∷
     (566436977457 ∷ 251774203819 ∷ 634805278293 ∷ 324576221107 ∷ []) ∷
     (896347621313 ∷ 990177416734 ∷ 842418237264 ∷ 833522911968 ∷ []) ∷
@@ -1052,18 +1052,18 @@ plain-2-1 : plain_over 1 1 5 ≡
     (980572922867 ∷ 12164605297 ∷ 735137147491 ∷ 426782961964 ∷ []) ∷
     []
 unfolding plain_over
-plain-2-1 = refl
+plain_2_1 = refl
 
-plain-3-1 : plain_over 1 2 4 ≡
+plain_3_1 : plain_over 1 2 4 ≡
     (260378496614732850 ∷ 329464599734869007 ∷ 408560712864019171 ∷ 497666835007176345 ∷ 596782968157343529 ∷ 705908114317520723 ∷ []) ∷
     (566436977457476570 ∷ 251774203819428309 ∷ 634805278293355176 ∷ 324576221107002546 ∷ 648181725514988972 ∷ 260087731943368790 ∷ []) ∷
     (896022039313007817 ∷ 618489087353520522 ∷ 425736236424864445 ∷ 833929062968880143 ∷ 60438499841135521 ∷ 623216227992203294 ∷ []) ∷
     (466280433331087020 ∷ 718638841632678932 ∷ 304393563197379073 ∷ 265049537789687346 ∷ 640905966422992671 ∷ 430450494169136069 ∷ []) ∷
     []
 unfolding plain_over
-plain-3-1 = refl
+plain_3_1 = refl
 
-plain-4-0 : plain_over 0 3 4 ≡
+plain_4_0 : plain_over 0 3 4 ≡
     (100201302403504605706807 ∷ 142260378496614732850968 ∷ 194329464599734869007142 ∷ 256408560712864019171323 ∷
     328497666835007176345514 ∷ 410596782968157343529715 ∷ 502705908114317520723926 ∷ 604824047267487707927150 ∷ []) ∷
     (343576553530390617986490 ∷ 970386186274092552020487 ∷ 807503553022191613350104 ∷ 234684353041707480071632 ∷
@@ -1074,9 +1074,9 @@ plain-4-0 : plain_over 0 3 4 ≡
     726079372131289855474389 ∷ 13545719639767449042780 ∷ 940891366650060720631144 ∷ []) ∷
     []
 unfolding plain_over
-plain-4-0 = refl
+plain_4_0 = refl
 
-plain-4-1 : plain_over 1 3 4 ≡
+plain_4_1 : plain_over 1 3 4 ≡
     (260378496614732850968089 ∷ 329464599734869007142277 ∷ 408560712864019171323475 ∷ 497666835007176345514683 ∷
     596782968157343529715901 ∷ 705908114317520723926132 ∷ 824047267487707927150370 ∷ 953193430667904144381618 ∷ []) ∷
     (566436977457476570306862 ∷ 251774203819428309578247 ∷ 634805278293355176654225 ∷ 324576221107002546309090 ∷
@@ -1087,40 +1087,40 @@ plain-4-1 : plain_over 1 3 4 ≡
     131021232666788571068803 ∷ 430647515538762069732893 ∷ 182343622445831687581775 ∷ 701038024867829977599889 ∷ []) ∷
     []
 unfolding plain_over
-plain-4-1 = refl
+plain_4_1 = refl
 
 -- what each processor keeps before the steps of the plain run
-plain-kept-1-1 : plainKeptOver 1 0 5 ≡ 904 ∷ 804 ∷ 440 ∷ 392 ∷ 165 ∷ []
-unfolding plainKeptOver
-plain-kept-1-1 = refl
+plain_kept_1_1 : plain_kept_over 1 0 5 ≡ 904 ∷ 804 ∷ 440 ∷ 392 ∷ 165 ∷ []
+unfolding plain_kept_over
+plain_kept_1_1 = refl
 
-plain-kept-2-0 : plainKeptOver 0 1 4 ≡ 904904 ∷ 301192 ∷ 555043 ∷ 27445 ∷ []
-unfolding plainKeptOver
-plain-kept-2-0 = refl
+plain_kept_2_0 : plain_kept_over 0 1 4 ≡ 904904 ∷ 301192 ∷ 555043 ∷ 27445 ∷ []
+unfolding plain_kept_over
+plain_kept_2_0 = refl
 
-plain-kept-2-1 : plainKeptOver 1 1 4 ≡ 904904 ∷ 804373 ∷ 740205 ∷ 591795 ∷ []
-unfolding plainKeptOver
-plain-kept-2-1 = refl
+plain_kept_2_1 : plain_kept_over 1 1 4 ≡ 904904 ∷ 804373 ∷ 740205 ∷ 591795 ∷ []
+unfolding plain_kept_over
+plain_kept_2_1 = refl
 
-plain-kept-3-1 : plainKeptOver 1 2 4 ≡ 904904904 ∷ 804373295 ∷ 740695695 ∷ 69089723 ∷ []
-unfolding plainKeptOver
-plain-kept-3-1 = refl
+plain_kept_3_1 : plain_kept_over 1 2 4 ≡ 904904904 ∷ 804373295 ∷ 740695695 ∷ 69089723 ∷ []
+unfolding plain_kept_over
+plain_kept_3_1 = refl
 
-plain-kept-4-0 : plainKeptOver 0 3 3 ≡ 904904904904 ∷ 301192436036 ∷ 555062538459 ∷ []
-unfolding plainKeptOver
-plain-kept-4-0 = refl
+plain_kept_4_0 : plain_kept_over 0 3 3 ≡ 904904904904 ∷ 301192436036 ∷ 555062538459 ∷ []
+unfolding plain_kept_over
+plain_kept_4_0 = refl
 
-plain-kept-4-1 : plainKeptOver 1 3 3 ≡ 904904904904 ∷ 804373295570 ∷ 740695682043 ∷ []
-unfolding plainKeptOver
-plain-kept-4-1 = refl
+plain_kept_4_1 : plain_kept_over 1 3 3 ≡ 904904904904 ∷ 804373295570 ∷ 740695682043 ∷ []
+unfolding plain_kept_over
+plain_kept_4_1 = refl
 
 -- whether an entry fails after 0 to 3 steps, a digit each, for N = 1 to 4
-fails : failsOver 4 ≡ 101 ∷ 1110 ∷ 1111 ∷ 1111 ∷ []
-unfolding failsOver
+fails : fails_over 4 ≡ 101 ∷ 1110 ∷ 1111 ∷ 1111 ∷ []
+unfolding fails_over
 fails = refl
 
 -- the idealized array: the blocks before each step, and after its rotations
-blocks-1 : blocksOver 0 3 ≡
+blocks_1 : blocks_over 0 3 ≡
     (260378329464 ∷ []) ∷
     (566436251774 ∷ []) ∷
     (566436251774 ∷ []) ∷
@@ -1128,10 +1128,10 @@ blocks-1 : blocksOver 0 3 ≡
     (152726481640 ∷ []) ∷
     (417573290272 ∷ []) ∷
     []
-unfolding blocksOver
-blocks-1 = refl
+unfolding blocks_over
+blocks_1 = refl
 
-blocks-2 : blocksOver 1 3 ≡
+blocks_2 : blocks_over 1 3 ≡
     (260378329464 ∷ 496614599734 ∷ 408560497666 ∷ 712864835007 ∷ []) ∷
     (566436251774 ∷ 977457203819 ∷ 634805324576 ∷ 278293221107 ∷ []) ∷
     (566457324107 ∷ 436977576221 ∷ 251819634293 ∷ 774203805278 ∷ []) ∷
@@ -1139,10 +1139,10 @@ blocks-2 : blocksOver 1 3 ≡
     (896621842237 ∷ 313347264418 ∷ 833911990416 ∷ 968522734177 ∷ []) ∷
     (574057091566 ∷ 215733807281 ∷ 101644771687 ∷ 471815851673 ∷ []) ∷
     []
-unfolding blocksOver
-blocks-2 = refl
+unfolding blocks_over
+blocks_2 = refl
 
-blocks-3 : blocksOver 2 2 ≡
+blocks_3 : blocks_over 2 2 ≡
     (260378329464 ∷ 496614599734 ∷ 732850869007 ∷ 408560497666 ∷ 712864835007 ∷ 19171176345 ∷ 596782705908 ∷ 968157114317 ∷
     343529520723 ∷ []) ∷
     (566436251774 ∷ 977457203819 ∷ 476570428309 ∷ 634805324576 ∷ 278293221107 ∷ 355176002546 ∷ 648181260087 ∷ 725514731943 ∷
@@ -1152,10 +1152,10 @@ blocks-3 : blocksOver 2 2 ≡
     (896313833968 ∷ 22817929143 ∷ 39007062880 ∷ 618353623992 ∷ 489522216294 ∷ 87520227203 ∷ 425424060841 ∷ 736445438521 ∷
     236864499135 ∷ []) ∷
     []
-unfolding blocksOver
-blocks-3 = refl
+unfolding blocks_over
+blocks_3 = refl
 
-blocks-4 : blocksOver 3 2 ≡
+blocks_4 : blocks_over 3 2 ≡
     (260378329464 ∷ 496614599734 ∷ 732850869007 ∷ 968089142277 ∷ 408560497666 ∷ 712864835007 ∷ 19171176345 ∷ 323475514683 ∷ 596782705908 ∷
     968157114317 ∷ 343529520723 ∷ 715901926132 ∷ 824047953193 ∷ 267487430667 ∷ 707927904144 ∷ 150370381618 ∷ []) ∷
     (566436251774 ∷ 977457203819 ∷ 476570428309 ∷ 306862578247 ∷ 634805324576 ∷ 278293221107 ∷ 355176002546 ∷ 654225309090 ∷
@@ -1165,35 +1165,35 @@ blocks-4 : blocksOver 3 2 ≡
     (896313833968 ∷ 22817929143 ∷ 595979449423 ∷ 824750631620 ∷ 618353623992 ∷ 489522216294 ∷ 580285168331 ∷ 425413210901 ∷ 824743850351 ∷
     166652417141 ∷ 196447476469 ∷ 574711085794 ∷ 910828005175 ∷ 707381975204 ∷ 448415253931 ∷ 515443662434 ∷ []) ∷
     []
-unfolding blocksOver
-blocks-4 = refl
+unfolding blocks_over
+blocks_4 = refl
 
 -- the parameters that its processors send in each step, along the row and along the column
-sent-2 : sentOver 1 3 ≡
+sent_2 : sent_over 1 3 ≡
     (511781 ∷ 946540 ∷ []) ∷
     (116605 ∷ 985803 ∷ []) ∷
     (341190 ∷ 168388 ∷ []) ∷
     []
-unfolding sentOver
-sent-2 = refl
+unfolding sent_over
+sent_2 = refl
 
-sent-3 : sentOver 2 3 ≡
+sent_3 : sent_over 2 3 ≡
     (511781 ∷ 946540 ∷ 267241 ∷ []) ∷
     (116605 ∷ 825823 ∷ 757416 ∷ []) ∷
     (681376 ∷ 489529 ∷ 220075 ∷ []) ∷
     []
-unfolding sentOver
-sent-3 = refl
+unfolding sent_over
+sent_3 = refl
 
 -- and what they keep before each step
-ideal-kept-1 : keptOver 0 4 ≡ 904 ∷ 804 ∷ 440 ∷ 392 ∷ []
-unfolding keptOver
-ideal-kept-1 = refl
+ideal_kept_1 : kept_over 0 4 ≡ 904 ∷ 804 ∷ 440 ∷ 392 ∷ []
+unfolding kept_over
+ideal_kept_1 = refl
 
-ideal-kept-2 : keptOver 1 4 ≡ 904904 ∷ 804373 ∷ 740205 ∷ 591795 ∷ []
-unfolding keptOver
-ideal-kept-2 = refl
+ideal_kept_2 : kept_over 1 4 ≡ 904904 ∷ 804373 ∷ 740205 ∷ 591795 ∷ []
+unfolding kept_over
+ideal_kept_2 = refl
 
-ideal-kept-3 : keptOver 2 4 ≡ 904904904 ∷ 804373295 ∷ 740695695 ∷ 69089723 ∷ []
-unfolding keptOver
-ideal-kept-3 = refl
+ideal_kept_3 : kept_over 2 4 ≡ 904904904 ∷ 804373295 ∷ 740695695 ∷ 69089723 ∷ []
+unfolding kept_over
+ideal_kept_3 = refl

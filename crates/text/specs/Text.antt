@@ -6,17 +6,17 @@ abbrev pub code_of : ℕ → ℕ
 code_of d = cond (ltb d 10) (48 + d) (55 + d)
 
 -- The digit of n at the unit u, and nothing where n is below u.
-unfoldable pub shownFrom : ℕ → ℕ → List ℕ
-shownFrom u n = cond (ltb n u) [] (code_of (n / u % 10) ∷ [])
+unfoldable pub shown_from : ℕ → ℕ → List ℕ
+shown_from u n = cond (ltb n u) [] (code_of (n / u % 10) ∷ [])
 
 -- A number below 100,000 in decimal, without zeros in front.
-unfoldable pub decimalOf : ℕ → List ℕ
-decimalOf n = shownFrom 10000 n ++ (shownFrom 1000 n ++ (shownFrom 100 n ++ (shownFrom 10 n ++ (code_of (n % 10) ∷ []))))
+unfoldable pub decimal_of : ℕ → List ℕ
+decimal_of n = shown_from 10000 n ++ (shown_from 1000 n ++ (shown_from 100 n ++ (shown_from 10 n ++ (code_of (n % 10) ∷ []))))
 
 -- The last k hexadecimal digits of w.
-unfoldable pub hexOf : ℕ → ℕ → List ℕ
-hexOf zero w = []
-hexOf (suc k) w = hexOf k (w / 16) ++ (code_of (w % 16) ∷ [])
+unfoldable pub hex_of : ℕ → ℕ → List ℕ
+hex_of zero w = []
+hex_of (suc k) w = hex_of k (w / 16) ++ (code_of (w % 16) ∷ [])
 
 abbrev pub space : List ℕ
 space = 32 ∷ []

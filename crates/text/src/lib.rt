@@ -1,7 +1,7 @@
 #![tactic(auto)]
 // The text of numbers, in ASCII, put into lent bytes. Each function that puts a text answers where it ends.
 ghost use Rattle.std.specs.Prelude.{◌≡◌, ◌+◌, ◌<◌, ◌≤◌, [], ◌∷◌, length};
-ghost use Rattle.text.specs.Text.{code_of, shownFrom, decimalOf, hexOf, Put};
+ghost use Rattle.text.specs.Text.{code_of, shown_from, decimal_of, hex_of, Put};
 
 // One byte.
 pub fn put(code: u8, at: usize, text: &mut [u8]) -> usize
@@ -25,8 +25,8 @@ fn code(digit: u64) -> u8
 
 // The digit of n at a unit, and nothing where n is below it.
 fn put_shown(unit: u64, n: u64, at: usize, text: &mut [u8]) -> usize
-    requires { (0 < unit) × (at + length (shownFrom unit n) ≤ length text.old) }
-    ensures { Put text.old at (shownFrom unit n) text.new result }
+    requires { (0 < unit) × (at + length (shown_from unit n) ≤ length text.old) }
+    ensures { Put text.old at (shown_from unit n) text.new result }
 {
     if n < unit {
         return at;
@@ -36,8 +36,8 @@ fn put_shown(unit: u64, n: u64, at: usize, text: &mut [u8]) -> usize
 
 // A number below 100,000 in decimal.
 pub fn put_decimal(n: u64, at: usize, text: &mut [u8]) -> usize
-    requires { at + length (decimalOf n) ≤ length text.old }
-    ensures { Put text.old at (decimalOf n) text.new result }
+    requires { at + length (decimal_of n) ≤ length text.old }
+    ensures { Put text.old at (decimal_of n) text.new result }
 {
     let ten_thousands = put_shown(10000, n, at, text);
     let thousands = put_shown(1000, n, ten_thousands, text);
@@ -49,7 +49,7 @@ pub fn put_decimal(n: u64, at: usize, text: &mut [u8]) -> usize
 // The 16 hexadecimal digits of a word.
 pub fn put_hex(word: u64, at: usize, text: &mut [u8]) -> usize
     requires { at + 16 ≤ length text.old }
-    ensures put { Put text.old at (hexOf 16 word) text.new result }
+    ensures put { Put text.old at (hex_of 16 word) text.new result }
     ensures value { result ≡ at + 16 }
 {
     let mut rest = word;

@@ -9,42 +9,42 @@ use Rattle.systolic.specs.Slots.{Side, left, right, slot}
 use Rattle.systolic.specs.Blocks.{cell}
 use Rattle.systolic.specs.Tiles.{joined}
 use Rattle.tile_wires.specs.declared.Part.{Part}
-use Rattle.tile_wires.specs.Wires.{cornerOf, incomingQuad, incomingPart}
+use Rattle.tile_wires.specs.Wires.{corner_of, incoming_quad, incoming_part}
 use Rattle.runs.specs.Cells.{Cell}
-use Rattle.tile.specs.Tiles.{block_of, broughtTo}
+use Rattle.tile.specs.Tiles.{block_of, brought_to}
 
-abbrev pub sideBy : Bool → Side
-sideBy b = cond b right left
+abbrev pub side_by : Bool → Side
+side_by b = cond b right left
 
 module _ (m : ℕ) where
-  joined-left : (i : ℕ) → (joined m left i).side ≡ sideBy (ltb 0 i)
+  joined_left : (i : ℕ) → (joined m left i).side ≡ side_by (ltb 0 i)
   unfolding joined slot
-  joined-left zero = refl
-  joined-left (suc i) = rw (lt-ltb 0 (suc i) (omega arith))
+  joined_left zero = refl
+  joined_left (suc i) = rw (lt-ltb 0 (suc i) (omega arith))
 
-  joined-right : (i : ℕ) → (joined m right i).side ≡ sideBy (eqb i m)
+  joined_right : (i : ℕ) → (joined m right i).side ≡ side_by (eqb i m)
   unfolding joined slot
-  joined-right i = go (eqb i m)
+  joined_right i = go (eqb i m)
     where
-      go : (b : Bool) → (cond b (slot m right) (slot (suc i) left)).side ≡ sideBy b
+      go : (b : Bool) → (cond b (slot m right) (slot (suc i) left)).side ≡ side_by b
       go true = refl
       go false = refl
 
 -- the corner of a part is a cell of its block
-pub corner-cell : (p : Part) (lower across : Bool) → ◌≡◌ {A = Cell}
-    (record { entry = cornerOf lower across p.matrix; vector = cornerOf lower across p.vectors })
-    (cell (sideBy lower) (sideBy across) (block_of p))
-unfolding cornerOf cell block_of
-corner-cell p true true = refl
-corner-cell p true false = refl
-corner-cell p false true = refl
-corner-cell p false false = refl
+pub corner_cell : (p : Part) (lower across : Bool) → ◌≡◌ {A = Cell}
+    (record { entry = corner_of lower across p.matrix; vector = corner_of lower across p.vectors })
+    (cell (side_by lower) (side_by across) (block_of p))
+unfolding corner_of cell block_of
+corner_cell p true true = refl
+corner_cell p true false = refl
+corner_cell p false true = refl
+corner_cell p false false = refl
 
-pub brought : (a b c d : Part) (m i j : ℕ) → block_of (incomingPart a b c d m i j) ≡ broughtTo m i j (block_of a) (block_of b) (block_of c) (block_of d)
+pub brought : (a b c d : Part) (m i j : ℕ) → block_of (incoming_part a b c d m i j) ≡ brought_to m i j (block_of a) (block_of b) (block_of c) (block_of d)
 brought a b c d m i j =
-    unfold incomingPart incomingQuad broughtTo in
-    (rw (joined-left m i, joined-left m j, joined-right m i, joined-right m j)
-    (whole (corner-cell a (ltb 0 i) (ltb 0 j)) (corner-cell b (ltb 0 i) (eqb j m)) (corner-cell c (eqb i m) (ltb 0 j)) (corner-cell d (eqb i m) (eqb j m))))
+    unfold incoming_part incoming_quad brought_to in
+    (rw (joined_left m i, joined_left m j, joined_right m i, joined_right m j)
+    (whole (corner_cell a (ltb 0 i) (ltb 0 j)) (corner_cell b (ltb 0 i) (eqb j m)) (corner_cell c (eqb i m) (ltb 0 j)) (corner_cell d (eqb i m) (eqb j m))))
   where
     whole : {p : Part} {x y z w : Cell} → record { entry = p.matrix.alpha; vector = p.vectors.alpha } ≡ x
         → record { entry = p.matrix.beta; vector = p.vectors.beta } ≡ y

@@ -6,33 +6,33 @@ use lib.Dec.{eqb, ltb}
 use lib.Ieee.{Float}
 use Rattle.float64.specs.Values.{finite}
 use Rattle.systolic.specs.Blocks.{Block}
-use Rattle.systolic.specs.Sequential.{turnBlockRows, turnBlockColumns, anyFails, operationsOf}
-use Rattle.systolic.specs.Tiles.{turnTile}
+use Rattle.systolic.specs.Sequential.{turn_block_rows, turn_block_columns, any_fails, operations_of}
+use Rattle.systolic.specs.Tiles.{turn_tile}
 use Rattle.rotation.specs.Rotation.{sent}
 use Rattle.runs.specs.declared.Counts.{Counts}
-use Rattle.runs.specs.Counts.{countsAfter}
-use Rattle.runs.specs.Cells.{Cell, blockTurned, Setting, ruledBlock, foundBlock, rules}
+use Rattle.runs.specs.Counts.{counts_after}
+use Rattle.runs.specs.Cells.{Cell, block_turned, Setting, ruled_block, found_block, rules}
 use Rattle.tile.specs.Tiles.{operations}
 
 module _ (s : Setting) (k i : ℕ) (b : Block Cell) where
-  pub tile-turns : (j : ℕ) (h v : Float) → turnTile (operations s) k i j h v b
-      ≡ cond (eqb i j) (blockTurned (ruledBlock s i b) b)
-      (cond (ltb i j) (turnBlockColumns (rules s) v (turnBlockRows (rules s) h b)) (turnBlockRows (rules s) h (turnBlockColumns (rules s) v b)))
-  unfolding turnTile operations operationsOf rules
-  tile-turns j h v = refl
+  pub tile_turns : (j : ℕ) (h v : Float) → turn_tile (operations s) k i j h v b
+      ≡ cond (eqb i j) (block_turned (ruled_block s i b) b)
+      (cond (ltb i j) (turn_block_columns (rules s) v (turn_block_rows (rules s) h b)) (turn_block_rows (rules s) h (turn_block_columns (rules s) v b)))
+  unfolding turn_tile operations operations_of rules
+  tile_turns j h v = refl
 
-  pub tile-sends : ((operations s).sendsRow k i b ≡ sent (ruledBlock s i b)) × ((operations s).sendsColumn k i b ≡ sent (ruledBlock s i b))
-  unfolding operations operationsOf rules
-  tile-sends = (refl, refl)
+  pub tile_sends : ((operations s).sends_row k i b ≡ sent (ruled_block s i b)) × ((operations s).sends_column k i b ≡ sent (ruled_block s i b))
+  unfolding operations operations_of rules
+  tile_sends = (refl, refl)
 
-  pub tile-keeps : (d : Counts) → (operations s).keeps k i b d ≡ countsAfter s.order k (foundBlock s i b) d
-  unfolding operations operationsOf rules
-  tile-keeps d = refl
+  pub tile_keeps : (d : Counts) → (operations s).keeps k i b d ≡ counts_after s.order k (found_block s i b) d
+  unfolding operations operations_of rules
+  tile_keeps d = refl
 
-abbrev cellFails : Cell → Bool
-cellFails x = not (finite x.entry) || not (finite x.vector)
+abbrev cell_fails : Cell → Bool
+cell_fails x = not (finite x.entry) || not (finite x.vector)
 
-pub tile-fails : (s : Setting) (b : Block Cell)
-    → (operations s).fails b ≡ (cellFails b.α || cellFails b.β || cellFails b.γ || cellFails b.δ)
-unfolding operations operationsOf anyFails rules
-tile-fails s b = refl
+pub tile_fails : (s : Setting) (b : Block Cell)
+    → (operations s).fails b ≡ (cell_fails b.α || cell_fails b.β || cell_fails b.γ || cell_fails b.δ)
+unfolding operations operations_of any_fails rules
+tile_fails s b = refl

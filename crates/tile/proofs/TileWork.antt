@@ -8,147 +8,147 @@ use lib.Dec.{eqb, ltb}
 use lib.Ieee.{Float}
 use Rattle.float64.specs.Values.{finite}
 use Rattle.systolic.specs.Blocks.{cell, tab}
-use Rattle.systolic.specs.Sequential.{turnBlockRows, turnBlockColumns, anyFails, operationsOf}
-use Rattle.systolic.specs.Tiles.{Action, idle, first, rotate, phase1, phase2, final, distance, stepAt, turnTile, newCells, newParameter, newKept}
+use Rattle.systolic.specs.Sequential.{turn_block_rows, turn_block_columns, any_fails, operations_of}
+use Rattle.systolic.specs.Tiles.{Action, idle, first, rotate, phase1, phase2, final, distance, step_at, turn_tile, new_cells, new_parameter, new_kept}
 use Rattle.tile_wires.specs.declared.Part.{Part}
 use Rattle.rotation.specs.declared.Angle.{Angle}
-use Rattle.rotation.specs.Rotation.{angleOf, ofTangent}
-use Rattle.runs.specs.Blocks.{matrixBlock, columnsBlock}
-use Rattle.runs.specs.Cells.{Setting, blockTurned, rules}
+use Rattle.rotation.specs.Rotation.{angle_of, of_tangent}
+use Rattle.runs.specs.Blocks.{matrix_block, columns_block}
+use Rattle.runs.specs.Cells.{Setting, block_turned, rules}
 use Rattle.tile.specs.declared.Tile.{Tile}
 use Rattle.tile.specs.declared.cells.Work.{Work}
 use Rattle.tile.specs.Tiles.{block_of, operations}
-use Rattle.tile.specs.Turned.{rowsTurned, columnsTurned, bothTurned, offDiagonalOf, onDiagonalOf, rotatedOf, taken_of, workedOf, workBefore}
-use Rattle.tile.specs.Turned.{quadNotFinite, partNotFinite}
+use Rattle.tile.specs.Turned.{rows_turned, columns_turned, both_turned, off_diagonal_of, on_diagonal_of, rotated_of, taken_of, worked_of, work_before}
+use Rattle.tile.specs.Turned.{quad_not_finite, part_not_finite}
 
 module _ (s : Setting) (k i j : ℕ) where
-  on-diagonal : (w : Work) → block_of (onDiagonalOf s.order k i w).cells ≡ (operations s).diagonal k i (block_of w.cells)
-  unfolding block_of onDiagonalOf columnsTurned matrixBlock columnsBlock operations operationsOf rules blockTurned
-  on-diagonal w = refl
+  on_diagonal_lem : (w : Work) → block_of (on_diagonal_of s.order k i w).cells ≡ (operations s).diagonal k i (block_of w.cells)
+  unfolding block_of on_diagonal_of columns_turned matrix_block columns_block operations operations_of rules block_turned
+  on_diagonal_lem w = refl
 
-  off-diagonal : (h v : Float) (p : Part) → block_of (offDiagonalOf p (ltb i j) (angleOf h) (angleOf v)) ≡ (operations s).offDiagonal k i j h v (block_of p)
-  unfolding operations operationsOf
-  off-diagonal h v p = go (ltb i j)
+  off_diagonal : (h v : Float) (p : Part) → block_of (off_diagonal_of p (ltb i j) (angle_of h) (angle_of v)) ≡ (operations s).off_diagonal k i j h v (block_of p)
+  unfolding operations operations_of
+  off_diagonal h v p = go (ltb i j)
     where
-      go : (b : Bool) → block_of (offDiagonalOf p b (angleOf h) (angleOf v))
-          ≡ cond b (turnBlockColumns (rules s) v (turnBlockRows (rules s) h (block_of p))) (turnBlockRows (rules s) h (turnBlockColumns (rules s) v (block_of p)))
-      go true = unfold block_of offDiagonalOf bothTurned rowsTurned columnsTurned columnsBlock turnBlockRows turnBlockColumns tab cell rules ofTangent in refl
-      go false = unfold block_of offDiagonalOf bothTurned rowsTurned columnsTurned columnsBlock turnBlockRows turnBlockColumns tab cell rules ofTangent in refl
+      go : (b : Bool) → block_of (off_diagonal_of p b (angle_of h) (angle_of v))
+          ≡ cond b (turn_block_columns (rules s) v (turn_block_rows (rules s) h (block_of p))) (turn_block_rows (rules s) h (turn_block_columns (rules s) v (block_of p)))
+      go true = unfold block_of off_diagonal_of both_turned rows_turned columns_turned columns_block turn_block_rows turn_block_columns tab cell rules of_tangent in refl
+      go false = unfold block_of off_diagonal_of both_turned rows_turned columns_turned columns_block turn_block_rows turn_block_columns tab cell rules of_tangent in refl
 
   -- a tile off the diagonal receives the angles of the tangents h and v
-  module _ (h v : Float) (row column : Angle) (e : ¬ (i ≡ j) → row ≡ angleOf h) (f : ¬ (i ≡ j) → column ≡ angleOf v) where
-    abbrev passedOn : Work → Work
-    passedOn w = record { cells = offDiagonalOf w.cells (ltb i j) row column; row = row.tangent; column = column.tangent; counts = w.counts }
+  module _ (h v : Float) (row column : Angle) (e : ¬ (i ≡ j) → row ≡ angle_of h) (f : ¬ (i ≡ j) → column ≡ angle_of v) where
+    abbrev passed_on : Work → Work
+    passed_on w = record { cells = off_diagonal_of w.cells (ltb i j) row column; row = row.tangent; column = column.tangent; counts = w.counts }
 
-    rotated-cells : (w : Work) → block_of (rotatedOf s.order k w i j row column).cells ≡ turnTile (operations s) k i j h v (block_of w.cells)
-    unfolding rotatedOf turnTile
-    rotated-cells w = go (eqb i j) refl
+    rotated_cells : (w : Work) → block_of (rotated_of s.order k w i j row column).cells ≡ turn_tile (operations s) k i j h v (block_of w.cells)
+    unfolding rotated_of turn_tile
+    rotated_cells w = go (eqb i j) refl
       where
         go : (b : Bool) → eqb i j ≡ b
-            → block_of (cond b (onDiagonalOf s.order k i w) (passedOn w)).cells
-            ≡ cond b ((operations s).diagonal k i (block_of w.cells)) ((operations s).offDiagonal k i j h v (block_of w.cells))
-        go true z = on-diagonal w
-        go false z = let n = eqb-false _ _ z in rw (e n, f n) (off-diagonal h v w.cells)
+            → block_of (cond b (on_diagonal_of s.order k i w) (passed_on w)).cells
+            ≡ cond b ((operations s).diagonal k i (block_of w.cells)) ((operations s).off_diagonal k i j h v (block_of w.cells))
+        go true z = on_diagonal_lem w
+        go false z = let n = eqb-false _ _ z in rw (e n, f n) (off_diagonal h v w.cells)
 
-    rotated-row : (w : Work) → (rotatedOf s.order k w i j row column).row ≡ cond (eqb i j) ((operations s).sendsRow k i (block_of w.cells)) h
-    unfolding rotatedOf
-    rotated-row w = go (eqb i j) refl
+    rotated_row : (w : Work) → (rotated_of s.order k w i j row column).row ≡ cond (eqb i j) ((operations s).sends_row k i (block_of w.cells)) h
+    unfolding rotated_of
+    rotated_row w = go (eqb i j) refl
       where
         go : (b : Bool) → eqb i j ≡ b
-            → (cond b (onDiagonalOf s.order k i w) (passedOn w)).row
-            ≡ cond b ((operations s).sendsRow k i (block_of w.cells)) h
-        go true z = unfold onDiagonalOf operations operationsOf rules block_of in refl
+            → (cond b (on_diagonal_of s.order k i w) (passed_on w)).row
+            ≡ cond b ((operations s).sends_row k i (block_of w.cells)) h
+        go true z = unfold on_diagonal_of operations operations_of rules block_of in refl
         go false z = ap (λ (x : Angle). x.tangent) (e (eqb-false _ _ z))
 
-    rotated-column : (w : Work) → (rotatedOf s.order k w i j row column).column ≡ cond (eqb i j) ((operations s).sendsColumn k i (block_of w.cells)) v
-    unfolding rotatedOf
-    rotated-column w = go (eqb i j) refl
+    rotated_column : (w : Work) → (rotated_of s.order k w i j row column).column ≡ cond (eqb i j) ((operations s).sends_column k i (block_of w.cells)) v
+    unfolding rotated_of
+    rotated_column w = go (eqb i j) refl
       where
         go : (b : Bool) → eqb i j ≡ b
-            → (cond b (onDiagonalOf s.order k i w) (passedOn w)).column
-            ≡ cond b ((operations s).sendsColumn k i (block_of w.cells)) v
-        go true z = unfold onDiagonalOf operations operationsOf rules block_of in refl
+            → (cond b (on_diagonal_of s.order k i w) (passed_on w)).column
+            ≡ cond b ((operations s).sends_column k i (block_of w.cells)) v
+        go true z = unfold on_diagonal_of operations operations_of rules block_of in refl
         go false z = ap (λ (x : Angle). x.tangent) (f (eqb-false _ _ z))
 
-    rotated-counts : (w : Work) → (rotatedOf s.order k w i j row column).counts
+    rotated_counts : (w : Work) → (rotated_of s.order k w i j row column).counts
         ≡ cond (eqb i j) ((operations s).keeps k i (block_of w.cells) w.counts) w.counts
-    unfolding rotatedOf
-    rotated-counts w = go (eqb i j)
+    unfolding rotated_of
+    rotated_counts w = go (eqb i j)
       where
-        go : (b : Bool) → (cond b (onDiagonalOf s.order k i w) (passedOn w)).counts
+        go : (b : Bool) → (cond b (on_diagonal_of s.order k i w) (passed_on w)).counts
             ≡ cond b ((operations s).keeps k i (block_of w.cells) w.counts) w.counts
-        go true = unfold onDiagonalOf operations operationsOf rules block_of in refl
+        go true = unfold on_diagonal_of operations operations_of rules block_of in refl
         go false = refl
 
     module _ (x : Tile) (q : Part) where
-      abbrev workOf : Action → Work
-      workOf a = workedOf s.order k a (workBefore x (taken_of a x.cells q)) i j row column
+      abbrev work_of : Action → Work
+      work_of a = worked_of s.order k a (work_before x (taken_of a x.cells q)) i j row column
 
-      pub worked-cells : (a : Action) → block_of (workOf a).cells ≡ newCells (operations s) k i j a (block_of x.cells) (block_of q) h v
-      unfolding newCells
-      worked-cells idle = refl
-      worked-cells first = rotated-cells (workBefore x x.cells)
-      worked-cells rotate = rotated-cells (workBefore x q)
-      worked-cells phase1 = refl
-      worked-cells phase2 = refl
-      worked-cells final = refl
+      pub worked_cells : (a : Action) → block_of (work_of a).cells ≡ new_cells (operations s) k i j a (block_of x.cells) (block_of q) h v
+      unfolding new_cells
+      worked_cells idle = refl
+      worked_cells first = rotated_cells (work_before x x.cells)
+      worked_cells rotate = rotated_cells (work_before x q)
+      worked_cells phase1 = refl
+      worked_cells phase2 = refl
+      worked_cells final = refl
 
-      pub worked-row : (a : Action)
-          → (workOf a).row ≡ newParameter ((operations s).sendsRow k i) i j a (block_of x.cells) (block_of q) h x.row_wire
-      unfolding newParameter
-      worked-row idle = refl
-      worked-row first = rotated-row (workBefore x x.cells)
-      worked-row rotate = rotated-row (workBefore x q)
-      worked-row phase1 = refl
-      worked-row phase2 = refl
-      worked-row final = refl
+      pub worked_row : (a : Action)
+          → (work_of a).row ≡ new_parameter ((operations s).sends_row k i) i j a (block_of x.cells) (block_of q) h x.row_wire
+      unfolding new_parameter
+      worked_row idle = refl
+      worked_row first = rotated_row (work_before x x.cells)
+      worked_row rotate = rotated_row (work_before x q)
+      worked_row phase1 = refl
+      worked_row phase2 = refl
+      worked_row final = refl
 
-      pub worked-column : (a : Action)
-          → (workOf a).column ≡ newParameter ((operations s).sendsColumn k i) i j a (block_of x.cells) (block_of q) v x.column_wire
-      unfolding newParameter
-      worked-column idle = refl
-      worked-column first = rotated-column (workBefore x x.cells)
-      worked-column rotate = rotated-column (workBefore x q)
-      worked-column phase1 = refl
-      worked-column phase2 = refl
-      worked-column final = refl
+      pub worked_column : (a : Action)
+          → (work_of a).column ≡ new_parameter ((operations s).sends_column k i) i j a (block_of x.cells) (block_of q) v x.column_wire
+      unfolding new_parameter
+      worked_column idle = refl
+      worked_column first = rotated_column (work_before x x.cells)
+      worked_column rotate = rotated_column (work_before x q)
+      worked_column phase1 = refl
+      worked_column phase2 = refl
+      worked_column final = refl
 
-      pub worked-counts : (a : Action) → (workOf a).counts ≡ newKept ((operations s).keeps k i) i j a (block_of x.cells) (block_of q) x.counts
-      unfolding newParameter
-      worked-counts idle = refl
-      worked-counts first = rotated-counts (workBefore x x.cells)
-      worked-counts rotate = rotated-counts (workBefore x q)
-      worked-counts phase1 = refl
-      worked-counts phase2 = refl
-      worked-counts final = refl
+      pub worked_counts : (a : Action) → (work_of a).counts ≡ new_kept ((operations s).keeps k i) i j a (block_of x.cells) (block_of q) x.counts
+      unfolding new_parameter
+      worked_counts idle = refl
+      worked_counts first = rotated_counts (work_before x x.cells)
+      worked_counts rotate = rotated_counts (work_before x q)
+      worked_counts phase1 = refl
+      worked_counts phase2 = refl
+      worked_counts final = refl
 
 -- ---- a tile on the diagonal, by the step that it is in
-pub rotated-on : (n t : ℕ) (w : Work) (i j : ℕ) (row column : Angle) {x : Work} {k : ℕ} → i ≡ j → k ≡ stepAt 0 t → x ≡ onDiagonalOf n k i w
-    → x ≡ rotatedOf n (stepAt (distance i j) t) w i j row column
-unfolding rotatedOf
-rotated-on n t w i j row column e h f = let z : distance i j ≡ 0 = omega arith in rw (eq-eqb i j e, z, ← h) f
+pub rotated_on : (n t : ℕ) (w : Work) (i j : ℕ) (row column : Angle) {x : Work} {k : ℕ} → i ≡ j → k ≡ step_at 0 t → x ≡ on_diagonal_of n k i w
+    → x ≡ rotated_of n (step_at (distance i j) t) w i j row column
+unfolding rotated_of
+rotated_on n t w i j row column e h f = let z : distance i j ≡ 0 = omega arith in rw (eq-eqb i j e, z, ← h) f
 
 -- ---- the mark
-fails-eight : (a b c d e f g h : Bool) → ((a || (b || (c || d))) || (e || (f || (g || h)))) ≡ ((((a || e) || (b || f)) || (c || g)) || (d || h))
-fails-eight true b c d e f g h = refl
-fails-eight false true c d true f g h = refl
-fails-eight false true c d false f g h = refl
-fails-eight false false true d true f g h = refl
-fails-eight false false true d false true g h = refl
-fails-eight false false true d false false g h = refl
-fails-eight false false false true true f g h = refl
-fails-eight false false false true false true g h = refl
-fails-eight false false false true false false true h = refl
-fails-eight false false false true false false false h = refl
-fails-eight false false false false true f g h = refl
-fails-eight false false false false false true g h = refl
-fails-eight false false false false false false true h = refl
-fails-eight false false false false false false false h = refl
+fails_eight : (a b c d e f g h : Bool) → ((a || (b || (c || d))) || (e || (f || (g || h)))) ≡ ((((a || e) || (b || f)) || (c || g)) || (d || h))
+fails_eight true b c d e f g h = refl
+fails_eight false true c d true f g h = refl
+fails_eight false true c d false f g h = refl
+fails_eight false false true d true f g h = refl
+fails_eight false false true d false true g h = refl
+fails_eight false false true d false false g h = refl
+fails_eight false false false true true f g h = refl
+fails_eight false false false true false true g h = refl
+fails_eight false false false true false false true h = refl
+fails_eight false false false true false false false h = refl
+fails_eight false false false false true f g h = refl
+fails_eight false false false false false true g h = refl
+fails_eight false false false false false false true h = refl
+fails_eight false false false false false false false h = refl
 
-pub some-fail : (s : Setting) (p : Part) → partNotFinite p ≡ (operations s).fails (block_of p)
-unfolding partNotFinite quadNotFinite operations operationsOf anyFails rules block_of
-some-fail s p =
+pub some_fail : (s : Setting) (p : Part) → part_not_finite p ≡ (operations s).fails (block_of p)
+unfolding part_not_finite quad_not_finite operations operations_of any_fails rules block_of
+some_fail s p =
     let x = p.matrix in
     let y = p.vectors in
-    fails-eight (not (finite x.alpha)) (not (finite x.beta)) (not (finite x.gamma)) (not (finite x.delta))
+    fails_eight (not (finite x.alpha)) (not (finite x.beta)) (not (finite x.gamma)) (not (finite x.delta))
     (not (finite y.alpha)) (not (finite y.beta)) (not (finite y.gamma)) (not (finite y.delta))

@@ -1,9 +1,9 @@
 // The cells of a tile: taken in, rotated, tested.
 ghost use Rattle.std.specs.Prelude.{◌≡◌, ◌||◌};
-ghost use Rattle.systolic.specs.Tiles.{distance, stepAt};
-ghost use Rattle.tile_schedule.specs.Schedule.{theAction};
-ghost use Rattle.tile.specs.Turned.{rowsTurned, columnsTurned, bothTurned, offDiagonalOf, onDiagonalOf, rotatedOf, taken_of, workedOf};
-ghost use Rattle.tile.specs.Turned.{partNotFinite, quadNotFinite};
+ghost use Rattle.systolic.specs.Tiles.{distance, step_at};
+ghost use Rattle.tile_schedule.specs.Schedule.{the_action};
+ghost use Rattle.tile.specs.Turned.{rows_turned, columns_turned, both_turned, off_diagonal_of, on_diagonal_of, rotated_of, taken_of, worked_of};
+ghost use Rattle.tile.specs.Turned.{part_not_finite, quad_not_finite};
 
 use rotation::{Angle, Parameters};
 use runs::Counts;
@@ -21,7 +21,7 @@ pub struct Work {
 
 // The cells that a tile works on: its own, or where it reads its wires what they bring.
 pub fn taken(action: Action, cells: Part, brought: Part) -> Part
-    ensures { result ≡ taken_of (theAction action) cells brought }
+    ensures { result ≡ taken_of (the_action action) cells brought }
 {
     if tile_schedule::reads(action) {
         return brought;
@@ -39,7 +39,7 @@ pub fn worked(
     row: Angle,
     column: Angle,
 ) -> Work
-    ensures { result ≡ workedOf n (stepAt (distance i j) tick) (theAction action) before i j row column }
+    ensures { result ≡ worked_of n (step_at (distance i j) tick) (the_action action) before i j row column }
 {
     if tile_schedule::rotates(action) {
         return rotated(n, tick, before, i, j, row, column);
@@ -57,7 +57,7 @@ pub fn rotated(
     row: Angle,
     column: Angle,
 ) -> Work
-    ensures { result ≡ rotatedOf n (stepAt (distance i j) tick) before i j row column }
+    ensures { result ≡ rotated_of n (step_at (distance i j) tick) before i j row column }
 {
     if i == j {
         return on_diagonal(n, tile_schedule::diagonal_step(tick), i, before);
@@ -75,7 +75,7 @@ pub fn rotated(
 
 // The tile of processor i finds its tangent, sends it along its row and its column, and counts its turns and its rounded pairs.
 pub fn on_diagonal(n: usize, step: usize, i: usize, before: Work) -> Work
-    ensures { result ≡ onDiagonalOf n step i before }
+    ensures { result ≡ on_diagonal_of n step i before }
 {
     let part = before.cells;
     let a = part.matrix;
@@ -106,7 +106,7 @@ pub fn on_diagonal(n: usize, step: usize, i: usize, before: Work) -> Work
 
 // The eigenvectors get the column turn alone.
 pub fn off_diagonal(part: Part, above: bool, row: Angle, column: Angle) -> Part
-    ensures { result ≡ offDiagonalOf part above row column }
+    ensures { result ≡ off_diagonal_of part above row column }
 {
     let a = part.matrix;
     let e = part.vectors;
@@ -122,7 +122,7 @@ pub fn off_diagonal(part: Part, above: bool, row: Angle, column: Angle) -> Part
 
 // Above the diagonal the rows are turned first, below it the columns.
 pub fn turn_both(rows: Parameters, columns: Parameters, above: bool, q: Quad) -> Quad
-    ensures { result ≡ bothTurned rows columns above q }
+    ensures { result ≡ both_turned rows columns above q }
 {
     if above {
         return turn_columns(columns, turn_rows(rows, q));
@@ -131,7 +131,7 @@ pub fn turn_both(rows: Parameters, columns: Parameters, above: bool, q: Quad) ->
 }
 
 pub fn turn_rows(parameters: Parameters, q: Quad) -> Quad
-    ensures { result ≡ rowsTurned parameters q }
+    ensures { result ≡ rows_turned parameters q }
 {
     match parameters {
         Parameters::Still => q,
@@ -145,7 +145,7 @@ pub fn turn_rows(parameters: Parameters, q: Quad) -> Quad
 }
 
 pub fn turn_columns(parameters: Parameters, q: Quad) -> Quad
-    ensures { result ≡ columnsTurned parameters q }
+    ensures { result ≡ columns_turned parameters q }
 {
     match parameters {
         Parameters::Still => q,
@@ -160,7 +160,7 @@ pub fn turn_columns(parameters: Parameters, q: Quad) -> Quad
 
 // Whether a tile is marked after a tick that leaves it the given cells.
 pub fn is_marked(mark: bool, cells: Part) -> bool
-    ensures { result ≡ (mark || partNotFinite cells) }
+    ensures { result ≡ (mark || part_not_finite cells) }
 {
     if mark {
         return true;
@@ -175,7 +175,7 @@ pub fn is_marked(mark: bool, cells: Part) -> bool
 
 // Whether an entry is not finite.
 pub fn not_finite(q: Quad) -> bool
-    ensures { result ≡ quadNotFinite q }
+    ensures { result ≡ quad_not_finite q }
 {
     if !float64::is_finite(q.alpha) {
         return true;

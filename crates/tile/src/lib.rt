@@ -1,11 +1,11 @@
 #![tactic(auto)]
 // One tile of the array in one tick (document 01, "The array").
 ghost use Rattle.std.specs.Prelude.{◌≡◌};
-ghost use Rattle.systolic.specs.Tiles.{distance, stepAt, actionAt, settledTile};
-ghost use Rattle.tile_wires.specs.Wires.{incomingPart};
+ghost use Rattle.systolic.specs.Tiles.{distance, step_at, action_at, settled_tile};
+ghost use Rattle.tile_wires.specs.Wires.{incoming_part};
 ghost use Rattle.runs.specs.Cells.{Setting};
-ghost use Rattle.tile.specs.Tiles.{theTile, operations};
-ghost use Rattle.tile.specs.Turned.{turnedOf};
+ghost use Rattle.tile.specs.Tiles.{the_tile, operations};
+ghost use Rattle.tile.specs.Turned.{turned_of};
 
 use crate::cells::Work;
 use rotation::Angle;
@@ -40,7 +40,7 @@ impl Tile {
         i: usize,
         j: usize,
     ) -> Tile
-        ensures { result ≡ turnedOf n (stepAt (distance i j) tick) (actionAt steps (distance i j) tick) self brought i j row column }
+        ensures { result ≡ turned_of n (step_at (distance i j) tick) (action_at steps (distance i j) tick) self brought i j row column }
     {
         let action = tile_schedule::action_at(steps, i, j, tick);
         let own = self.cells;
@@ -67,7 +67,7 @@ impl Tile {
 
     // A turned tile with its cell wires and its mark as they are after the tick, whatever the run's setting; `last` is the last row and column.
     pub fn after(self, last: usize, steps: usize, tick: usize, i: usize, j: usize) -> Tile
-        ensures { (s : Setting) → theTile result ≡ settledTile (operations s) last i j (actionAt steps (distance i j) tick) (theTile self) }
+        ensures { (s : Setting) → the_tile result ≡ settled_tile (operations s) last i j (action_at steps (distance i j) tick) (the_tile self) }
     {
         let phase = tile_schedule::phase_in(tile_schedule::action_at(steps, i, j, tick));
         let cells = self.cells;
@@ -97,7 +97,7 @@ pub fn brought(
     i: usize,
     j: usize,
 ) -> Part
-    ensures { result ≡ incomingPart alpha.wires beta.wires gamma.wires delta.wires last i j }
+    ensures { result ≡ incoming_part alpha.wires beta.wires gamma.wires delta.wires last i j }
 {
     let by_alpha = alpha.wires;
     let by_beta = beta.wires;

@@ -1,10 +1,10 @@
 #![tactic(auto)]
 // What a tile does in a tick, by its distance from the diagonal, and what a tick of the array answers (document 01, "The array").
 ghost use Rattle.std.specs.Prelude.{◌≡◌};
-ghost use Rattle.systolic.specs.Tiles.{distance, action, actionAt, stepAt, phaseIn};
-ghost use Rattle.systolic.specs.Traffic.{rotates, readsCells, changesCells};
-ghost use Rattle.tile_schedule.specs.Schedule.{theAction, inStep};
-ghost use Rattle.tile_schedule.specs.Answers.{progressAnswered, progressOf, left_of};
+ghost use Rattle.systolic.specs.Tiles.{distance, action, action_at, step_at, phase_in};
+ghost use Rattle.systolic.specs.Traffic.{rotates, reads_cells, changes_cells};
+ghost use Rattle.tile_schedule.specs.Schedule.{the_action, in_step};
+ghost use Rattle.tile_schedule.specs.Answers.{progress_answered, progress_of, left_of};
 
 use refusal::{Answer, Refusal};
 
@@ -29,7 +29,7 @@ pub enum Progress {
 
 // Whether the cells of the tile in row i and column j, from 0, change in a tick.
 pub fn changes(steps: usize, tick: usize, i: usize, j: usize) -> bool
-    ensures { result ≡ changesCells (actionAt steps (distance i j) tick) }
+    ensures { result ≡ changes_cells (action_at steps (distance i j) tick) }
 {
     let action = action_at(steps, i, j, tick);
     if rotates(action) {
@@ -40,14 +40,14 @@ pub fn changes(steps: usize, tick: usize, i: usize, j: usize) -> bool
 
 // The step that the tiles on the diagonal are in.
 pub fn diagonal_step(tick: usize) -> usize
-    ensures { result ≡ stepAt 0 tick }
+    ensures { result ≡ step_at 0 tick }
 {
     tick / 3
 }
 
 // What the tile in row i and column j, from 0, does in a tick.
 pub fn action_at(steps: usize, i: usize, j: usize, tick: usize) -> Action
-    ensures { theAction result ≡ actionAt steps (distance i j) tick }
+    ensures { the_action result ≡ action_at steps (distance i j) tick }
 {
     let away = distance(i, j);
     if tick < away {
@@ -58,7 +58,7 @@ pub fn action_at(steps: usize, i: usize, j: usize, tick: usize) -> Action
 
 // Whether the cells are turned.
 pub fn rotates(action: Action) -> bool
-    ensures { result ≡ rotates (theAction action) }
+    ensures { result ≡ rotates (the_action action) }
 {
     match action {
         Action::Idle => false,
@@ -72,7 +72,7 @@ pub fn rotates(action: Action) -> bool
 
 // Whether the cell wires are read.
 pub fn reads(action: Action) -> bool
-    ensures { result ≡ readsCells (theAction action) }
+    ensures { result ≡ reads_cells (the_action action) }
 {
     match action {
         Action::Idle => false,
@@ -86,7 +86,7 @@ pub fn reads(action: Action) -> bool
 
 // The phase in which wires are set, 3 for none.
 pub fn phase_in(action: Action) -> usize
-    ensures { result ≡ phaseIn (theAction action) }
+    ensures { result ≡ phase_in (the_action action) }
 {
     match action {
         Action::Idle => 3,
@@ -110,7 +110,7 @@ pub fn distance(i: usize, j: usize) -> usize
 
 // So many ticks after the tile's first rotation.
 fn action_since(steps: usize, since: usize) -> Action
-    ensures { theAction result ≡ action steps since }
+    ensures { the_action result ≡ action steps since }
 {
     if since / 3 < steps {
         return in_step(since);
@@ -129,7 +129,7 @@ fn action_since(steps: usize, since: usize) -> Action
 
 // While there are steps to do.
 fn in_step(since: usize) -> Action
-    ensures { theAction result ≡ inStep since }
+    ensures { the_action result ≡ in_step since }
 {
     if since % 3 == 1 {
         return Action::Phase1;
@@ -145,7 +145,7 @@ fn in_step(since: usize) -> Action
 
 // What a tick of an array with this order, these sweeps and this tick answers.
 pub fn answer_to(n: usize, sweeps: usize, tick: usize) -> Progress
-    ensures { progressAnswered result ≡ progressOf n sweeps tick }
+    ensures { progress_answered result ≡ progress_of n sweeps tick }
 {
     match sizes::tested(n, sweeps) {
         Answer::Accepted => {}

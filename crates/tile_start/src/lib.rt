@@ -2,9 +2,9 @@
 // The tiles at the start (document 01, "The array").
 ghost use Rattle.std.specs.Prelude.{◌≡◌, ◌<◌};
 ghost use Rattle.matrix.specs.Matrix.{entry_of};
-ghost use Rattle.sizes.specs.Sizes.{mostProcessors, largestOrder};
+ghost use Rattle.sizes.specs.Sizes.{most_processors, largest_order};
 ghost use Rattle.runs.specs.State.{identity, bordered};
-ghost use Rattle.tile_start.specs.Beginning.{zeroPart, startingTile, quadAt, startTile};
+ghost use Rattle.tile_start.specs.Beginning.{zero_part, starting_tile, quad_at, start_tile};
 
 use runs::Counts;
 use tile::Tile;
@@ -12,8 +12,8 @@ use tile_wires::{Part, Quad};
 
 // The tile in row i and column j of an array for a matrix of order n: zeros where it is not in use.
 pub fn tile_at(n: usize, i: usize, j: usize, matrix: &[f64]) -> Tile
-    requires { (i < mostProcessors) × (j < mostProcessors) }
-    ensures { result ≡ startTile n matrix.now i j }
+    requires { (i < most_processors) × (j < most_processors) }
+    ensures { result ≡ start_tile n matrix.now i j }
 {
     let processors = sizes::processors_of(n);
     if i >= processors {
@@ -33,14 +33,14 @@ pub fn tile_at(n: usize, i: usize, j: usize, matrix: &[f64]) -> Tile
 
 // Zeros only.
 pub fn zero_tile() -> Tile
-    ensures { result ≡ startingTile zeroPart }
+    ensures { result ≡ starting_tile zero_part }
 {
     tile_with(zero_part())
 }
 
 // A tile with these cells, its wires at +0, not marked, nothing counted.
 fn tile_with(cells: Part) -> Tile
-    ensures { result ≡ startingTile cells }
+    ensures { result ≡ starting_tile cells }
 {
     let wires = zero_part();
     let counts = Counts {
@@ -58,7 +58,7 @@ fn tile_with(cells: Part) -> Tile
 }
 
 fn zero_part() -> Part
-    ensures { result ≡ zeroPart }
+    ensures { result ≡ zero_part }
 {
     let zero = Quad {
         alpha: 0.0,
@@ -74,8 +74,8 @@ fn zero_part() -> Part
 
 // The part of a matrix in the rows r and r + 1 and the columns c and c + 1, with a line 0 of +0 beside the lines lent.
 fn entries_at(n: usize, r: usize, c: usize, matrix: &[f64]) -> Quad
-    requires { (r < largestOrder) × (c < largestOrder) }
-    ensures { result ≡ quadAt (bordered (entry_of n matrix.now)) r c }
+    requires { (r < largest_order) × (c < largest_order) }
+    ensures { result ≡ quad_at (bordered (entry_of n matrix.now)) r c }
 {
     Quad {
         alpha: entry_at(n, r, c, matrix),
@@ -87,8 +87,8 @@ fn entries_at(n: usize, r: usize, c: usize, matrix: &[f64]) -> Quad
 
 // The like part of the identity.
 fn identity_at(r: usize, c: usize) -> Quad
-    requires { (r < largestOrder) × (c < largestOrder) }
-    ensures { result ≡ quadAt (bordered identity) r c }
+    requires { (r < largest_order) × (c < largest_order) }
+    ensures { result ≡ quad_at (bordered identity) r c }
 {
     Quad {
         alpha: unit_at(r, c),

@@ -1,7 +1,7 @@
 #![tactic(auto)]
 // The wires of a tile: what leaves and what comes in by each corner (document 01, "The array").
 ghost use Rattle.std.specs.Prelude.{◌≡◌};
-ghost use Rattle.tile_wires.specs.Wires.{interchanged, acrossOf, wiresOf, partWires, cornerOf, incomingQuad, incomingPart};
+ghost use Rattle.tile_wires.specs.Wires.{interchanged, across_of, wires_of, part_wires, corner_of, incoming_quad, incoming_part};
 
 mod phases;
 
@@ -23,7 +23,7 @@ pub struct Part {
 
 // The wires of the tile in row i and column j, from 0, after a phase; `last` is the last row and column.
 pub fn after(phase: usize, last: usize, i: usize, j: usize, cells: Part, old: Part) -> Part
-    ensures { result ≡ partWires phase last i j cells old }
+    ensures { result ≡ part_wires phase last i j cells old }
 {
     let a = cells.matrix;
     let e = cells.vectors;
@@ -38,7 +38,7 @@ pub fn after(phase: usize, last: usize, i: usize, j: usize, cells: Part, old: Pa
 }
 
 fn quad_after(phase: usize, last: usize, i: usize, j: usize, cells: Quad, old: Quad) -> Quad
-    ensures { result ≡ wiresOf phase last i j cells old }
+    ensures { result ≡ wires_of phase last i j cells old }
 {
     let out = interchange(i, j, cells);
     phases::set(
@@ -67,7 +67,7 @@ fn interchange(i: usize, j: usize, q: Quad) -> Quad
 }
 
 fn across(j: usize, q: Quad) -> Quad
-    ensures { result ≡ acrossOf j q }
+    ensures { result ≡ across_of j q }
 {
     if j == 0 {
         return q;
@@ -90,7 +90,7 @@ pub fn incoming(
     i: usize,
     j: usize,
 ) -> Part
-    ensures { result ≡ incomingPart alpha beta gamma delta last i j }
+    ensures { result ≡ incoming_part alpha beta gamma delta last i j }
 {
     let alpha_a = alpha.matrix;
     let beta_a = beta.matrix;
@@ -117,7 +117,7 @@ fn incoming_quad(
     i: usize,
     j: usize,
 ) -> Quad
-    ensures { result ≡ incomingQuad alpha beta gamma delta last i j }
+    ensures { result ≡ incoming_quad alpha beta gamma delta last i j }
 {
     Quad {
         alpha: alpha.corner(i > 0, j > 0),
@@ -130,7 +130,7 @@ fn incoming_quad(
 impl Quad {
     // The corner in the lower row or the upper, in the right column or the left.
     pub fn corner(self, lower: bool, right: bool) -> f64
-        ensures { result ≡ cornerOf lower right self }
+        ensures { result ≡ corner_of lower right self }
     {
         if lower {
             if right {

@@ -1,6 +1,6 @@
 // In which phase a wire is set.
 ghost use Rattle.std.specs.Prelude.{◌≡◌, ◌||◌, eqb};
-ghost use Rattle.tile_wires.specs.Wires.{edge_of, order_of, setOf, setIn0, setIn1, setIn2};
+ghost use Rattle.tile_wires.specs.Wires.{edge_of, order_of, set_of, set_in0, set_in1, set_in2};
 
 use crate::Quad;
 
@@ -44,7 +44,7 @@ pub fn order(i: usize, j: usize) -> usize
 
 // The wires after a phase (document 003, Program 3): those that are set carry `out`, the others keep their values.
 pub fn set(phase: usize, edge: usize, order: usize, out: Quad, old: Quad) -> Quad
-    ensures { result ≡ setOf phase edge order out old }
+    ensures { result ≡ set_of phase edge order out old }
 {
     match phase {
         0 => set_in_0(order, out, old),
@@ -55,7 +55,7 @@ pub fn set(phase: usize, edge: usize, order: usize, out: Quad, old: Quad) -> Qua
 }
 
 fn set_in_0(order: usize, out: Quad, old: Quad) -> Quad
-    ensures { result ≡ setIn0 order out old }
+    ensures { result ≡ set_in0 order out old }
 {
     match order {
         1 => Quad {
@@ -75,7 +75,7 @@ fn set_in_0(order: usize, out: Quad, old: Quad) -> Quad
 }
 
 fn set_in_1(edge: usize, out: Quad, old: Quad) -> Quad
-    ensures { result ≡ setIn1 edge out old }
+    ensures { result ≡ set_in1 edge out old }
 {
     match edge {
         0 => old,
@@ -101,7 +101,7 @@ fn set_in_1(edge: usize, out: Quad, old: Quad) -> Quad
 }
 
 fn set_in_2(edge: usize, order: usize, out: Quad, old: Quad) -> Quad
-    ensures { result ≡ setIn2 edge order out old }
+    ensures { result ≡ set_in2 edge order out old }
 {
     let inner = set_in_1(3 - edge % 4, out, old);
     match order {

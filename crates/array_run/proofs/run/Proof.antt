@@ -1,6 +1,6 @@
 use mathlib.Core.Path.{sym, ap, ◌∙◌}
 use Rattle.refusal.specs.Answers.{answered}
-use Rattle.array_run.proofs.WholeRuns.{whole-refused, whole-accepted}
+use Rattle.array_run.proofs.WholeRuns.{whole_refused, whole_accepted}
 use borrow.Author.Rules.{rules}
 use Rattle.array_run.proofs.run.Statement.{statement}
 use Rattle.array_run.proofs.run.Tie as tie
@@ -29,12 +29,12 @@ returns : tie.Need-returns
 returns c =
     let ran = c.before.before.before.before in
     let accepted = ran.before.before.before in
-    whole-accepted _ _ _ _ _ (ap answered (sym accepted.enum_told.given.1) ∙ accepted.before.before.verdict.ensures) ran.run-accepted.ensures
+    whole_accepted _ _ _ _ _ (ap answered (sym accepted.enum_told.given.1) ∙ accepted.before.before.verdict.ensures) ran.run_accepted.ensures
 
 returns-2 : tie.Need-returns-2
 returns-2 c =
     let k = c.before in
-    whole-refused _ _ _ _ _ (ap answered (sym k.refused.given.1) ∙ k.before.before.verdict.ensures)
+    whole_refused _ _ _ _ _ (ap answered (sym k.refused.given.1) ∙ k.before.before.verdict.ensures)
 
 pub run_spec : {M : Type 1} → statement M
 run_spec =

@@ -1,4 +1,4 @@
-use Rattle.array_words.specs.Words.{countsIn}
+use Rattle.array_words.specs.Words.{counts_in}
 use borrow.Author.Rules.{rules}
 use Rattle.array_words.proofs.counts_in.Statement.{statement}
 use Rattle.array_words.proofs.counts_in.Tie as tie
@@ -13,7 +13,7 @@ count-at-requires-2 : tie.Need-count-at-requires-2
 count-at-requires-2 c κs = search rules
 
 returns : tie.Need-returns
-unfolding countsIn
+unfolding counts_in
 returns c = rw (c.before.count_at.ensures, c.count-at2.ensures)
 
 pub counts-in-spec : {M : Type 1} → statement M

@@ -3,21 +3,21 @@ use Prim.Native.Nat.{◌+◌, ◌-◌, ◌*◌, ◌≤◌}
 use mathlib.Core.Path.{refl}
 use native.Mathlib.Omega.{arith}
 use borrow.Author.Rules.{rules}
-use Rattle.lists.proofs.Filled.{Filled, filled_none, filled_next, filled-all}
-use Rattle.sizes.specs.Sizes.{mostProcessors}
-use Rattle.array.specs.Arrays.{noTile}
-use Rattle.array_words.specs.Words.{tileWords, tileIn}
+use Rattle.lists.proofs.Filled.{Filled, filled_none, filled_next, filled_all}
+use Rattle.sizes.specs.Sizes.{most_processors}
+use Rattle.array.specs.Arrays.{no_tile}
+use Rattle.array_words.specs.Words.{tile_words, tile_in}
 use Rattle.array_words.proofs.ArrayRead.{loaded}
 use Rattle.array_words.proofs.load.Statement.{statement}
 use Rattle.array_words.proofs.load.Tie as tie
 
 abbrev invariant-loop : tie.invariant-loop
 invariant-loop words tiles₀ i₀ tiles i =
-    (i ≤ mostProcessors * mostProcessors)
-    × Filled noTile (λ i. tileIn words (3 + i * tileWords)) (mostProcessors * mostProcessors) i tiles
+    (i ≤ most_processors * most_processors)
+    × Filled no_tile (λ i. tile_in words (3 + i * tile_words)) (most_processors * most_processors) i tiles
 
 abbrev decreases-loop : tie.decreases-loop
-decreases-loop words tiles₀ i₀ tiles i = mostProcessors * mostProcessors - i
+decreases-loop words tiles₀ i₀ tiles i = most_processors * most_processors - i
 
 tile-in-requires : tie.Need-tile-in-requires invariant-loop decreases-loop
 tile-in-requires c κs = omega arith
@@ -61,7 +61,7 @@ word-at-requires-3 c κs = search rules
 returns : tie.Need-returns invariant-loop decreases-loop
 returns c =
     let w = c.before.before in
-    let tiles = filled-all _ _ w.before.before.loop.invariant.1 (omega arith) in
+    let tiles = filled_all _ _ w.before.before.loop.invariant.1 (omega arith) in
     loaded _ w.word_at.ensures c.before.word-at2.ensures c.word-at3.ensures tiles
 
 pub load_spec : {M : Type 1} → statement M

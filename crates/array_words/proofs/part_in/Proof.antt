@@ -1,4 +1,4 @@
-use Rattle.array_words.specs.Words.{partIn}
+use Rattle.array_words.specs.Words.{part_in}
 use borrow.Author.Rules.{rules}
 use Rattle.array_words.proofs.part_in.Statement.{statement}
 use Rattle.array_words.proofs.part_in.Tie as tie
@@ -13,7 +13,7 @@ quad-in-requires-2 : tie.Need-quad-in-requires-2
 quad-in-requires-2 c κs = search rules
 
 returns : tie.Need-returns
-unfolding partIn
+unfolding part_in
 returns c = rw (c.before.quad-in.ensures, c.quad-in2.ensures)
 
 pub part-in-spec : {M : Type 1} → statement M

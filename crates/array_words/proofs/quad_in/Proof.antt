@@ -1,4 +1,4 @@
-use Rattle.array_words.specs.Words.{quadIn}
+use Rattle.array_words.specs.Words.{quad_in}
 use borrow.Author.Rules.{rules}
 use Rattle.array_words.proofs.quad_in.Statement.{statement}
 use Rattle.array_words.proofs.quad_in.Tie as tie
@@ -25,7 +25,7 @@ value-at-requires-4 : tie.Need-value-at-requires-4
 value-at-requires-4 c κs = search rules
 
 returns : tie.Need-returns
-unfolding quadIn
+unfolding quad_in
 returns c = rw (c.before.before.before.value-at.ensures, c.before.before.value-at2.ensures, c.before.value-at3.ensures, c.value-at4.ensures)
 
 pub quad-in-spec : {M : Type 1} → statement M

@@ -1,6 +1,6 @@
 use native.Mathlib.Omega.{arith}
 use lib.ListN.{length-set}
-use Rattle.array_words.proofs.WordsWritten.{counts-written}
+use Rattle.array_words.proofs.WordsWritten.{counts_written}
 use borrow.Author.Rules.{rules}
 use Rattle.array_words.proofs.store_counts.Statement.{statement}
 use Rattle.array_words.proofs.store_counts.Tie as tie
@@ -30,7 +30,7 @@ same_length : tie.Need-same-length
 same_length c = simp length-set (omega arith)
 
 returns : tie.Need-returns
-returns c = counts-written _ _ _
+returns c = counts_written _ _ _
 
 pub store-counts-spec : {M : Type 1} → statement M
 store-counts-spec =

@@ -1,4 +1,4 @@
-use Rattle.array_words.proofs.WordsWritten.{part-written}
+use Rattle.array_words.proofs.WordsWritten.{part_written}
 use borrow.Author.Rules.{rules}
 use Rattle.array_words.proofs.store_part.Statement.{statement}
 use Rattle.array_words.proofs.store_part.Tie as tie
@@ -19,7 +19,7 @@ returns : tie.Need-returns
 returns c =
     let vectors = c.before.before in
     let matrix = vectors.before.before.before.before in
-    part-written _ _ _ matrix.store-quad.ensures vectors.store-quad2.ensures
+    part_written _ _ _ matrix.store-quad.ensures vectors.store-quad2.ensures
 
 pub store-part-spec : {M : Type 1} → statement M
 store-part-spec =

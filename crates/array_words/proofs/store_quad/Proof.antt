@@ -1,6 +1,6 @@
 use native.Mathlib.Omega.{arith}
 use lib.ListN.{length-set}
-use Rattle.array_words.proofs.WordsWritten.{quad-written}
+use Rattle.array_words.proofs.WordsWritten.{quad_written}
 use borrow.Author.Rules.{rules}
 use Rattle.array_words.proofs.store_quad.Statement.{statement}
 use Rattle.array_words.proofs.store_quad.Tie as tie
@@ -56,7 +56,7 @@ same_length c = search rules
 returns : tie.Need-returns
 returns c =
     let b = c.before.before in
-    quad-written _ _ _ b.before.to-bits.ensures b.to-bits2.ensures c.before.to-bits3.ensures c.to-bits4.ensures
+    quad_written _ _ _ b.before.to-bits.ensures b.to-bits2.ensures c.before.to-bits3.ensures c.to-bits4.ensures
 
 pub store-quad-spec : {M : Type 1} → statement M
 store-quad-spec =

@@ -1,7 +1,7 @@
 use mathlib.Core.Path.{ap, ◌∙◌}
 use native.Mathlib.Omega.{arith}
 use lib.ListN.{length, length-set}
-use Rattle.array_words.proofs.WordsWritten.{written-long, tile-written}
+use Rattle.array_words.proofs.WordsWritten.{written_long, tile_written}
 use borrow.Author.Rules.{rules}
 use Rattle.array_words.proofs.store_tile.Statement.{statement}
 use Rattle.array_words.proofs.store_tile.Tie as tie
@@ -59,7 +59,7 @@ store-counts-requires c κs = simp length-set (omega arith)
 
 same_length : tie.Need-same-length
 same_length c =
-    let kept = simp length-set at (ap length c.before.before.store-counts.ensures ∙ written-long _ _ _ _) in omega (arith, kept)
+    let kept = simp length-set at (ap length c.before.before.store-counts.ensures ∙ written_long _ _ _ _) in omega (arith, kept)
 
 returns : tie.Need-returns
 returns c =
@@ -68,7 +68,7 @@ returns c =
     let row = column.before in
     let wires = row.before.before.before in
     let cells = wires.before.before.before.before in
-    tile-written _ _ _ cells.store-part.ensures wires.store-part2.ensures row.to-bits.ensures column.to-bits2.ensures
+    tile_written _ _ _ cells.store-part.ensures wires.store-part2.ensures row.to-bits.ensures column.to-bits2.ensures
     counts.store-counts.ensures
 
 pub store-tile-spec : {M : Type 1} → statement M

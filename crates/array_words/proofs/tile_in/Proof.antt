@@ -1,4 +1,4 @@
-use Rattle.array_words.specs.Words.{tileIn}
+use Rattle.array_words.specs.Words.{tile_in}
 use borrow.Author.Rules.{rules}
 use Rattle.array_words.proofs.tile_in.Statement.{statement}
 use Rattle.array_words.proofs.tile_in.Tie as tie
@@ -37,7 +37,7 @@ word-at-requires : tie.Need-word-at-requires
 word-at-requires c κs = search rules
 
 returns : tie.Need-returns
-unfolding tileIn
+unfolding tile_in
 returns c =
     let v = c.before.before in
     let p = v.before in

@@ -1,5 +1,5 @@
 use mathlib.Core.Path.{◌∙◌}
-use Rattle.float64.proofs.Nan.{nan_pattern, no-nan-pattern}
+use Rattle.float64.proofs.Nan.{nan_pattern, no_nan_pattern}
 use borrow.Author.Rules.{rules}
 use Rattle.float64.proofs.from_bits.Statement.{statement}
 use Rattle.float64.proofs.from_bits.Tie as tie
@@ -8,10 +8,10 @@ not-a-number-requires : tie.Need-not-a-number-requires
 not-a-number-requires c κs = search rules
 
 returns : tie.Need-returns
-returns c = c.not-a-number.ensures ∙ nan_pattern _ c.before.if1.true
+returns c = c.not_a_number.ensures ∙ nan_pattern _ c.before.if1.true
 
 float-from-bits-result : tie.Need-float-from-bits-result
-float-from-bits-result c = no-nan-pattern _ c.if1.false
+float-from-bits-result c = no_nan_pattern _ c.if1.false
 
 returns-2 : tie.Need-returns-2
 returns-2 c = search rules

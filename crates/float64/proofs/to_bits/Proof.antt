@@ -1,10 +1,10 @@
-use Rattle.float64.proofs.Nan.{nan-bits, no_nan}
+use Rattle.float64.proofs.Nan.{nan_bits, no_nan}
 use borrow.Author.Rules.{rules}
 use Rattle.float64.proofs.to_bits.Statement.{statement}
 use Rattle.float64.proofs.to_bits.Tie as tie
 
 returns : tie.Need-returns
-returns c = nan-bits _ c.if1.true
+returns c = nan_bits _ c.if1.true
 
 float-to-bits-result : tie.Need-float-to-bits-result
 float-to-bits-result c = no_nan _ c.if1.false

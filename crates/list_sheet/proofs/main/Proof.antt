@@ -1,6 +1,6 @@
 use mathlib.Core.Path.{sym}
 use lib.Seq.{length-take-le}
-use Rattle.list_sheet.proofs.Prints.{read-within}
+use Rattle.list_sheet.proofs.Prints.{read_within}
 use borrow.Author.Rules.{rules}
 use Rattle.list_sheet.proofs.main.Statement.{statement}
 use Rattle.list_sheet.proofs.main.Tie as tie
@@ -26,12 +26,12 @@ enum-known-bytes c = search rules
 array-share-prefix-sheet : tie.Need-array-share-prefix-sheet
 array-share-prefix-sheet c =
     let told = c.before in
-    read-within _ told.bytes.given.1 told.before.before.before.read.ensures
+    read_within _ told.bytes.given.1 told.before.before.before.read.ensures
 
 slice-aggregate-list : tie.Need-slice-aggregate-list
 slice-aggregate-list c =
     let told = c.before.before in
-    sym (length-take-le _ _ (read-within _ told.bytes.given.1 told.before.before.before.read.ensures))
+    sym (length-take-le _ _ (read_within _ told.bytes.given.1 told.before.before.before.read.ensures))
 
 list-requires : tie.Need-list-requires
 list-requires c κs = search rules

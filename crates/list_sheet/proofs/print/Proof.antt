@@ -1,4 +1,4 @@
-use Rattle.list_sheet.proofs.Prints.{prints-counted, accepted-printed, refused-printed}
+use Rattle.list_sheet.proofs.Prints.{prints_counted, accepted_printed, refused_printed}
 use borrow.Author.Rules.{rules}
 use Rattle.list_sheet.proofs.print.Statement.{statement}
 use Rattle.list_sheet.proofs.print.Tie as tie
@@ -21,7 +21,7 @@ same_length c = search rules
 returns : tie.Need-returns
 returns c =
     let listed = c.before.before.before.before in
-    prints-counted _ _ (accepted-printed _ _ _ listed.list.ensures c.enum_told.given.1)
+    prints_counted _ _ (accepted_printed _ _ _ listed.list.ensures c.enum_told.given.1)
 
 same-length-2 : tie.Need-same-length-2
 same-length-2 c = search rules
@@ -31,7 +31,7 @@ returns-2 c =
     let refusal = c.before.before in
     let told = refusal.before.before.before in
     let listed = told.before.before.before.before in
-    prints-counted _ _ (refused-printed _ _ _ listed.list.ensures _ told.answer.given.1 refusal.print-refusal.ensures)
+    prints_counted _ _ (refused_printed _ _ _ listed.list.ensures _ told.answer.given.1 refusal.print-refusal.ensures)
 
 pub print-spec : {M : Type 1} → statement M
 print-spec =

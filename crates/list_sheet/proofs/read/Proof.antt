@@ -1,4 +1,4 @@
-use Rattle.list_sheet.proofs.Prints.{read-within}
+use Rattle.list_sheet.proofs.Prints.{read_within}
 use Prim.Native.Nat.{◌-◌, ◌≤◌}
 use mathlib.Core.Path.{◌≡◌}
 use native.Mathlib.Omega.{arith}
@@ -18,7 +18,7 @@ abbrev at_once : tie.Else1 invariant-loop decreases-loop → tie.After-read-once
 at_once c = c.before.before.before.before.before.before
 
 more : (c : tie.Else1 invariant-loop decreases-loop) → c.before.before.got.given.0.0 ≤ length (at_once c).read-once.new.0
-more c = read-within _ c.before.before.got.given.1 (at_once c).read-once.ensures
+more c = read_within _ c.before.before.got.given.1 (at_once c).read-once.ensures
 
 loop-holds : tie.Need-loop-init invariant-loop decreases-loop
 loop-holds c = search rules

@@ -3,16 +3,16 @@ use mathlib.Core.Path.{sym, ◌∙◌}
 use native.Mathlib.Nat.{mul-le-mul}
 use native.Mathlib.Omega.{arith}
 use lib.Seq.{length-take-le}
-use Rattle.sizes.specs.Sizes.{largestOrder}
-use Rattle.listing.proofs.ListingParts.{order-few, order-there}
+use Rattle.sizes.specs.Sizes.{largest_order}
+use Rattle.listing.proofs.ListingParts.{order_few, order_there}
 use borrow.Author.Rules.{rules}
 use Rattle.listing.proofs.list.Statement.{statement}
 use Rattle.listing.proofs.list.Tie as tie
 
-narrow : (c : tie.After-order) → c.order.result ≤ largestOrder
-narrow c = order-few c.before.before.before.args.sheet.now c.order.ensures
+narrow : (c : tie.After-order) → c.order.result ≤ largest_order
+narrow c = order_few c.before.before.before.args.sheet.now c.order.ensures
 
-few : (c : tie.After-order) → c.order.result * c.order.result ≤ largestOrder * largestOrder
+few : (c : tie.After-order) → c.order.result * c.order.result ≤ largest_order * largest_order
 few c = mul-le-mul (narrow c) (narrow c)
 
 order-requires : tie.Need-order-requires
@@ -51,7 +51,7 @@ list-in-requires : tie.Need-list-in-requires
 list-in-requires c κs =
     let ordered = c.before.before.before.before.before in
     λ e.
-    let n = order-there ordered.before.before.before.args.sheet.now ordered.order.ensures e in
+    let n = order_there ordered.before.before.before.args.sheet.now ordered.order.ensures e in
     let f = few ordered in
     (length-take-le _ _ (narrow ordered) ∙ n, length-take-le _ _ f ∙ rw n, length-take-le _ _ f ∙ rw n, length-take-le _ _ f ∙ rw n)
 

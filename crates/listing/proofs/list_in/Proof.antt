@@ -1,10 +1,10 @@
-use Rattle.listing.proofs.ListingParts.{was_read, within-limit, sheet-listed, sheet-refused}
+use Rattle.listing.proofs.ListingParts.{was_read, within_limit, sheet_listed, sheet_refused}
 use borrow.Author.Rules.{rules}
 use Rattle.listing.proofs.list_in.Statement.{statement}
 use Rattle.listing.proofs.list_in.Tie as tie
 
-abbrev at-start : tie.After-read → tie.Start
-at-start c = c.before.before.before.before.before.before.before.before.before
+abbrev at_start : tie.After-read → tie.Start
+at_start c = c.before.before.before.before.before.before.before.before.before
 
 abbrev at_read : tie.After-slice-known7 → tie.After-read
 at_read c = c.before.before.before.before
@@ -24,7 +24,7 @@ run-requires c κs =
     let told = at-sizes c in
     let read = at_read told.before.before in
     let q = was_read _ _ _ _ read.read.ensures _ _ told.n.given.1 in
-    within-limit _ _ _ _ q.0 q.1.as-order
+    within_limit _ _ _ _ q.0 q.1.as_order
 
 enum-known-refused : tie.Need-enum-known-refused
 enum-known-refused c = search rules
@@ -52,10 +52,10 @@ returns c =
     let ran = c.before.before.before.before.before.before in
     let told = at-sizes ran.before in
     let read = at_read told.before.before in
-    let start = at-start read in
+    let start = at_start read in
     let p = start.pre in
     let q = was_read _ _ _ _ read.read.ensures _ _ told.n.given.1 in
-    sheet-listed _ start.args.codes.now start.args.matrix.now _ (λ e. ((p e).0, (p e).1)) _ _ _ _ (λ e. ((p e).2, (p e).3))
+    sheet_listed _ start.args.codes.now start.args.matrix.now _ (λ e. ((p e).0, (p e).1)) _ _ _ _ (λ e. ((p e).2, (p e).3))
     q.0 q.1 ran.run.ensures
 
 same-length-6 : tie.Need-same-length-6
@@ -68,9 +68,9 @@ returns-2 : tie.Need-returns-2
 returns-2 c =
     let told = c.before.before in
     let read = at_read told.before.before in
-    let start = at-start read in
+    let start = at_start read in
     let p = start.pre in
-    sheet-refused _ start.args.codes.now start.args.matrix.now _ (λ e. ((p e).0, (p e).1)) _ _
+    sheet_refused _ start.args.codes.now start.args.matrix.now _ (λ e. ((p e).0, (p e).1)) _ _
     read.read.ensures told.refused.given.1 c.refuse.ensures.0 c.refuse.ensures.1
 
 pub list-in-spec : {M : Type 1} → statement M

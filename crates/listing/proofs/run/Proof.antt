@@ -1,16 +1,16 @@
 use Prim.Native.Nat.{◌≤◌}
 use lib.ListN.{length}
-use Rattle.listing_text.specs.Printed.{roomFor}
-use Rattle.listing.proofs.ListingParts.{no_room, run-printed, run-not-printed}
+use Rattle.listing_text.specs.Printed.{room_for}
+use Rattle.listing.proofs.ListingParts.{no_room, run_printed, run_not_printed}
 use borrow.Author.Rules.{rules}
 use Rattle.listing.proofs.run.Statement.{statement}
 use Rattle.listing.proofs.run.Tie as tie
 
-abbrev at-start : tie.Else1 → tie.Start
-at-start c = c.before.before.before.before.before.before.before
+abbrev at_start : tie.Else1 → tie.Start
+at_start c = c.before.before.before.before.before.before.before
 
 -- past the test
-enough : (c : tie.Else1) → let a = (at-start c).args in roomFor a.n ≤ length a.text.now
+enough : (c : tie.Else1) → let a = (at_start c).args in room_for a.n ≤ length a.text.now
 enough c = rw c.before.room_for.ensures at c.if1.false
 
 abbrev at-run : tie.After-slice-known5 → tie.After-run
@@ -57,7 +57,7 @@ returns-2 c =
     let told = printed.before.before.before.before.before in
     let ran = at-run told.before.before in
     let room = enough ran.before.before.before in
-    run-printed _ _ _ _ _ room _ _ _ _ told.ticks.given.1 ran.run.ensures printed.print.ensures
+    run_printed _ _ _ _ _ room _ _ _ _ told.ticks.given.1 ran.run.ensures printed.print.ensures
 
 same-length-4 : tie.Need-same-length-4
 same-length-4 c = search rules
@@ -70,7 +70,7 @@ returns-3 c =
     let told = c.before.before in
     let ran = at-run told.before.before in
     let room = enough ran.before.before.before in
-    run-not-printed _ _ _ _ _ room _ _ told.refused.given.1 ran.run.ensures c.refuse2.ensures.0 c.refuse2.ensures.1
+    run_not_printed _ _ _ _ _ room _ _ told.refused.given.1 ran.run.ensures c.refuse2.ensures.0 c.refuse2.ensures.1
 
 pub run_spec : {M : Type 1} → statement M
 run_spec =

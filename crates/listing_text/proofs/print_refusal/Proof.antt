@@ -1,19 +1,19 @@
 use Prim.Native.Nat.{◌≤◌}
 use native.Mathlib.Omega.{arith}
 use lib.ListN.{length}
-use Rattle.text.specs.Text.{decimalOf}
-use Rattle.text.proofs.Decimals.{at-most-four}
-use Rattle.listing_text.proofs.Pieces.{refusal-not-printed, refusal-printed}
+use Rattle.text.specs.Text.{decimal_of}
+use Rattle.text.proofs.Decimals.{at_most_four}
+use Rattle.listing_text.proofs.Pieces.{refusal_not_printed, refusal_printed_lem}
 use borrow.Author.Rules.{rules}
 use Rattle.listing_text.proofs.print_refusal.Statement.{statement}
 use Rattle.listing_text.proofs.print_refusal.Tie as tie
 
 -- the number of a refusal has at most 4 digits
-number-few : (c : tie.After-number) → length (decimalOf c.number.result) ≤ 4
-number-few c = at-most-four _ (omega arith)
+number-few : (c : tie.After-number) → length (decimal_of c.number.result) ≤ 4
+number-few c = at_most_four _ (omega arith)
 
 returns : tie.Need-returns
-returns c = refusal-not-printed _ _ (omega arith)
+returns c = refusal_not_printed _ _ (omega arith)
 
 put-word-requires : tie.Need-put-word-requires
 put-word-requires c κs = search rules
@@ -39,7 +39,7 @@ returns-2 c =
     let decimal = newline.before.before.before.before in
     let numbered = decimal.before.before in
     let word = numbered.before.before.before in
-    refusal-printed _ _ (omega arith) numbered.number.ensures word.put_word.ensures.0 decimal.put-decimal.ensures newline.put.ensures
+    refusal_printed_lem _ _ (omega arith) numbered.number.ensures word.put_word.ensures.0 decimal.put-decimal.ensures newline.put.ensures
 
 pub print-refusal-spec : {M : Type 1} → statement M
 print-refusal-spec =

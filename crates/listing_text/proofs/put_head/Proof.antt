@@ -1,17 +1,17 @@
 use Prim.Native.Nat.{◌≤◌}
 use native.Mathlib.Omega.{arith}
 use lib.ListN.{length}
-use Rattle.text.specs.Text.{decimalOf}
-use Rattle.text.proofs.Decimals.{at-most-four}
-use Rattle.listing_text.proofs.Pieces.{head-put}
+use Rattle.text.specs.Text.{decimal_of}
+use Rattle.text.proofs.Decimals.{at_most_four}
+use Rattle.listing_text.proofs.Pieces.{head_put}
 use borrow.Author.Rules.{rules}
 use Rattle.listing_text.proofs.put_head.Statement.{statement}
 use Rattle.listing_text.proofs.put_head.Tie as tie
 
 -- each of the numbers has at most 4 digits
 few : (s : tie.Start) → let a = s.args in
-    (length (decimalOf a.n) ≤ 4) × (length (decimalOf a.sweeps) ≤ 4) × (length (decimalOf a.ticks) ≤ 4)
-few s = (at-most-four _ s.requires.0, at-most-four _ s.requires.1, at-most-four _ s.requires.2)
+    (length (decimal_of a.n) ≤ 4) × (length (decimal_of a.sweeps) ≤ 4) × (length (decimal_of a.ticks) ≤ 4)
+few s = (at_most_four _ s.requires.0, at_most_four _ s.requires.1, at_most_four _ s.requires.2)
 
 -- the start, seen from after each number
 abbrev start₁ : tie.After-slice-known2 → tie.Start
@@ -52,7 +52,7 @@ returns c =
     let sweeps = space2.before.before.before.before in
     let space1 = sweeps.before.before.before.before in
     let order = space1.before.before.before.before in (
-      head-put _ _ _ order.put-decimal.ensures space1.put.ensures sweeps.put-decimal2.ensures space2.put2.ensures
+      head_put _ _ _ order.put-decimal.ensures space1.put.ensures sweeps.put-decimal2.ensures space2.put2.ensures
           ticks.put-decimal3.ensures newline.put3.ensures,
       omega (
         arith,

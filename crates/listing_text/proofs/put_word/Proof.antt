@@ -1,5 +1,5 @@
 use native.Mathlib.Omega.{arith}
-use Rattle.listing_text.proofs.Pieces.{word-put}
+use Rattle.listing_text.proofs.Pieces.{word_put}
 use borrow.Author.Rules.{rules}
 use Rattle.listing_text.proofs.put_word.Statement.{statement}
 use Rattle.listing_text.proofs.put_word.Tie as tie
@@ -41,7 +41,7 @@ returns c =
     let byte3 = byte4.before.before.before.before in
     let byte2 = byte3.before.before.before.before in
     let byte1 = byte2.before.before.before.before in (
-      word-put byte1.put.ensures byte2.put2.ensures byte3.put3.ensures byte4.put4.ensures byte5.put5.ensures
+      word_put byte1.put.ensures byte2.put2.ensures byte3.put3.ensures byte4.put4.ensures byte5.put5.ensures
           byte6.put6.ensures byte7.put7.ensures byte8.put8.ensures,
       omega (
         arith,

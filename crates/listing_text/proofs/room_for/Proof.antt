@@ -1,6 +1,6 @@
 use native.Mathlib.Omega.{arith}
 use borrow.Author.Rules.{rules}
-use Rattle.listing_text.proofs.Room.{text-lines-fit}
+use Rattle.listing_text.proofs.Room.{text_lines_fit}
 use Rattle.listing_text.proofs.room_for.Statement.{statement}
 use Rattle.listing_text.proofs.room_for.Tie as tie
 
@@ -11,10 +11,10 @@ add-result : tie.Need-overflow-add-result
 add-result c = search rules
 
 mul-result-2 : tie.Need-overflow-mul-result-2
-mul-result-2 c = omega (arith, text-lines-fit _ c.requires)
+mul-result-2 c = omega (arith, text_lines_fit _ c.requires)
 
 add-result-2 : tie.Need-overflow-add-result-2
-add-result-2 c = omega (arith, text-lines-fit _ c.requires)
+add-result-2 c = omega (arith, text_lines_fit _ c.requires)
 
 returns : tie.Need-returns
 returns c = search rules

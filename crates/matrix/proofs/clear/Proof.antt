@@ -3,14 +3,14 @@ use native.Mathlib.Omega.{arith}
 use mathlib.Core.Path.{refl}
 use lib.Ieee.{nan}
 use lib.ListN.{length}
-use Rattle.float64.specs.Values.{plusZero}
-use Rattle.lists.proofs.Filled.{Filled, filled_none, filled_next, filled-all}
+use Rattle.float64.specs.Values.{plus_zero}
+use Rattle.lists.proofs.Filled.{Filled, filled_none, filled_next, filled_all}
 use Rattle.matrix.proofs.clear.Statement.{statement}
 use Rattle.matrix.proofs.clear.Tie as tie
 
 -- The first k values are +0. What falls is the number of values left.
 abbrev invariant-loop : tie.invariant-loop
-invariant-loop a₀ k₀ k-end a k = (k ≤ length a₀) × Filled nan (λ i. plusZero) (length a₀) k a
+invariant-loop a₀ k₀ k-end a k = (k ≤ length a₀) × Filled nan (λ i. plus_zero) (length a₀) k a
 
 abbrev decreases-loop : tie.decreases-loop
 decreases-loop a₀ k₀ k-end a k = length a₀ - k
@@ -37,7 +37,7 @@ same_length : tie.Need-same-length invariant-loop decreases-loop
 same_length c = omega arith
 
 returns : tie.Need-returns invariant-loop decreases-loop
-returns c = filled-all _ _ c.before.loop.invariant.1 (omega arith)
+returns c = filled_all _ _ c.before.loop.invariant.1 (omega arith)
 
 pub clear_spec : {M : Type 1} → statement M
 clear_spec =

@@ -6,10 +6,10 @@ use borrow.Author.Rules.{rules}
 use borrow.Author.Tests.{not-true, not-false}
 use Rattle.refusal.specs.Answers.{given, answered, first}
 use Rattle.matrix.specs.Matrix.{at}
-use Rattle.matrix.specs.Entries.{notMirroredAt}
+use Rattle.matrix.specs.Entries.{not_mirrored_at}
 use Rattle.refusal.specs.declared.Answer.TheVariants.{Accepted}
-use Rattle.refusal.proofs.FirstRefusal.{first-none, first_more, first_found}
-use Rattle.matrix.proofs.EntryTests.{same, is-mirrored, is-not-mirrored, not-compared}
+use Rattle.refusal.proofs.FirstRefusal.{first_none, first_more, first_found}
+use Rattle.matrix.proofs.EntryTests.{same, is_mirrored_lem, is_not_mirrored, not_compared}
 use Rattle.matrix.proofs.EntryPlaces.{entry_in}
 use Rattle.matrix.proofs.first_not_mirrored.Statement.{statement}
 use Rattle.matrix.proofs.first_not_mirrored.Tie as tie
@@ -17,25 +17,25 @@ use Rattle.matrix.proofs.first_not_mirrored.Tie as tie
 -- In the inner loop the entries of row i + 1 right of the diagonal in the first j columns have their bits again in the mirror and n - j
 -- columns are left, in the outer loop those of the first i rows have and n - i rows are left. In both nothing is found so far.
 abbrev invariant-loop : tie.invariant-loop
-invariant-loop n a found₀ i j₀ found j = (i < j) × (j ≤ n) × (found ≡ Accepted) × (first j (notMirroredAt n a (i + 1)) ≡ given tt)
+invariant-loop n a found₀ i j₀ found j = (i < j) × (j ≤ n) × (found ≡ Accepted) × (first j (not_mirrored_at n a (i + 1)) ≡ given tt)
 
 abbrev decreases-loop : tie.decreases-loop
 decreases-loop n a found₀ i j₀ found j = n - j
 
 abbrev invariant-rows : tie.invariant-rows
-invariant-rows n a found₀ i₀ found i = (i ≤ n) × (found ≡ Accepted) × (first i (λ r. first n (notMirroredAt n a r)) ≡ given tt)
+invariant-rows n a found₀ i₀ found i = (i ≤ n) × (found ≡ Accepted) × (first i (λ r. first n (not_mirrored_at n a r)) ≡ given tt)
 
 abbrev decreases-rows : tie.decreases-rows
 decreases-rows n a found₀ i₀ found i = n - i
 
 rows-holds : tie.Need-rows-init invariant-loop decreases-loop invariant-rows decreases-rows
-rows-holds c = (search rules, refl, first-none _)
+rows-holds c = (search rules, refl, first_none _)
 
 add-j : tie.Need-overflow-add-j invariant-loop decreases-loop invariant-rows decreases-rows
 add-j c = omega arith
 
 loop-holds : tie.Need-loop-init invariant-loop decreases-loop invariant-rows decreases-rows
-loop-holds c = let r = c.before in let a = r.before.before.args in (omega arith, omega arith, search rules, not-compared a.n a.a.now r.rows.i)
+loop-holds c = let r = c.before in let a = r.before.before.args in (omega arith, omega arith, search rules, not_compared a.n a.a.now r.rows.i)
 
 add-entry : tie.Need-overflow-add-entry invariant-loop decreases-loop invariant-rows decreases-rows
 add-entry c = omega arith
@@ -75,11 +75,11 @@ loop-again c =
     let at-mirror = c.before.before in
     let at_entry_lem = at-mirror.before in
     let at-loop = at_entry_lem.before.before in
-    let at-start = at-loop.before.before.before.before in
-    let e = at_entry_lem.entry.ensures ∙ entry_in _ _ _ _ at-start.requires (omega arith) (omega arith) in
-    let d = at-mirror.entry2.ensures ∙ entry_in _ _ _ _ at-start.requires (omega arith) (omega arith) in
+    let at_start = at-loop.before.before.before.before in
+    let e = at_entry_lem.entry.ensures ∙ entry_in _ _ _ _ at_start.requires (omega arith) (omega arith) in
+    let d = at-mirror.entry2.ensures ∙ entry_in _ _ _ _ at_start.requires (omega arith) (omega arith) in
     let f = same (sym e) (sym d) ∙ sym c.before.same_bits.ensures ∙ not-false _ c.if1.false in
-    (omega arith, omega arith, search rules, first_more _ _ at-loop.loop.invariant.3 (is-mirrored _ _ _ _ (omega arith) f))
+    (omega arith, omega arith, search rules, first_more _ _ at-loop.loop.invariant.3 (is_mirrored_lem _ _ _ _ (omega arith) f))
 
 add-i : tie.Need-overflow-add-i invariant-loop decreases-loop invariant-rows decreases-rows
 add-i c = omega arith
@@ -106,12 +106,12 @@ returns-2 c =
     let in-loop = at_entry_lem.before in
     let at-loop = in-loop.before in
     let at_rows = at-loop.before.before in
-    let at-start = at_rows.before.before in
-    let e = at_entry_lem.entry.ensures ∙ entry_in _ _ _ _ at-start.requires (omega arith) (omega arith) in
-    let d = at-mirror.entry2.ensures ∙ entry_in _ _ _ _ at-start.requires (omega arith) (omega arith) in
+    let at_start = at_rows.before.before in
+    let e = at_entry_lem.entry.ensures ∙ entry_in _ _ _ _ at_start.requires (omega arith) (omega arith) in
+    let d = at-mirror.entry2.ensures ∙ entry_in _ _ _ _ at_start.requires (omega arith) (omega arith) in
     let f = same (sym e) (sym d) ∙ sym c.before.same_bits.ensures ∙ not-true _ c.if1.true in
     sym (first_found _ _ _ _ _ at-loop.before.rows-test.true at_rows.rows.invariant.2
-    (first_found _ _ _ _ _ in-loop.loop-test.true at-loop.loop.invariant.3 (is-not-mirrored _ _ _ _ (omega arith) f)))
+    (first_found _ _ _ _ _ in-loop.loop-test.true at-loop.loop.invariant.3 (is_not_mirrored _ _ _ _ (omega arith) f)))
 
 pub first-not-mirrored-spec : {M : Type 1} → statement M
 first-not-mirrored-spec =

@@ -1,6 +1,6 @@
 use native.Mathlib.Omega.{arith}
 use borrow.Author.Rules.{rules}
-use Rattle.matrix.proofs.EntryPlaces.{too_large, square-fits}
+use Rattle.matrix.proofs.EntryPlaces.{too_large, square_fits}
 use Rattle.matrix.proofs.is_square.Statement.{statement}
 use Rattle.matrix.proofs.is_square.Tie as tie
 
@@ -8,7 +8,7 @@ returns : tie.Need-returns
 returns c = let a = c.before.args in too_large a.n a.long (omega arith) (omega arith)
 
 mul-result : tie.Need-overflow-mul-result
-mul-result c = omega (arith, square-fits c.before.args.n (omega arith))
+mul-result c = omega (arith, square_fits c.before.args.n (omega arith))
 
 returns-2 : tie.Need-returns-2
 returns-2 c = search rules

@@ -7,8 +7,8 @@ use borrow.Author.Tests.{eqb-true, not-true, not-false}
 use lib.ListN.{length}
 use Rattle.matrix.specs.Matrix.{at, flat}
 use Rattle.matrix.specs.Transposed.{across, up_to}
-use Rattle.matrix.proofs.Flat.{flat-length}
-use Rattle.matrix.proofs.Transposition.{left-as-it-was, begun, ended}
+use Rattle.matrix.proofs.Flat.{flat_length}
+use Rattle.matrix.proofs.Transposition.{left_as_it_was, begun, ended}
 use Rattle.matrix.proofs.transpose.Statement.{statement}
 use Rattle.matrix.proofs.transpose.Tie as tie
 
@@ -23,7 +23,7 @@ is-square-requires : tie.Need-is-square-requires invariant-loop decreases-loop
 is-square-requires c κs = search rules
 
 returns : tie.Need-returns invariant-loop decreases-loop
-returns c = left-as-it-was _ _ (sym c.before.is-square.ensures ∙ not-true _ c.if1.true)
+returns c = left_as_it_was _ _ (sym c.before.is-square.ensures ∙ not-true _ c.if1.true)
 
 loop-holds : tie.Need-loop-init invariant-loop decreases-loop
 loop-holds c =
@@ -31,7 +31,7 @@ loop-holds c =
     (omega arith, long, begun _ _ long)
 
 exchange-line-requires : tie.Need-exchange-line-requires invariant-loop decreases-loop
-exchange-line-requires c κs = (omega arith, ap length c.before.before.loop.invariant.2 ∙ flat-length _ _)
+exchange-line-requires c κs = (omega arith, ap length c.before.before.loop.invariant.2 ∙ flat_length _ _)
 
 add-i : tie.Need-overflow-add-i invariant-loop decreases-loop
 add-i c = omega arith
@@ -46,7 +46,7 @@ loop-again c =
     (omega arith, i.1, s.exchange-line.ensures _ i.2)
 
 same_length : tie.Need-same-length invariant-loop decreases-loop
-same_length c = let i = c.before.loop.invariant in ap length i.2 ∙ flat-length _ _ ∙ sym i.1
+same_length c = let i = c.before.loop.invariant in ap length i.2 ∙ flat_length _ _ ∙ sym i.1
 
 returns-2 : tie.Need-returns-2 invariant-loop decreases-loop
 returns-2 c =

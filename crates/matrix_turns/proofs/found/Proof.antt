@@ -1,7 +1,7 @@
 use mathlib.Core.Path.{◌∙◌}
 use borrow.Author.Rules.{rules}
-use Rattle.rotation.specs.Exact.{foundOf}
-use Rattle.matrix_turns.proofs.LinePairs.{from-three}
+use Rattle.rotation.specs.Exact.{found_of}
+use Rattle.matrix_turns.proofs.LinePairs.{from_three}
 use Rattle.matrix_turns.proofs.found.Statement.{statement}
 use Rattle.matrix_turns.proofs.found.Tie as tie
 
@@ -20,7 +20,7 @@ of-pair-requires c κs = search rules
 returns : tie.Need-returns
 returns c =
     let s = c.before in
-    c.of_pair.ensures ∙ from-three foundOf s.before.before.entry.ensures s.before.entry2.ensures s.entry3.ensures
+    c.of_pair.ensures ∙ from_three found_of s.before.before.entry.ensures s.before.entry2.ensures s.entry3.ensures
 
 pub found-spec : {M : Type 1} → statement M
 found-spec = tie.close (tie.spec entry-requires entry-requires-2 entry-requires-3 of-pair-requires returns)

@@ -3,8 +3,8 @@ use native.Mathlib.Omega.{arith}
 use borrow.Author.Rules.{rules}
 use borrow.Author.Tests.{not-true, not-false}
 use lib.ListN.{length}
-use Rattle.matrix_turns.proofs.LinePairs.{Two, are-two, left_alone}
-use Rattle.matrix_turns.proofs.TurnedLists.{in_rows, columns-turned}
+use Rattle.matrix_turns.proofs.LinePairs.{Two, are_two, left_alone}
+use Rattle.matrix_turns.proofs.TurnedLists.{in_rows, columns_turned_lem}
 use Rattle.matrix_turns.proofs.turn_columns.Statement.{statement}
 use Rattle.matrix_turns.proofs.turn_columns.Tie as tie
 
@@ -16,7 +16,7 @@ returns c = left_alone _ _ _ _ _ (sym c.before.are-lines.ensures ∙ not-true _ 
 
 -- past the test
 there : (c : tie.Else1) → let given = c.before.before.before.args in Two given.n given.p given.q (length given.a.now)
-there c = are-two _ _ _ _ (sym c.before.are-lines.ensures ∙ not-false _ c.if1.false)
+there c = are_two _ _ _ _ (sym c.before.are-lines.ensures ∙ not-false _ c.if1.false)
 
 sub-turn-lines : tie.Need-overflow-sub-turn-lines
 sub-turn-lines c = let t = there c in omega (arith, t.first_above, t.second_above)
@@ -37,7 +37,7 @@ returns-2 : tie.Need-returns-2
 returns-2 c =
     let at_turn = c.before.before in
     let past-test = at_turn.before.before in
-    at_turn.turn_lines.ensures ∙ columns-turned _ _ _ _ past-test.before.before.before.args.a.now (there past-test)
+    at_turn.turn_lines.ensures ∙ columns_turned_lem _ _ _ _ past-test.before.before.before.args.a.now (there past-test)
 
 pub turn-columns-spec : {M : Type 1} → statement M
 turn-columns-spec =

@@ -4,7 +4,7 @@ use native.Mathlib.Omega.{arith}
 use native.Mathlib.Nat.{le_antisymm}
 use lib.ListN.{length}
 use Rattle.matrix_turns.specs.Turns.{turn_lines}
-use Rattle.matrix_turns.proofs.TurnedLines.{no_lines, next-line, turned-length}
+use Rattle.matrix_turns.proofs.TurnedLines.{no_lines, next_line, turned_length}
 use Rattle.matrix_turns.proofs.turn_lines.Statement.{statement}
 use Rattle.matrix_turns.proofs.turn_lines.Tie as tie
 
@@ -39,7 +39,7 @@ turn-places-requires c κs =
     let at-loop = c.before.before in
     let start = at-loop.before.before in
     let b = start.requires at-loop.loop.r (omega arith) in
-    let e : length at-loop.loop.a ≡ length start.args.a.now = ap length at-loop.loop.invariant.1 ∙ turned-length _ _ _ _ _ in
+    let e : length at-loop.loop.a ≡ length start.args.a.now = ap length at-loop.loop.invariant.1 ∙ turned_length _ _ _ _ _ in
     omega arith
 
 add_r : tie.Need-overflow-add-r invariant-loop decreases-loop
@@ -51,10 +51,10 @@ loop-less c = omega arith
 loop-again : tie.Need-loop-preserved invariant-loop decreases-loop
 loop-again c =
     let at-loop = c.before.before.before.before.before in
-    (omega arith, next-line _ _ _ _ _ at-loop.loop.invariant.1 c.before.before.turn-places.ensures)
+    (omega arith, next_line _ _ _ _ _ at-loop.loop.invariant.1 c.before.before.turn-places.ensures)
 
 same_length : tie.Need-same-length invariant-loop decreases-loop
-same_length c = ap length c.before.loop.invariant.1 ∙ turned-length _ _ _ _ _
+same_length c = ap length c.before.loop.invariant.1 ∙ turned_length _ _ _ _ _
 
 returns : tie.Need-returns invariant-loop decreases-loop
 returns c = rw (le_antisymm c.before.loop.invariant.0 c.loop-test.false) at c.before.loop.invariant.1

@@ -1,4 +1,4 @@
-use Rattle.matrix_turns.proofs.TurnedLines.{places-are}
+use Rattle.matrix_turns.proofs.TurnedLines.{places_are}
 use borrow.Author.Rules.{rules}
 use Rattle.matrix_turns.proofs.turn_places.Statement.{statement}
 use Rattle.matrix_turns.proofs.turn_places.Tie as tie
@@ -34,7 +34,7 @@ same_length : tie.Need-same-length
 same_length c = search rules
 
 returns : tie.Need-returns
-returns c = places-are _ _ _ _ _ c.turn.ensures
+returns c = places_are _ _ _ _ _ c.turn.ensures
 
 pub turn-places-spec : {M : Type 1} → statement M
 turn-places-spec =

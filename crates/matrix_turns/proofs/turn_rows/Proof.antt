@@ -3,8 +3,8 @@ use native.Mathlib.Omega.{arith}
 use borrow.Author.Rules.{rules}
 use borrow.Author.Tests.{not-true, not-false}
 use lib.ListN.{length}
-use Rattle.matrix_turns.proofs.LinePairs.{Two, are-two, left_alone}
-use Rattle.matrix_turns.proofs.TurnedLists.{in-columns, rows-turned, offsets-within}
+use Rattle.matrix_turns.proofs.LinePairs.{Two, are_two, left_alone}
+use Rattle.matrix_turns.proofs.TurnedLists.{in_columns, rows_turned_lem, offsets_within}
 use Rattle.matrix_turns.proofs.turn_rows.Statement.{statement}
 use Rattle.matrix_turns.proofs.turn_rows.Tie as tie
 
@@ -16,7 +16,7 @@ returns c = left_alone _ _ _ _ _ (sym c.before.are-lines.ensures ∙ not-true _ 
 
 -- past the test
 there : (c : tie.Else1) → let given = c.before.before.before.args in Two given.n given.p given.q (length given.a.now)
-there c = are-two _ _ _ _ (sym c.before.are-lines.ensures ∙ not-false _ c.if1.false)
+there c = are_two _ _ _ _ (sym c.before.are-lines.ensures ∙ not-false _ c.if1.false)
 
 sub-turn-lines : tie.Need-overflow-sub-turn-lines
 sub-turn-lines c = let t = there c in omega (arith, t.first_above, t.second_above)
@@ -24,7 +24,7 @@ sub-turn-lines c = let t = there c in omega (arith, t.first_above, t.second_abov
 mul-turn-lines : tie.Need-overflow-mul-turn-lines
 mul-turn-lines c =
     let given = c.before.before.before.args in
-    omega (arith, (offsets-within given.parameters _ _ _ given.a.now (there c)).0)
+    omega (arith, (offsets_within given.parameters _ _ _ given.a.now (there c)).0)
 
 sub-turn-lines-2 : tie.Need-overflow-sub-turn-lines-2
 sub-turn-lines-2 c = let t = there c in omega (arith, t.first_above, t.second_above)
@@ -32,13 +32,13 @@ sub-turn-lines-2 c = let t = there c in omega (arith, t.first_above, t.second_ab
 mul-turn-lines-2 : tie.Need-overflow-mul-turn-lines-2
 mul-turn-lines-2 c =
     let given = c.before.before.before.args in
-    omega (arith, (offsets-within given.parameters _ _ _ given.a.now (there c)).1)
+    omega (arith, (offsets_within given.parameters _ _ _ given.a.now (there c)).1)
 
 turn-lines-requires : tie.Need-turn-lines-requires
 turn-lines-requires c κs =
     let past-test = c.before in
     let given = past-test.before.before.before.args in
-    in-columns given.parameters _ _ _ given.a.now (there past-test)
+    in_columns given.parameters _ _ _ given.a.now (there past-test)
 
 same_length : tie.Need-same-length
 same_length c = search rules
@@ -47,7 +47,7 @@ returns-2 : tie.Need-returns-2
 returns-2 c =
     let at_turn = c.before.before in
     let past-test = at_turn.before.before in
-    at_turn.turn_lines.ensures ∙ rows-turned _ _ _ _ past-test.before.before.before.args.a.now (there past-test)
+    at_turn.turn_lines.ensures ∙ rows_turned_lem _ _ _ _ past-test.before.before.before.args.a.now (there past-test)
 
 pub turn-rows-spec : {M : Type 1} → statement M
 turn-rows-spec =

@@ -1,4 +1,4 @@
-use Rattle.ordering.proofs.Movement.{left-first, left-second, left_other}
+use Rattle.ordering.proofs.Movement.{left_first, left_second, left_other}
 use borrow.Author.Rules.{rules}
 use Rattle.ordering.proofs.into_left.Statement.{statement}
 use Rattle.ordering.proofs.into_left.Tie as tie
@@ -7,13 +7,13 @@ element-copy-out-result : tie.Need-element-copy-out-result
 element-copy-out-result c = search rules
 
 returns : tie.Need-returns
-returns c = λ m. left-first _ _ m _ c.before.if1.true
+returns c = λ m. left_first _ _ m _ c.before.if1.true
 
 element-copy-out-result-2 : tie.Need-element-copy-out-result-2
 element-copy-out-result-2 c = search rules
 
 returns-2 : tie.Need-returns-2
-returns-2 c = λ m. left-second _ _ m _ c.before.if2.true
+returns-2 c = λ m. left_second _ _ m _ c.before.if2.true
 
 sub-result : tie.Need-overflow-sub-result
 sub-result c = search rules

@@ -4,8 +4,8 @@ use mathlib.Core.Bool.{true}
 use borrow.Author.Rules.{rules}
 use borrow.Author.Tests.{not-true, not-false}
 use Rattle.sizes.specs.Sizes.{is_order}
-use Rattle.sizes.proofs.Orders.{order_is, order-half}
-use Rattle.ordering.proofs.OrderRegisters.{given-lists, refused-lists}
+use Rattle.sizes.proofs.Orders.{order_is, order_half}
+use Rattle.ordering.proofs.OrderRegisters.{given_lists, refused_lists}
 use Rattle.ordering.proofs.pairs.Statement.{statement}
 use Rattle.ordering.proofs.pairs.Tie as tie
 
@@ -16,7 +16,7 @@ none-requires : tie.Need-none-requires
 none-requires c κs = search rules
 
 returns : tie.Need-returns
-returns c = refused-lists _ _ (sym c.before.before.is-order.ensures ∙ not-true _ c.before.if1.true) c.none.ensures
+returns c = refused_lists _ _ (sym c.before.before.is_order.ensures ∙ not-true _ c.before.if1.true) c.none.ensures
 
 processors-of-requires : tie.Need-processors-of-requires
 processors-of-requires c κs = search rules
@@ -29,7 +29,7 @@ sweep-steps-requires c κs = search rules
 
 -- past the test n is an order
 ordered : (c : tie.Else1) → is_order c.before.before.args.n ≡ true
-ordered c = sym c.before.is-order.ensures ∙ not-false _ c.if1.false
+ordered c = sym c.before.is_order.ensures ∙ not-false _ c.if1.false
 
 rem-after : tie.Need-nonzero-rem-after
 rem-after c = let o = order_is _ (ordered c.before.before.before) in let e = c.sweep-steps.ensures in omega arith
@@ -38,9 +38,9 @@ after-requires : tie.Need-after-requires
 after-requires c κs =
     let f = c.before in
     let p = f.before in
-    let h = order-half _ (ordered p.before) in
+    let h = order_half _ (ordered p.before) in
     let N = p.processors-of.ensures in
-    let b = f.first-line.ensures in
+    let b = f.first_line.ensures in
     (omega arith, omega arith, omega arith)
 
 returns-2 : tie.Need-returns-2
@@ -48,7 +48,7 @@ returns-2 c =
     let s = c.before in
     let f = s.before in
     let p = f.before in
-    given-lists _ _ (ordered p.before) p.processors-of.ensures f.first-line.ensures s.sweep-steps.ensures c.after.ensures
+    given_lists _ _ (ordered p.before) p.processors-of.ensures f.first_line.ensures s.sweep-steps.ensures c.after.ensures
 
 pub pairs-spec : {M : Type 1} → statement M
 pairs-spec =

@@ -1,5 +1,5 @@
 use mathlib.Core.Path.{sym}
-use Rattle.plain_pair.proofs.TurnedStates.{still-held, turn-held}
+use Rattle.plain_pair.proofs.TurnedStates.{still_held, turn_held}
 use borrow.Author.Rules.{rules}
 use Rattle.plain_pair.proofs.make_pair.Statement.{statement}
 use Rattle.plain_pair.proofs.make_pair.Tie as tie
@@ -27,7 +27,7 @@ returns c =
     let cleared = c.before.before in
     let told = cleared.before.before in
     let start = told.before.before.before.before in
-    still-held _ _ _ start.args.a.now _ _ start.requires.0 start.requires.1 (sym told.enum_told.given.1) cleared.clear-pair.ensures
+    still_held _ _ _ start.args.a.now _ _ start.requires.0 start.requires.1 (sym told.enum_told.given.1) cleared.clear-pair.ensures
 
 same-length-2 : tie.Need-same-length-2
 same-length-2 c = search rules
@@ -37,12 +37,12 @@ same-length-3 c = search rules
 
 returns-2 : tie.Need-returns-2
 returns-2 c =
-    let vectors-turned = c.before.before in
-    let matrix-turned = vectors-turned.before.before.before.before in
-    let told = matrix-turned.before.before.before in
+    let vectors_turned = c.before.before in
+    let matrix_turned = vectors_turned.before.before.before.before in
+    let told = matrix_turned.before.before.before in
     let start = told.before.before.before.before in
-    turn-held _ _ _ _ start.args.a.now _ start.args.vectors.now _ start.requires.0 start.requires.1
-    (sym told.parameters.given.1) matrix-turned.turn-matrix.ensures vectors-turned.turn-rows.ensures
+    turn_held _ _ _ _ start.args.a.now _ start.args.vectors.now _ start.requires.0 start.requires.1
+    (sym told.parameters.given.1) matrix_turned.turn-matrix.ensures vectors_turned.turn-rows.ensures
 
 pub make-pair-spec : {M : Type 1} → statement M
 make-pair-spec =

@@ -1,8 +1,8 @@
 use mathlib.Core.Path.{◌∙◌}
 use borrow.Author.Rules.{rules}
 use Rattle.rotation.specs.declared.Parameters.TheVariants.{Turn}
-use Rattle.rotation.specs.Rotation.{diagonalOf}
-use Rattle.matrix_turns.proofs.LinePairs.{from-three}
+use Rattle.rotation.specs.Rotation.{diagonal_of}
+use Rattle.matrix_turns.proofs.LinePairs.{from_three}
 use Rattle.plain_pair.proofs.new_diagonal.Statement.{statement}
 use Rattle.plain_pair.proofs.new_diagonal.Tie as tie
 
@@ -24,7 +24,7 @@ returns c =
     let start = read.before.before.before.before in
     let a = start.args in
     c.diagonal.ensures
-    ∙ from-three (diagonalOf (Turn a.t a.c a.s)) read.before.before.entry.ensures read.before.entry2.ensures read.entry3.ensures
+    ∙ from_three (diagonal_of (Turn a.t a.c a.s)) read.before.before.entry.ensures read.before.entry2.ensures read.entry3.ensures
 
 pub new-diagonal-spec : {M : Type 1} → statement M
 new-diagonal-spec =

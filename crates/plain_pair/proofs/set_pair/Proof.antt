@@ -1,6 +1,6 @@
 use native.Mathlib.Omega.{arith}
 use borrow.Author.Rules.{rules}
-use Rattle.matrix_turns.proofs.LinePairs.{are-two, two-as}
+use Rattle.matrix_turns.proofs.LinePairs.{are_two, two_as}
 use Rattle.plain_pair.proofs.TurnedStates.{pair_set}
 use Rattle.plain_pair.proofs.set_pair.Statement.{statement}
 use Rattle.plain_pair.proofs.set_pair.Tie as tie
@@ -11,16 +11,16 @@ start_of c = c.before.before.before.before.before.before
 
 set-entry-requires : tie.Need-set-entry-requires
 set-entry-requires c κs =
-    let t = are-two _ _ _ _ c.before.before.requires in
-    (t.long, t.first_above, t.first-within, t.first_above, t.first-within)
+    let t = are_two _ _ _ _ c.before.before.requires in
+    (t.long, t.first_above, t.first_within, t.first_above, t.first_within)
 
 set-entry-requires-2 : tie.Need-set-entry-requires-2
 set-entry-requires-2 c κs =
-    let t = are-two _ _ _ _ (start_of c).requires in
-    (omega (arith, t.long), t.second_above, t.second-within, t.second_above, t.second-within)
+    let t = are_two _ _ _ _ (start_of c).requires in
+    (omega (arith, t.long), t.second_above, t.second_within, t.second_above, t.second_within)
 
 clear-pair-requires : tie.Need-clear-pair-requires
-clear-pair-requires c κs = let second-set = c.before.before.before in two-as _ _ _ (start_of second-set.before).requires (omega arith)
+clear-pair-requires c κs = let second-set = c.before.before.before in two_as _ _ _ (start_of second-set.before).requires (omega arith)
 
 same_length : tie.Need-same-length
 same_length c = search rules

@@ -5,14 +5,14 @@ use native.Mathlib.Omega.{arith}
 use borrow.Author.Rules.{rules}
 use borrow.Author.Tests.{not-true, not-false}
 use lib.ListN.{length}
-use Rattle.lists.proofs.Bounded.{any_none, any-more}
-use Rattle.plain_run.proofs.RunEnd.{notFiniteBelow, one_found, none_found}
+use Rattle.lists.proofs.Bounded.{any_none, any_more}
+use Rattle.plain_run.proofs.RunEnd.{not_finite_below, one_found, none_found}
 use Rattle.plain_run.proofs.all_finite.Statement.{statement}
 use Rattle.plain_run.proofs.all_finite.Tie as tie
 
 -- The first k values are finite. What falls is the number of values left.
 abbrev invariant-loop : tie.invariant-loop
-invariant-loop a k₀ k-end k = (k ≤ length a) × (notFiniteBelow a k ≡ false)
+invariant-loop a k₀ k-end k = (k ≤ length a) × (not_finite_below a k ≡ false)
 
 abbrev decreases-loop : tie.decreases-loop
 decreases-loop a k₀ k-end k = length a - k
@@ -42,7 +42,7 @@ loop-again : tie.Need-loop-preserved invariant-loop decreases-loop
 loop-again c =
     let tested = c.before in
     let at-loop = tested.before.before.before.loop in
-    (omega arith, any-more _ _ at-loop.invariant.1 (ap not (sym tested.is_finite.ensures ∙ not-false _ c.if1.false)))
+    (omega arith, any_more _ _ at-loop.invariant.1 (ap not (sym tested.is_finite.ensures ∙ not-false _ c.if1.false)))
 
 returns-2 : tie.Need-returns-2 invariant-loop decreases-loop
 returns-2 c = none_found _ _ c.before.loop.invariant.1 (omega arith)

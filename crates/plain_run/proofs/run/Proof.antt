@@ -1,7 +1,7 @@
 use borrow.Author.Rules.{rules}
 use mathlib.Core.Path.{sym, ap, ◌∙◌}
 use Rattle.refusal.specs.Answers.{answered}
-use Rattle.plain_run.proofs.Outcomes.{run-refused, run-accepted-as}
+use Rattle.plain_run.proofs.Outcomes.{run_refused, run_accepted_as}
 use Rattle.plain_run.proofs.run.Statement.{statement}
 use Rattle.plain_run.proofs.run.Tie as tie
 
@@ -29,12 +29,12 @@ returns : tie.Need-returns
 returns c =
     let made = c.before.before.before.before in
     let told = made.before.before.before in
-    run-accepted-as _ _ _ _ _ (ap answered (sym told.enum_told.given.1) ∙ told.before.before.verdict.ensures) made.run-accepted.ensures
+    run_accepted_as _ _ _ _ _ (ap answered (sym told.enum_told.given.1) ∙ told.before.before.verdict.ensures) made.run_accepted.ensures
 
 returns-2 : tie.Need-returns-2
 returns-2 c =
     let told = c.before in
-    run-refused _ _ _ _ _ (ap answered (sym told.refused.given.1) ∙ told.before.before.verdict.ensures)
+    run_refused _ _ _ _ _ (ap answered (sym told.refused.given.1) ∙ told.before.before.verdict.ensures)
 
 pub run_spec : {M : Type 1} → statement M
 run_spec =

@@ -5,9 +5,9 @@ use borrow.Author.Rules.{rules}
 use lib.Ieee.{nan}
 use lib.ListN.{length}
 use Rattle.lists.proofs.Filled.{Filled, filled_none, filled_next}
-use Rattle.matrix.proofs.Flat.{row_lt, column-lt}
+use Rattle.matrix.proofs.Flat.{row_lt, column_lt}
 use Rattle.runs.specs.State.{identity}
-use Rattle.plain_run.proofs.CopiedLists.{identity-filled}
+use Rattle.plain_run.proofs.CopiedLists.{identity_filled}
 use Rattle.plain_run.proofs.set_identity.Statement.{statement}
 use Rattle.plain_run.proofs.set_identity.Tie as tie
 
@@ -32,7 +32,7 @@ rem-identity : tie.Need-nonzero-rem-identity invariant-loop decreases-loop
 rem-identity c = omega arith
 
 add-identity-2 : tie.Need-overflow-add-identity-2 invariant-loop decreases-loop
-add-identity-2 c = omega (arith, column-lt c.before.before.before.args.n c.before.loop.k (omega arith))
+add-identity-2 c = omega (arith, column_lt c.before.before.before.args.n c.before.loop.k (omega arith))
 
 identity-requires : tie.Need-identity-requires invariant-loop decreases-loop
 identity-requires c κs = search rules
@@ -58,7 +58,7 @@ same_length : tie.Need-same-length invariant-loop decreases-loop
 same_length c = omega arith
 
 returns : tie.Need-returns invariant-loop decreases-loop
-returns c = identity-filled _ _ _ c.before.loop.invariant.3 (omega arith)
+returns c = identity_filled _ _ _ c.before.loop.invariant.3 (omega arith)
 
 pub set-identity-spec : {M : Type 1} → statement M
 set-identity-spec =

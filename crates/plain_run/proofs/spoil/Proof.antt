@@ -1,4 +1,4 @@
-use Rattle.runs.proofs.Starts.{spoiled-outcome, cleared}
+use Rattle.runs.proofs.Starts.{spoiled_outcome, cleared}
 use borrow.Author.Rules.{rules}
 use Rattle.plain_run.proofs.spoil.Statement.{statement}
 use Rattle.plain_run.proofs.spoil.Tie as tie
@@ -20,7 +20,7 @@ returns c =
     let second-cleared = c.before.before in
     let first-cleared = second-cleared.before.before.before.before in
     let start = first-cleared.before.before.before.before in
-    spoiled-outcome _ (cleared _ start.requires.0 first-cleared.clear.ensures) (cleared _ start.requires.1 second-cleared.clear2.ensures)
+    spoiled_outcome _ (cleared _ start.requires.0 first-cleared.clear.ensures) (cleared _ start.requires.1 second-cleared.clear2.ensures)
 
 pub spoil-spec : {M : Type 1} → statement M
 spoil-spec = tie.close (tie.spec clear-requires clear-requires-2 same_length same-length-2 returns)

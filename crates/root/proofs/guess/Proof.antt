@@ -1,16 +1,16 @@
 use Rattle.std.proofs.Common.{arith, rules}
-use Rattle.float64.proofs.Nan.{no_nan, no-nan-below}
+use Rattle.float64.proofs.Nan.{no_nan, no_nan_below}
 use Rattle.root.proofs.guess.Statement.{statement}
 use Rattle.root.proofs.guess.Tie as tie
 
 float-from-bits-x : tie.Need-float-from-bits-x
-float-from-bits-x c = no-nan-below _ c.requires
+float-from-bits-x c = no_nan_below _ c.requires
 
 sub-y : tie.Need-overflow-sub-y
 sub-y c = search rules
 
 float-from-bits-y : tie.Need-float-from-bits-y
-float-from-bits-y c = no-nan-below _ (omega arith)
+float-from-bits-y c = no_nan_below _ (omega arith)
 
 returns : tie.Need-returns
 returns c = search rules

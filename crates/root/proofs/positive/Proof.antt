@@ -1,9 +1,9 @@
 use Rattle.std.proofs.Common.{ℕ, ◌+◌, ◌/◌, ◌%◌, ◌^◌, sym, ap, ◌∙◌, arith, rules}
-use Rattle.float64.proofs.Patterns.{field-units, subnormal-units}
-use Rattle.root.specs.Sqrt.{rootUnits}
-use Rattle.root.specs.Exact.{exactUnits}
+use Rattle.float64.proofs.Patterns.{field_units, subnormal_units}
+use Rattle.root.specs.Sqrt.{root_units}
+use Rattle.root.specs.Exact.{exact_units}
 use Rattle.root.proofs.Scales.{wide}
-use Rattle.root.proofs.ExactDigits.{root-at}
+use Rattle.root.proofs.ExactDigits.{root_at}
 use Rattle.root.specs.declared.Root.TheVariants.{Of}
 use Rattle.root.proofs.positive.Statement.{statement}
 use Rattle.root.proofs.positive.Tie as tie
@@ -12,7 +12,7 @@ subnormal-requires : tie.Need-subnormal-requires
 subnormal-requires c κs = search rules
 
 returns : tie.Need-returns
-returns c = c.subnormal.ensures ∙ ap (λ (n : ℕ). Of (rootUnits n) (exactUnits n)) (sym (subnormal-units _ (omega arith)))
+returns c = c.subnormal.ensures ∙ ap (λ (n : ℕ). Of (root_units n) (exact_units n)) (sym (subnormal_units _ (omega arith)))
 
 add-m : tie.Need-overflow-add-m
 add-m c = search rules
@@ -40,7 +40,7 @@ returns-2 c =
     let a = c.before.before.before in
     let b = a.args.b in
     c.scaled.ensures
-    ∙ root-at _ (b % 2 ^ 52 + 2 ^ 52) (b / 2 ^ 52 + 52) (field-units b (omega arith) a.requires.1) (omega arith) (omega arith) (omega arith)
+    ∙ root_at _ (b % 2 ^ 52 + 2 ^ 52) (b / 2 ^ 52 + 52) (field_units b (omega arith) a.requires.1) (omega arith) (omega arith) (omega arith)
 
 pub positive-spec : {M : Type 1} → statement M
 positive-spec =

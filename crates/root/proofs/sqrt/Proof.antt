@@ -2,12 +2,12 @@ use Rattle.std.proofs.Common.{T, sym, ap, ◌∙◌, subst}
 use lib.Ieee.{Float, binary64, fits}
 use lib.Ieee.Bits.{of_bits-to_bits}
 use Rattle.refusal.specs.Answers.{given}
-use Rattle.float64.specs.Units.{unitsOf}
-use Rattle.float64.proofs.Zeros.{above_zero, equal-zero}
-use Rattle.float64.proofs.PositiveValues.{above_no_nan, above-pattern, finite-pattern, infinite-pattern}
-use Rattle.root.specs.Sqrt.{rootUnits}
-use Rattle.root.specs.Exact.{exactUnits, rootAnswered}
-use Rattle.root.proofs.RootCases.{answer-positive, answer-infinite, answer-zero, answer-refused}
+use Rattle.float64.specs.Units.{units_of}
+use Rattle.float64.proofs.Zeros.{above_zero, equal_zero}
+use Rattle.float64.proofs.PositiveValues.{above_no_nan, above_pattern, finite_pattern, infinite_pattern}
+use Rattle.root.specs.Sqrt.{root_units}
+use Rattle.root.specs.Exact.{exact_units, root_answered}
+use Rattle.root.proofs.RootCases.{answer_positive, answer_infinite, answer_zero, answer_refused}
 use Rattle.root.proofs.sqrt.Statement.{statement}
 use Rattle.root.proofs.sqrt.Tie as tie
 
@@ -18,26 +18,26 @@ float-to-bits-b : tie.Need-float-to-bits-b
 float-to-bits-b c = above_no_nan _ c.if1.true
 
 positive-requires : tie.Need-positive-requires
-positive-requires c κs = (above-pattern _ (held c.before.before) c.before.if1.true, c.if2.true)
+positive-requires c κs = (above_pattern _ (held c.before.before) c.before.if1.true, c.if2.true)
 
 returns : tie.Need-returns
 returns c =
     let a = c.before.before.before in
     let x = a.args.x in
-    let p = finite-pattern x (held a) c.before.before.if1.true c.before.if2.true in
-    ap rootAnswered c.positive.ensures
-    ∙ ap (λ (y : Float). given (rootUnits (unitsOf y), exactUnits (unitsOf y))) (of_bits-to_bits binary64 x (held a))
-    ∙ answer-positive x p
+    let p = finite_pattern x (held a) c.before.before.if1.true c.before.if2.true in
+    ap root_answered c.positive.ensures
+    ∙ ap (λ (y : Float). given (root_units (units_of y), exact_units (units_of y))) (of_bits-to_bits binary64 x (held a))
+    ∙ answer_positive x p
 
 returns-2 : tie.Need-returns-2
 returns-2 c =
-    answer-infinite _ (sym (above_zero _) ∙ c.before.if1.true) (infinite-pattern _ (held c.before.before) c.before.if1.true c.if2.false)
+    answer_infinite _ (sym (above_zero _) ∙ c.before.if1.true) (infinite_pattern _ (held c.before.before) c.before.if1.true c.if2.false)
 
 returns-3 : tie.Need-returns-3
-returns-3 c = answer-zero _ (sym (equal-zero _) ∙ c.if3.true)
+returns-3 c = answer_zero _ (sym (equal_zero _) ∙ c.if3.true)
 
 returns-4 : tie.Need-returns-4
-returns-4 c = answer-refused _ (sym (above_zero _) ∙ c.before.if1.false) (sym (equal-zero _) ∙ c.if3.false)
+returns-4 c = answer_refused _ (sym (above_zero _) ∙ c.before.if1.false) (sym (equal_zero _) ∙ c.if3.false)
 
 pub sqrt-spec : {M : Type 1} → statement M
 sqrt-spec =

@@ -1,6 +1,6 @@
 use Rattle.std.proofs.Common.{◌<◌, ◌∙◌, arith}
-use Rattle.root.proofs.Scales.{wide, Raising, raising-start, raising-next}
-use Rattle.root.proofs.ExactDigits.{root-at}
+use Rattle.root.proofs.Scales.{wide, Raising, raising_start, raising_next}
+use Rattle.root.proofs.ExactDigits.{root_at}
 use Rattle.root.proofs.subnormal.Statement.{statement}
 use Rattle.root.proofs.subnormal.Tie as tie
 
@@ -12,7 +12,7 @@ abbrev decreases-loop : tie.decreases-loop
 decreases-loop b m₀ z₀ m z = z
 
 loop-holds : tie.Need-loop-init invariant-loop decreases-loop
-loop-holds c = (c.requires.0, raising-start _ c.requires.1)
+loop-holds c = (c.requires.0, raising_start _ c.requires.1)
 
 mul-m : tie.Need-overflow-mul-m invariant-loop decreases-loop
 mul-m c = omega arith
@@ -24,7 +24,7 @@ loop-less : tie.Need-loop-smaller invariant-loop decreases-loop
 loop-less c = omega arith
 
 loop-again : tie.Need-loop-preserved invariant-loop decreases-loop
-loop-again c = let i = c.before.loop.invariant in (i.0, raising-next _ _ _ i.0 c.loop-test.true i.1)
+loop-again c = let i = c.before.loop.invariant in (i.0, raising_next _ _ _ i.0 c.loop-test.true i.1)
 
 sub-scaled : tie.Need-overflow-sub-scaled invariant-loop decreases-loop
 sub-scaled c = omega arith
@@ -32,7 +32,7 @@ sub-scaled c = omega arith
 mul-scaled : tie.Need-overflow-mul-scaled invariant-loop decreases-loop
 mul-scaled c =
     let loop = c.before.loop in
-    let w = wide loop.m loop.z c.loop-test.false loop.invariant.1.m-lt in omega arith
+    let w = wide loop.m loop.z c.loop-test.false loop.invariant.1.m_lt in omega arith
 
 add-scaled : tie.Need-overflow-add-scaled invariant-loop decreases-loop
 add-scaled c = omega arith
@@ -53,14 +53,14 @@ scaled-requires : tie.Need-scaled-requires invariant-loop decreases-loop
 scaled-requires c κs =
     let past-loop = c.before in
     let loop = past-loop.before.loop in
-    let w = wide loop.m loop.z past-loop.loop-test.false loop.invariant.1.m-lt in omega arith
+    let w = wide loop.m loop.z past-loop.loop-test.false loop.invariant.1.m_lt in omega arith
 
 returns : tie.Need-returns invariant-loop decreases-loop
 returns c =
     let past-loop = c.before.before in
     let loop = past-loop.before.loop in
     let raised = loop.invariant.1 in
-    c.scaled.ensures ∙ root-at _ loop.m loop.z raised.value past-loop.loop-test.false raised.m-lt raised.z-ge
+    c.scaled.ensures ∙ root_at _ loop.m loop.z raised.value past-loop.loop-test.false raised.m_lt raised.z_ge
 
 pub subnormal-spec : {M : Type 1} → statement M
 subnormal-spec =

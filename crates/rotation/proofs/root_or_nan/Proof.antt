@@ -1,6 +1,6 @@
 use mathlib.Core.Path.{sym, ap, ◌∙◌}
-use Rattle.root.specs.Exact.{rootAnswered}
-use Rattle.rotation.proofs.RootsFound.{rootedBy, rooted-answer}
+use Rattle.root.specs.Exact.{root_answered}
+use Rattle.rotation.proofs.RootsFound.{rooted_by, rooted_answer}
 use borrow.Author.Rules.{rules}
 use Rattle.rotation.proofs.root_or_nan.Statement.{statement}
 use Rattle.rotation.proofs.root_or_nan.Tie as tie
@@ -18,12 +18,12 @@ not-a-number-requires : tie.Need-not-a-number-requires
 not-a-number-requires c κs = search rules
 
 returns : tie.Need-returns
-returns c = ap rootedBy (ap rootAnswered (sym c.before.y.given.1) ∙ c.before.before.before.sqrt.ensures) ∙ rooted-answer _
+returns c = ap rooted_by (ap root_answered (sym c.before.y.given.1) ∙ c.before.before.before.sqrt.ensures) ∙ rooted_answer _
 
 returns-2 : tie.Need-returns-2
 returns-2 c =
-    rw c.not-a-number.ensures
-    (ap rootedBy (ap rootAnswered (sym c.before.enum_told.given.1) ∙ c.before.before.before.sqrt.ensures) ∙ rooted-answer _)
+    rw c.not_a_number.ensures
+    (ap rooted_by (ap root_answered (sym c.before.enum_told.given.1) ∙ c.before.before.before.sqrt.ensures) ∙ rooted_answer _)
 
 pub root-or-nan-spec : {M : Type 1} → statement M
 root-or-nan-spec =

@@ -1,4 +1,4 @@
-use Rattle.rotation.specs.Rotation.{tangentOf}
+use Rattle.rotation.specs.Rotation.{tangent_of}
 use borrow.Author.Rules.{rules}
 use Rattle.rotation.proofs.tangent_of.Statement.{statement}
 use Rattle.rotation.proofs.tangent_of.Tie as tie
@@ -13,7 +13,7 @@ magnitude-requires : tie.Need-magnitude-requires
 magnitude-requires c κs = search rules
 
 returns : tie.Need-returns
-unfolding tangentOf
+unfolding tangent_of
 returns c =
     let signed = c.before.before in
     rw (signed.before.root-or-nan.ensures, signed.sign.ensures, c.before.magnitude.ensures)

@@ -1,5 +1,5 @@
 use borrow.Author.Rules.{rules}
-use Rattle.runs.specs.Counts.{roundedAfter}
+use Rattle.runs.specs.Counts.{rounded_after}
 use Rattle.runs.proofs.counts_after.Statement.{statement}
 use Rattle.runs.proofs.counts_after.Tie as tie
 
@@ -10,8 +10,8 @@ counted-requires : tie.Need-counted-requires
 counted-requires c κs = search rules
 
 returns : tie.Need-returns
-unfolding roundedAfter
-returns c = rw (c.before.before.turns-after.ensures, c.counted.ensures)
+unfolding rounded_after
+returns c = rw (c.before.before.turns_after.ensures, c.counted.ensures)
 
 pub counts-after-spec : {M : Type 1} → statement M
 counts-after-spec = tie.close (tie.spec turns-after-requires counted-requires returns)

@@ -1,7 +1,7 @@
 use mathlib.Core.Path.{sym, ◌∙◌}
 use borrow.Author.Rules.{rules}
 use borrow.Author.Tests.{not-true, not-false}
-use Rattle.runs.proofs.Verdicts.{refused-3, refused-3-too, by_entries}
+use Rattle.runs.proofs.Verdicts.{refused_3, refused_3_too, by_entries}
 use Rattle.runs.proofs.slices_tested.Statement.{statement}
 use Rattle.runs.proofs.slices_tested.Tie as tie
 
@@ -9,7 +9,7 @@ is-square-requires : tie.Need-is-square-requires
 is-square-requires c κs = search rules
 
 returns : tie.Need-returns
-returns c = refused-3 _ _ _ _ (sym c.before.is-square.ensures ∙ not-true _ c.if1.true)
+returns c = refused_3 _ _ _ _ (sym c.before.is-square.ensures ∙ not-true _ c.if1.true)
 
 is-square-requires-2 : tie.Need-is-square-requires-2
 is-square-requires-2 c κs = search rules
@@ -17,7 +17,7 @@ is-square-requires-2 c κs = search rules
 returns-2 : tie.Need-returns-2
 returns-2 c =
     let t = c.before.before in
-    refused-3-too _ _ _ _ (sym t.before.is-square.ensures ∙ not-false _ t.if1.false) (sym c.before.is-square2.ensures ∙ not-true _ c.if2.true)
+    refused_3_too _ _ _ _ (sym t.before.is-square.ensures ∙ not-false _ t.if1.false) (sym c.before.is-square2.ensures ∙ not-true _ c.if2.true)
 
 tested-requires : tie.Need-tested-requires
 tested-requires c κs = search rules

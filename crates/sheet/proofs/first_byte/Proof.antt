@@ -1,6 +1,6 @@
 use native.Mathlib.Omega.{arith}
 use borrow.Author.Rules.{rules}
-use Rattle.sheet.proofs.Forms.{first-long, first_short}
+use Rattle.sheet.proofs.Forms.{first_long, first_short}
 use Rattle.sheet.proofs.first_byte.Statement.{statement}
 use Rattle.sheet.proofs.first_byte.Tie as tie
 
@@ -11,7 +11,7 @@ add-result : tie.Need-overflow-add-result
 add-result c = search rules
 
 returns : tie.Need-returns
-returns c = first-long _ _ (omega arith)
+returns c = first_long _ _ (omega arith)
 
 cast-result-2 : tie.Need-overflow-cast-result-2
 cast-result-2 c = search rules

@@ -4,15 +4,15 @@ use mathlib.Core.Bool.{false}
 use native.Mathlib.Omega.{arith}
 use lib.ListN.{length}
 use Rattle.lists.specs.Bounded.{any}
-use Rattle.lists.proofs.Bounded.{any_none, any-more}
-use Rattle.sheet.specs.Codes.{badCode}
-use Rattle.sheet.proofs.BadCodes.{one-bad, none-bad}
+use Rattle.lists.proofs.Bounded.{any_none, any_more}
+use Rattle.sheet.specs.Codes.{bad_code}
+use Rattle.sheet.proofs.BadCodes.{one_bad, none_bad}
 use Rattle.sheet.proofs.has_bad_code.Statement.{statement}
 use Rattle.sheet.proofs.has_bad_code.Tie as tie
 
 -- None of the first k codes is bad; the other codes are left.
 abbrev invariant-loop : tie.invariant-loop
-invariant-loop codes k₀ k-end k = (k ≤ length codes) × (any k (badCode codes) ≡ false)
+invariant-loop codes k₀ k-end k = (k ≤ length codes) × (any k (bad_code codes) ≡ false)
 
 abbrev decreases-loop : tie.decreases-loop
 decreases-loop codes k₀ k-end k = length codes - k
@@ -24,7 +24,7 @@ is-bad-requires : tie.Need-is-bad-requires invariant-loop decreases-loop
 is-bad-requires c κs = omega arith
 
 returns : tie.Need-returns invariant-loop decreases-loop
-returns c = one-bad _ _ (omega arith) (sym c.before.is-bad.ensures ∙ c.if1.true)
+returns c = one_bad _ _ (omega arith) (sym c.before.is_bad.ensures ∙ c.if1.true)
 
 add-k : tie.Need-overflow-add-k invariant-loop decreases-loop
 add-k c = omega arith
@@ -35,10 +35,10 @@ loop-less c = omega arith
 loop-again : tie.Need-loop-preserved invariant-loop decreases-loop
 loop-again c =
     let at-loop = c.before.before.before in
-    (omega arith, any-more _ _ at-loop.loop.invariant.1 (sym c.before.is-bad.ensures ∙ c.if1.false))
+    (omega arith, any_more _ _ at-loop.loop.invariant.1 (sym c.before.is_bad.ensures ∙ c.if1.false))
 
 returns-2 : tie.Need-returns-2 invariant-loop decreases-loop
-returns-2 c = none-bad _ _ c.before.loop.invariant.1 (omega arith)
+returns-2 c = none_bad _ _ c.before.loop.invariant.1 (omega arith)
 
 pub has-bad-code-spec : {M : Type 1} → statement M
 has-bad-code-spec =

@@ -1,7 +1,7 @@
 use borrow.Author.Rules.{rules}
 use mathlib.Core.Path.{sym, ap, ◌∙◌}
 use Rattle.refusal.specs.Answers.{answered}
-use Rattle.sheet_join.proofs.JoinOutcomes.{join-refused, join-accepted-as}
+use Rattle.sheet_join.proofs.JoinOutcomes.{join_refused, join_accepted_as}
 use Rattle.sheet_join.proofs.join.Statement.{statement}
 use Rattle.sheet_join.proofs.join.Tie as tie
 
@@ -26,12 +26,12 @@ returns : tie.Need-returns
 returns c =
     let joined = c.before.before in
     let told = joined.before.before in
-    join-accepted-as _ _ _ (ap answered (sym told.enum_told.given.1) ∙ told.before.before.verdict.ensures) joined.join-accepted.ensures
+    join_accepted_as _ _ _ (ap answered (sym told.enum_told.given.1) ∙ told.before.before.verdict.ensures) joined.join-accepted.ensures
 
 returns-2 : tie.Need-returns-2
 returns-2 c =
     let told = c.before in
-    join-refused _ _ _ (ap answered (sym told.refused.given.1) ∙ told.before.before.verdict.ensures)
+    join_refused _ _ _ (ap answered (sym told.refused.given.1) ∙ told.before.before.verdict.ensures)
 
 pub join-spec : {M : Type 1} → statement M
 join-spec =

@@ -3,14 +3,14 @@ use Prim.Native.Nat.{ℕ, ◌+◌, ◌≤◌}
 use mathlib.Core.Path.{◌≡◌, sym, subst, ◌∙◌}
 use native.Mathlib.Omega.{arith}
 use lib.ListN.{length, set, length-set}
-use Rattle.sizes.specs.Sizes.{largestOrder}
+use Rattle.sizes.specs.Sizes.{largest_order}
 use Rattle.sizes.proofs.Orders.{order_is}
-use Rattle.sheet.specs.Format.{sheetLength}
-use Rattle.sheet.proofs.Forms.{Width, width-for-fits}
-use Rattle.sheet_reader.proofs.AcceptedSheets.{readable-alone}
-use Rattle.sheet_join.specs.Join.{jointOrder, BothAccepted}
+use Rattle.sheet.specs.Format.{sheet_length}
+use Rattle.sheet.proofs.Forms.{Width, width_for_fits}
+use Rattle.sheet_reader.proofs.AcceptedSheets.{readable_alone}
+use Rattle.sheet_join.specs.Join.{joint_order, BothAccepted}
 use Rattle.sheet_join.proofs.Tables.{Joinable, joinable}
-use Rattle.sheet_join.proofs.JoinOutcomes.{joined-over}
+use Rattle.sheet_join.proofs.JoinOutcomes.{joined_over}
 use Rattle.sheet_join.proofs.join_accepted.Statement.{statement}
 use Rattle.sheet_join.proofs.join_accepted.Tie as tie
 
@@ -18,40 +18,40 @@ known : (c : tie.Start) → Joinable c.args.first.now c.args.second.now (length 
 known c = joinable _ _ _ c.requires
 
 both : (c : tie.Start) → BothAccepted c.args.first.now c.args.second.now
-both c = let k = known c in (k.first_good, k.second-good)
+both c = let k = known c in (k.first_good, k.second_good)
 
 -- ---- the order
-abbrev at-start : tie.After-order-in2 → tie.Start
-at-start c = c.before.before.before.before.before
+abbrev at_start : tie.After-order-in2 → tie.Start
+at_start c = c.before.before.before.before.before
 
 abbrev order : tie.After-order-in2 → ℕ
-order c = c.before.order-in.result + c.order-in2.result
+order c = c.before.order_in.result + c.order-in2.result
 
-order-found : (c : tie.After-order-in2) → order c ≡ jointOrder (at-start c).args.first.now (at-start c).args.second.now
-order-found c = omega (arith, c.before.order-in.ensures, c.order-in2.ensures)
+order-found : (c : tie.After-order-in2) → order c ≡ joint_order (at_start c).args.first.now (at_start c).args.second.now
+order-found c = omega (arith, c.before.order_in.ensures, c.order-in2.ensures)
 
-small : (c : tie.After-order-in2) → order c ≤ largestOrder
-small c = omega (arith, order-found c, (order_is _ (known (at-start c)).order).1)
+small : (c : tie.After-order-in2) → order c ≤ largest_order
+small c = omega (arith, order-found c, (order_is _ (known (at_start c)).order).1)
 
 -- ---- the width
-width_fits : (c : tie.After-joint-width) → Width c.joint-width.result
-width_fits c = rw c.joint-width.ensures (width-for-fits _)
+width_fits : (c : tie.After-joint-width) → Width c.joint_width.result
+width_fits c = rw c.joint_width.ensures (width_for_fits _)
 
 -- there is room for the form of this width
-room : (c : tie.After-joint-width) → sheetLength c.joint-width.result (order c.before) ≤ length (at-start c.before).args.sheet.now
+room : (c : tie.After-joint-width) → sheet_length c.joint_width.result (order c.before) ≤ length (at_start c.before).args.sheet.now
 room c =
-    let start = at-start c.before in
-    subst (λ (w : ℕ). sheetLength w (order c.before) ≤ length start.args.sheet.now) (sym c.joint-width.ensures)
+    let start = at_start c.before in
+    subst (λ (w : ℕ). sheet_length w (order c.before) ≤ length start.args.sheet.now) (sym c.joint_width.ensures)
     (rw (← (order-found c.before)) at (known start).room)
 
 -- ---- the head leaves the length
 abbrev at_width : tie.After-larger → tie.After-joint-width
 at_width c = c.before.before.before.before
 
-as_long : (c : tie.After-larger) → let width = at_width c in let sheet = (at-start width.before).args.sheet.now in
+as_long : (c : tie.After-larger) → let width = at_width c in let sheet = (at_start width.before).args.sheet.now in
     length (set (set sheet 0 c.before.before.before.first_byte.result) 1 c.larger.result) ≡ length sheet
 as_long c =
-    let sheet = (at-start (at_width c).before).args.sheet.now in
+    let sheet = (at_start (at_width c).before).args.sheet.now in
     let first = c.before.before.before.first_byte.result in
     length-set (set sheet 0 first) 1 c.larger.result ∙ length-set sheet 0 first
 
@@ -65,7 +65,7 @@ add-n : tie.Need-overflow-add-n
 add-n c = omega (arith, small c)
 
 joint-width-requires : tie.Need-joint-width-requires
-joint-width-requires c κs = both (at-start c)
+joint-width-requires c κs = both (at_start c)
 
 first-byte-requires : tie.Need-first-byte-requires
 first-byte-requires c κs = small c.before
@@ -75,13 +75,13 @@ slice-write-sheet c = omega (arith, room c.before)
 
 shared-slice-read-larger : tie.Need-shared-slice-read-larger
 shared-slice-read-larger c =
-    let start = at-start c.before.before.before in
-    omega (arith, (readable-alone _ (known start).first_good).head)
+    let start = at_start c.before.before.before in
+    omega (arith, (readable_alone _ (known start).first_good).head)
 
 shared-slice-read-larger-2 : tie.Need-shared-slice-read-larger-2
 shared-slice-read-larger-2 c =
-    let start = at-start c.before.before.before.before in
-    omega (arith, (readable-alone _ (known start).second-good).head)
+    let start = at_start c.before.before.before.before in
+    omega (arith, (readable_alone _ (known start).second_good).head)
 
 larger-requires : tie.Need-larger-requires
 larger-requires c κs = search rules
@@ -95,7 +95,7 @@ write-codes-requires c κs =
     let width = at_width head in
     let found = width.before in
     let fits = width_fits width in
-    (both (at-start found), order-found found, small found, fits.0, fits.1, omega (arith, room width, as_long head))
+    (both (at_start found), order-found found, small found, fits.0, fits.1, omega (arith, room width, as_long head))
 
 abbrev at_head : tie.After-write-entries-arg → tie.After-larger
 at_head c = c.before.before.before.before.before
@@ -105,7 +105,7 @@ write-entries-requires c κs =
     let head = at_head c in
     let width = at_width head in
     let found = width.before in
-    (both (at-start found), order-found found, small found, (width_fits width).1, omega (arith, room width, as_long head))
+    (both (at_start found), order-found found, small found, (width_fits width).1, omega (arith, room width, as_long head))
 
 length-of-requires : tie.Need-length-of-requires
 length-of-requires c κs =
@@ -121,8 +121,8 @@ returns c =
     let codes = entries.before.before.before.before in
     let head = at_head entries.before in
     let width = at_width head in
-    let start = at-start width.before in
-    joined-over _ _ start.args.sheet.now (known start).room (order-found width.before) width.joint-width.ensures
+    let start = at_start width.before in
+    joined_over _ _ start.args.sheet.now (known start).room (order-found width.before) width.joint_width.ensures
     head.before.before.before.first_byte.ensures head.larger.ensures codes.write-codes.ensures entries.write_entries.ensures
     c.length-of.ensures
 

@@ -5,37 +5,37 @@ use mathlib.Core.Bool.{false}
 use native.Mathlib.Omega.{arith}
 use lib.ListN.{get_or}
 use Rattle.lists.specs.Bounded.{any}
-use Rattle.lists.proofs.Bounded.{any_none, any-more}
-use Rattle.sheet.specs.Format.{order_in, codesIn}
-use Rattle.sheet_reader.proofs.AcceptedSheets.{code-room, code-found}
-use Rattle.sheet_join.specs.Join.{hasCode, sharedCode}
+use Rattle.lists.proofs.Bounded.{any_none, any_more}
+use Rattle.sheet.specs.Format.{order_in, codes_in}
+use Rattle.sheet_reader.proofs.AcceptedSheets.{code_room, code_found}
+use Rattle.sheet_join.specs.Join.{has_code, shared_code}
 use Rattle.sheet_join.proofs.JointContents.{one_passes, none_passes}
 use Rattle.sheet_join.proofs.shares_a_code.Statement.{statement}
 use Rattle.sheet_join.proofs.shares_a_code.Tie as tie
 
 -- None of the first k codes of the first sheet is one of the second; its other codes are left.
 abbrev invariant-loop : tie.invariant-loop
-invariant-loop first second width k₀ k-end k = (k ≤ order_in first) × (any k (λ i. hasCode (get_or (codesIn first) i 0) (codesIn second)) ≡ false)
+invariant-loop first second width k₀ k-end k = (k ≤ order_in first) × (any k (λ i. has_code (get_or (codes_in first) i 0) (codes_in second)) ≡ false)
 
 abbrev decreases-loop : tie.decreases-loop
 decreases-loop first second width k₀ k-end k = order_in first - k
 
-abbrev at-start : tie.At-loop invariant-loop decreases-loop → tie.Start invariant-loop decreases-loop
-at-start c = c.before.before.before.before.before
+abbrev at_start : tie.At-loop invariant-loop decreases-loop → tie.Start invariant-loop decreases-loop
+at_start c = c.before.before.before.before.before
 
 -- the code that is tested is one of the first sheet
-below : (c : tie.In-loop invariant-loop decreases-loop) → c.before.loop.k < order_in (at-start c.before).args.first.now
-below c = omega (arith, c.loop-test.true, c.before.before.order-in.ensures)
+below : (c : tie.In-loop invariant-loop decreases-loop) → c.before.loop.k < order_in (at_start c.before).args.first.now
+below c = omega (arith, c.loop-test.true, c.before.before.order_in.ensures)
 
 -- the test of it
-tested : (c : tie.After-has-code invariant-loop decreases-loop) → let at-loop = c.before.before.before in let a = (at-start at-loop).args in
-    c.has_code.result ≡ hasCode (get_or (codesIn a.first.now) at-loop.loop.k 0) (codesIn a.second.now)
+tested : (c : tie.After-has-code invariant-loop decreases-loop) → let at-loop = c.before.before.before in let a = (at_start at-loop).args in
+    c.has_code.result ≡ has_code (get_or (codes_in a.first.now) at-loop.loop.k 0) (codes_in a.second.now)
 tested c =
     let at_code = c.before in
     let at-loop = at_code.before.before in
     c.has_code.ensures
-    ∙ ap (λ (x : ℕ). hasCode x (codesIn (at-start at-loop).args.second.now))
-    (code-found _ (at-start at-loop).requires.0 at-loop.before.before.width-in.ensures _ (below at_code.before) at_code.code_at.ensures)
+    ∙ ap (λ (x : ℕ). has_code x (codes_in (at_start at-loop).args.second.now))
+    (code_found _ (at_start at-loop).requires.0 at-loop.before.before.width-in.ensures _ (below at_code.before) at_code.code_at.ensures)
 
 width-in-requires : tie.Need-width-in-requires invariant-loop decreases-loop
 width-in-requires c κs = search rules
@@ -49,13 +49,13 @@ loop-holds c = (omega arith, any_none _)
 code-at-requires : tie.Need-code-at-requires invariant-loop decreases-loop
 code-at-requires c κs =
     let at-loop = c.before in
-    code-room _ (at-start at-loop).requires.0 at-loop.before.before.width-in.ensures _ (below c)
+    code_room _ (at_start at-loop).requires.0 at-loop.before.before.width-in.ensures _ (below c)
 
 has-code-requires : tie.Need-has-code-requires invariant-loop decreases-loop
-has-code-requires c κs = (at-start c.before.before).pre.1
+has-code-requires c κs = (at_start c.before.before).pre.1
 
 returns : tie.Need-returns invariant-loop decreases-loop
-unfolding sharedCode
+unfolding shared_code
 returns c =
     let at_test = c.before in
     one_passes _ _ _ (below at_test.before.before) (sym (tested at_test) ∙ c.if1.true)
@@ -70,13 +70,13 @@ loop-again : tie.Need-loop-preserved invariant-loop decreases-loop
 loop-again c =
     let at_test = c.before in
     let b = below at_test.before.before in
-    (omega arith, any-more _ _ at_test.before.before.before.loop.invariant.1 (sym (tested at_test) ∙ c.if1.false))
+    (omega arith, any_more _ _ at_test.before.before.before.loop.invariant.1 (sym (tested at_test) ∙ c.if1.false))
 
 returns-2 : tie.Need-returns-2 invariant-loop decreases-loop
-unfolding sharedCode
+unfolding shared_code
 returns-2 c =
     let at-loop = c.before in
-    let all : at-loop.loop.k ≡ order_in (at-start at-loop).args.first.now = omega (arith, c.loop-test.false, at-loop.before.order-in.ensures) in
+    let all : at-loop.loop.k ≡ order_in (at_start at-loop).args.first.now = omega (arith, c.loop-test.false, at-loop.before.order_in.ensures) in
     none_passes _ _ _ all at-loop.loop.invariant.1
 
 pub shares-a-code-spec : {M : Type 1} → statement M

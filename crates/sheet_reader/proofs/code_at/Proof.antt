@@ -2,7 +2,7 @@ use Prim.Native.Nat.{◌+◌, ◌*◌, ◌≤◌}
 use mathlib.Core.Path.{◌≡◌}
 use native.Mathlib.Omega.{arith}
 use lib.ListN.{length}
-use Rattle.sheet_reader.proofs.SheetContents.{code-of-one, code-of-two}
+use Rattle.sheet_reader.proofs.SheetContents.{code_of_one, code_of_two}
 use Rattle.sheet_reader.proofs.code_at.Statement.{statement}
 use Rattle.sheet_reader.proofs.code_at.Tie as tie
 
@@ -26,7 +26,7 @@ cast-result : tie.Need-overflow-cast-result
 cast-result c = omega (arith, c.shared-slice-known.given (2 + c.before.before.args.k))
 
 returns : tie.Need-returns
-returns c = rw c.before.if1.true (code-of-one _ _)
+returns c = rw c.before.if1.true (code_of_one _ _)
 
 mul-result : tie.Need-overflow-mul-result
 mul-result c = omega (arith, room-of-two c)
@@ -61,7 +61,7 @@ add-result-4 c =
     omega (arith, c.before.shared-slice-known2.given (2 + 2 * k), c.shared-slice-known3.given (3 + 2 * k))
 
 returns-2 : tie.Need-returns-2
-returns-2 c = rw (two c.before.before) (code-of-two _ _)
+returns-2 c = rw (two c.before.before) (code_of_two _ _)
 
 pub code-at-spec : {M : Type 1} → statement M
 code-at-spec =

@@ -8,11 +8,11 @@ use lib.Ieee.{binary64, of_bits}
 use Rattle.float64.specs.Values.{finite}
 use Rattle.refusal.specs.Answers.{given, answered, first}
 use Rattle.refusal.specs.declared.Answer.TheVariants.{Accepted}
-use Rattle.refusal.proofs.FirstRefusal.{first-none, first_more}
-use Rattle.sheet.specs.Format.{entriesFrom, entriesTo, patternIn}
-use Rattle.sheet.proofs.Triangle.{offset-start, offset-row, entry-within}
-use Rattle.sheet_reader.specs.Reader.{notFiniteIn}
-use Rattle.sheet_reader.proofs.SheetContents.{pattern-read, tested-as, is_finite, none_found, one_found}
+use Rattle.refusal.proofs.FirstRefusal.{first_none, first_more}
+use Rattle.sheet.specs.Format.{entries_from, entries_to, pattern_in}
+use Rattle.sheet.proofs.Triangle.{offset_start, offset_row, entry_within}
+use Rattle.sheet_reader.specs.Reader.{not_finite_in}
+use Rattle.sheet_reader.proofs.SheetContents.{pattern_read, tested_as, is_finite, none_found, one_found}
 use Rattle.sheet_reader.proofs.first_not_finite.Statement.{statement}
 use Rattle.sheet_reader.proofs.first_not_finite.Tie as tie
 
@@ -20,37 +20,37 @@ use Rattle.sheet_reader.proofs.first_not_finite.Tie as tie
 -- n - i rows are left. In both nothing is found so far, and the offset is that of the next entry.
 abbrev invariant-loop : tie.invariant-loop
 invariant-loop width n sheet found₀ offset₀ i j₀ j-end found offset j =
-    (j ≤ i + 1) × (found ≡ Accepted) × (offset ≡ offset₀ + 8 * j) × (first j (notFiniteIn sheet (i + 1)) ≡ given tt)
+    (j ≤ i + 1) × (found ≡ Accepted) × (offset ≡ offset₀ + 8 * j) × (first j (not_finite_in sheet (i + 1)) ≡ given tt)
 
 abbrev decreases-loop : tie.decreases-loop
 decreases-loop width n sheet found₀ offset₀ i j₀ j-end found offset j = i + 1 - j
 
 abbrev invariant-rows : tie.invariant-rows
 invariant-rows width n sheet found₀ offset₀ i₀ found offset i =
-    (i ≤ n) × (found ≡ Accepted) × (offset ≡ entriesFrom width n + 8 * entriesTo i) × (first i (λ r. first r (notFiniteIn sheet r)) ≡ given tt)
+    (i ≤ n) × (found ≡ Accepted) × (offset ≡ entries_from width n + 8 * entries_to i) × (first i (λ r. first r (not_finite_in sheet r)) ≡ given tt)
 
 abbrev decreases-rows : tie.decreases-rows
 decreases-rows width n sheet found₀ offset₀ i₀ found offset i = n - i
 
-abbrev at-start : tie.In-loop invariant-loop decreases-loop invariant-rows decreases-rows → tie.Start invariant-loop decreases-loop invariant-rows decreases-rows
-at-start c = c.before.before.before.before.before
+abbrev at_start : tie.In-loop invariant-loop decreases-loop invariant-rows decreases-rows → tie.Start invariant-loop decreases-loop invariant-rows decreases-rows
+at_start c = c.before.before.before.before.before
 
 -- where this entry begins
-offset-is : (c : tie.In-loop invariant-loop decreases-loop invariant-rows decreases-rows) → let at_rows = c.before.before.before in let a = (at-start c).args in
-    c.before.loop.offset ≡ entriesFrom a.width a.n + 8 * (entriesTo at_rows.rows.i + c.before.loop.j)
+offset-is : (c : tie.In-loop invariant-loop decreases-loop invariant-rows decreases-rows) → let at_rows = c.before.before.before in let a = (at_start c).args in
+    c.before.loop.offset ≡ entries_from a.width a.n + 8 * (entries_to at_rows.rows.i + c.before.loop.j)
 offset-is c = let at_rows = c.before.before.before in omega (arith, c.before.loop.invariant.2, at_rows.rows.invariant.2)
 
 -- there is room for it
-room : (c : tie.In-loop invariant-loop decreases-loop invariant-rows decreases-rows) → c.before.loop.offset + 8 ≤ length (at-start c).args.sheet.now
-room c = let w = entry-within _ _ _ _ (omega arith) c.before.before.rows-test.true (offset-is c) in omega (arith, w, (at-start c).requires.3)
+room : (c : tie.In-loop invariant-loop decreases-loop invariant-rows decreases-rows) → c.before.loop.offset + 8 ≤ length (at_start c).args.sheet.now
+room c = let w = entry_within _ _ _ _ (omega arith) c.before.before.rows-test.true (offset-is c) in omega (arith, w, (at_start c).requires.3)
 
 -- the test of this entry
 tested : (c : tie.After-is-finite-pattern invariant-loop decreases-loop invariant-rows decreases-rows) → let in-loop = c.before.before in let at_rows = in-loop.before.before.before in
-    let pattern = patternIn (at-start in-loop).args.sheet.now (at_rows.rows.i + 1) (in-loop.before.loop.j + 1) in
+    let pattern = pattern_in (at_start in-loop).args.sheet.now (at_rows.rows.i + 1) (in-loop.before.loop.j + 1) in
     finite (of_bits binary64 pattern) ≡ c.is-finite-pattern.result
 tested c =
     let in-loop = c.before.before in
-    tested-as _ _ _ (pattern-read _ _ _ (at-start in-loop).requires (offset-is in-loop) c.before.word_at.ensures) c.is-finite-pattern.ensures
+    tested_as _ _ _ (pattern_read _ _ _ (at_start in-loop).requires (offset-is in-loop) c.before.word_at.ensures) c.is-finite-pattern.ensures
 
 mul-offset : tie.Need-overflow-mul-offset invariant-loop decreases-loop invariant-rows decreases-rows
 mul-offset c = omega (arith, c.before.requires.3)
@@ -59,13 +59,13 @@ add-offset : tie.Need-overflow-add-offset invariant-loop decreases-loop invarian
 add-offset c = omega (arith, c.before.requires.3)
 
 rows-holds : tie.Need-rows-init invariant-loop decreases-loop invariant-rows decreases-rows
-rows-holds c = (omega arith, refl, offset-start _ _, first-none _)
+rows-holds c = (omega arith, refl, offset_start _ _, first_none _)
 
 add-j-end : tie.Need-overflow-add-j-end invariant-loop decreases-loop invariant-rows decreases-rows
 add-j-end c = omega arith
 
 loop-holds : tie.Need-loop-init invariant-loop decreases-loop invariant-rows decreases-rows
-loop-holds c = (omega arith, search rules, omega arith, first-none _)
+loop-holds c = (omega arith, search rules, omega arith, first_none _)
 
 word-at-requires : tie.Need-word-at-requires invariant-loop decreases-loop invariant-rows decreases-rows
 word-at-requires c κs = room c
@@ -106,7 +106,7 @@ rows-again c =
     let all : at-loop.loop.j ≡ at_rows.rows.i + 1 = omega arith in (
       omega arith,
       search rules,
-      offset-row _ _ _ at_rows.rows.invariant.2 (rw all at at-loop.loop.invariant.2),
+      offset_row _ _ _ at_rows.rows.invariant.2 (rw all at at-loop.loop.invariant.2),
       first_more _ _ at_rows.rows.invariant.3 (rw all at at-loop.loop.invariant.3),
     )
 

@@ -3,41 +3,41 @@ use Prim.Native.Nat.{◌+◌, ◌*◌, ◌/◌, ◌<◌, ◌≤◌}
 use mathlib.Core.Path.{◌≡◌}
 use native.Mathlib.Nat.{mul-le-mul}
 use native.Mathlib.Omega.{arith}
-use Rattle.sizes.specs.Sizes.{largestOrder}
-use Rattle.sheet.specs.Format.{entriesFrom, entriesTo}
+use Rattle.sizes.specs.Sizes.{largest_order}
+use Rattle.sheet.specs.Format.{entries_from, entries_to}
 use Rattle.sheet.proofs.Forms.{width_fits}
-use Rattle.sheet.proofs.Triangle.{closed, few-codes, entry-within}
+use Rattle.sheet.proofs.Triangle.{closed, few_codes, entry_within}
 use Rattle.sheet_reader.specs.Reader.{OfForm}
-use Rattle.sheet_reader.proofs.AcceptedSheets.{readable-alone}
-use Rattle.sheet_reader.proofs.SheetContents.{pattern-read}
-use Rattle.sheet_reader.proofs.Tables.{readable-form}
+use Rattle.sheet_reader.proofs.AcceptedSheets.{readable_alone}
+use Rattle.sheet_reader.proofs.SheetContents.{pattern_read}
+use Rattle.sheet_reader.proofs.Tables.{readable_form}
 use Rattle.sheet_reader.proofs.pattern_at.Statement.{statement}
 use Rattle.sheet_reader.proofs.pattern_at.Tie as tie
 
-abbrev at-start : tie.After-order-in → tie.Start
-at-start c = c.before.before.before
+abbrev at_start : tie.After-order-in → tie.Start
+at_start c = c.before.before.before
 
 -- the form of the sheet, as it was found
-form : (c : tie.After-order-in) → OfForm c.before.width-in.result c.order-in.result (at-start c).args.sheet.now
-form c = readable-form _ _ _ (readable-alone _ (at-start c).requires.0) c.before.width-in.ensures c.order-in.ensures
+form : (c : tie.After-order-in) → OfForm c.before.width-in.result c.order_in.result (at_start c).args.sheet.now
+form c = readable_form _ _ _ (readable_alone _ (at_start c).requires.0) c.before.width-in.ensures c.order_in.ensures
 
 -- the sizes are small
-few : (c : tie.After-order-in) → let a = (at-start c).args in
-    (c.before.width-in.result * c.order-in.result ≤ 2 * largestOrder) × (a.i * (a.i + 1) ≤ largestOrder * (largestOrder + 1)) × (a.j ≤ a.i)
-    × (a.i ≤ largestOrder)
+few : (c : tie.After-order-in) → let a = (at_start c).args in
+    (c.before.width-in.result * c.order_in.result ≤ 2 * largest_order) × (a.i * (a.i + 1) ≤ largest_order * (largest_order + 1)) × (a.j ≤ a.i)
+    × (a.i ≤ largest_order)
 few c =
     let f = form c in
-    let p = (at-start c).requires in
-    let w = width_fits (at-start c).args.sheet.now in
-    let o : (at-start c).args.i ≤ largestOrder = omega (arith, f.1, f.2, p.2) in
-    let o' : (at-start c).args.i + 1 ≤ largestOrder + 1 = omega arith in
-    (few-codes _ _ (omega (arith, f.0, w.1)) f.2, mul-le-mul o o', p.1, o)
+    let p = (at_start c).requires in
+    let w = width_fits (at_start c).args.sheet.now in
+    let o : (at_start c).args.i ≤ largest_order = omega (arith, f.1, f.2, p.2) in
+    let o' : (at_start c).args.i + 1 ≤ largest_order + 1 = omega arith in
+    (few_codes _ _ (omega (arith, f.0, w.1)) f.2, mul-le-mul o o', p.1, o)
 
 -- where the entry begins
-offset : (c : tie.After-order-in) → let a = (at-start c).args in
-    2 + c.before.width-in.result * c.order-in.result + 8 * (a.i * (a.i + 1) / 2 + a.j)
-    ≡ entriesFrom c.before.width-in.result c.order-in.result + 8 * (entriesTo a.i + a.j)
-offset c = let z = closed (at-start c).args.i in omega arith
+offset : (c : tie.After-order-in) → let a = (at_start c).args in
+    2 + c.before.width-in.result * c.order_in.result + 8 * (a.i * (a.i + 1) / 2 + a.j)
+    ≡ entries_from c.before.width-in.result c.order_in.result + 8 * (entries_to a.i + a.j)
+offset c = let z = closed (at_start c).args.i in omega arith
 
 width-in-requires : tie.Need-width-in-requires
 width-in-requires c κs = search rules
@@ -68,11 +68,11 @@ add-word-at-3 c = let f = few c in omega (arith, f.0, f.1, f.2, f.3)
 
 word-at-requires : tie.Need-word-at-requires
 word-at-requires c κs =
-    let below : (at-start c).args.i < c.order-in.result = omega (arith, (at-start c).requires.2, c.order-in.ensures) in
-    omega (arith, entry-within _ _ _ _ (few c).2 below (offset c), (form c).3)
+    let below : (at_start c).args.i < c.order_in.result = omega (arith, (at_start c).requires.2, c.order_in.ensures) in
+    omega (arith, entry_within _ _ _ _ (few c).2 below (offset c), (form c).3)
 
 returns : tie.Need-returns
-returns c = pattern-read _ _ _ (form c.before) (offset c.before) c.word_at.ensures
+returns c = pattern_read _ _ _ (form c.before) (offset c.before) c.word_at.ensures
 
 pub pattern-at-spec : {M : Type 1} → statement M
 pattern-at-spec =

@@ -1,6 +1,6 @@
 use mathlib.Core.Path.{sym, ap, ◌∙◌}
 use Rattle.refusal.specs.Answers.{answered}
-use Rattle.sheet_reader.proofs.SheetContents.{read-refused, read-accepted-as}
+use Rattle.sheet_reader.proofs.SheetContents.{read_refused, read_accepted_as}
 use borrow.Author.Rules.{rules}
 use Rattle.sheet_reader.proofs.read.Statement.{statement}
 use Rattle.sheet_reader.proofs.read.Tie as tie
@@ -29,12 +29,12 @@ returns : tie.Need-returns
 returns c =
     let read = c.before.before.before.before in
     let told = read.before.before.before in
-    read-accepted-as _ _ _ (ap answered (sym told.enum_told.given.1) ∙ told.before.before.verdict.ensures) read.read-accepted.ensures
+    read_accepted_as _ _ _ (ap answered (sym told.enum_told.given.1) ∙ told.before.before.verdict.ensures) read.read-accepted.ensures
 
 returns-2 : tie.Need-returns-2
 returns-2 c =
     let told = c.before in
-    read-refused _ _ _ (ap answered (sym told.refused.given.1) ∙ told.before.before.verdict.ensures)
+    read_refused _ _ _ (ap answered (sym told.refused.given.1) ∙ told.before.before.verdict.ensures)
 
 pub read_spec : {M : Type 1} → statement M
 read_spec =

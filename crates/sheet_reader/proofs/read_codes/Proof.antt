@@ -3,8 +3,8 @@ use native.Mathlib.Omega.{arith}
 use Rattle.lists.proofs.Filled.{Filled, filled_none, filled_next}
 use Rattle.sheet.specs.Format.{code_in}
 use Rattle.sheet.proofs.Forms.{width_fits}
-use Rattle.sheet.proofs.Triangle.{code-ends}
-use Rattle.sheet_reader.proofs.SheetContents.{codes-read}
+use Rattle.sheet.proofs.Triangle.{code_ends}
+use Rattle.sheet_reader.proofs.SheetContents.{codes_read}
 use Rattle.sheet_reader.proofs.read_codes.Statement.{statement}
 use Rattle.sheet_reader.proofs.read_codes.Tie as tie
 
@@ -23,7 +23,7 @@ code-at-requires c κs =
     let start = c.before.before.before.before in
     let form = start.requires.0 in
     let w = width_fits start.args.sheet.now in
-    (rw form.0 w.0, rw form.0 w.1, omega (arith, code-ends start.args.width _ _ c.loop-test.true, form.3))
+    (rw form.0 w.0, rw form.0 w.1, omega (arith, code_ends start.args.width _ _ c.loop-test.true, form.3))
 
 mul-codes : tie.Need-overflow-mul-codes invariant-loop decreases-loop
 mul-codes c = omega arith
@@ -46,7 +46,7 @@ same_length : tie.Need-same-length invariant-loop decreases-loop
 same_length c = omega arith
 
 returns : tie.Need-returns invariant-loop decreases-loop
-returns c = codes-read _ _ _ c.before.before.before.before.requires.0 c.before.loop.invariant.1 c.loop-test.false
+returns c = codes_read _ _ _ c.before.before.before.before.requires.0 c.before.loop.invariant.1 c.loop-test.false
 
 pub read-codes-spec : {M : Type 1} → statement M
 read-codes-spec =

@@ -4,13 +4,13 @@ use mathlib.Core.Path.{◌≡◌, sym, ap, ◌∙◌}
 use mathlib.Core.Bool.{true}
 use native.Mathlib.Omega.{arith}
 use Rattle.refusal.specs.Answers.{answered}
-use Rattle.sizes.specs.Sizes.{is_order, largestOrder, mostSweeps}
-use Rattle.sizes.proofs.Orders.{order_is, sizes-given}
-use Rattle.sheet.specs.Format.{sweepsIn}
-use Rattle.sheet.proofs.Triangle.{few-entries}
+use Rattle.sizes.specs.Sizes.{is_order, largest_order, most_sweeps}
+use Rattle.sizes.proofs.Orders.{order_is, sizes_given}
+use Rattle.sheet.specs.Format.{sweeps_in}
+use Rattle.sheet.proofs.Triangle.{few_entries}
 use Rattle.sheet.proofs.Forms.{width_fits}
 use Rattle.sheet_reader.specs.Reader.{OfForm}
-use Rattle.sheet_reader.proofs.Tables.{head-short, sizes-refused, codes-length, matrix-length, sheet-length, read-4, read-5}
+use Rattle.sheet_reader.proofs.Tables.{head_short, sizes_refused, codes_length, matrix_length, sheet_length_lem, read_4, read_5}
 use Rattle.sheet_reader.proofs.verdict.Statement.{statement}
 use Rattle.sheet_reader.proofs.verdict.Tie as tie
 
@@ -19,10 +19,10 @@ at-found c = c.before.before.before.before
 
 -- past the test of the sizes
 sized : (c : tie.After-enum-told) → let found = at-found c in
-    (is_order found.order-in.result ≡ true) × (sweepsIn found.before.before.before.args.sheet.now ≤ mostSweeps)
-sized c = sizes-given _ _ (sym (ap answered (sym c.enum_told.given.1) ∙ c.before.before.tested.ensures))
+    (is_order found.order_in.result ≡ true) × (sweeps_in found.before.before.before.args.sheet.now ≤ most_sweeps)
+sized c = sizes_given _ _ (sym (ap answered (sym c.enum_told.given.1) ∙ c.before.before.tested.ensures))
 
-small : (c : tie.After-enum-told) → (at-found c).order-in.result ≤ largestOrder
+small : (c : tie.After-enum-told) → (at-found c).order_in.result ≤ largest_order
 small c = (order_is _ (sized c).0).1
 
 -- what is known of the sheet past the test of its length
@@ -30,13 +30,13 @@ abbrev at-sizes : tie.After-width-in → tie.After-enum-told
 at-sizes c = c.before.before.before
 
 form : (c : tie.Else4) → let width = c.before.before in let found = at-found (at-sizes width) in
-    OfForm width.width-in.result found.order-in.result found.before.before.before.args.sheet.now
+    OfForm width.width-in.result found.order_in.result found.before.before.before.args.sheet.now
 form c =
     let width = c.before.before in
-    (width.width-in.ensures, (at-found (at-sizes width)).order-in.ensures, small (at-sizes width), c.if4.false ∙ c.before.length-of.ensures)
+    (width.width-in.ensures, (at-found (at-sizes width)).order_in.ensures, small (at-sizes width), c.if4.false ∙ c.before.length-of.ensures)
 
 returns : tie.Need-returns
-returns c = head-short _ _ _ (omega arith)
+returns c = head_short _ _ _ (omega arith)
 
 order-in-requires : tie.Need-order-in-requires
 order-in-requires c κs = search rules
@@ -60,21 +60,21 @@ returns-2 : tie.Need-returns-2
 returns-2 c =
     let at-match = c.before in
     let tested = at-match.before.before in
-    sizes-refused _ _ _ (omega arith) tested.before.before.order-in.ensures (ap answered (sym at-match.refused.given.1) ∙ tested.tested.ensures)
+    sizes_refused _ _ _ (omega arith) tested.before.before.order_in.ensures (ap answered (sym at-match.refused.given.1) ∙ tested.tested.ensures)
 
 returns-3 : tie.Need-returns-3
 returns-3 c =
     let s = sized c.before in
-    codes-length _ _ _ (omega arith) (at-found c.before).order-in.ensures s.0 s.1 c.if2.true
+    codes_length _ _ _ (omega arith) (at-found c.before).order_in.ensures s.0 s.1 c.if2.true
 
 mul-if3 : tie.Need-overflow-mul-if3
-mul-if3 c = omega (arith, (few-entries _ (small c.before)).0)
+mul-if3 c = omega (arith, (few_entries _ (small c.before)).0)
 
 returns-4 : tie.Need-returns-4
 returns-4 c =
     let codes = c.before in
     let s = sized codes.before in
-    matrix-length _ _ _ (omega arith) (at-found codes.before).order-in.ensures s.0 s.1 codes.if2.false c.if3.true
+    matrix_length _ _ _ (omega arith) (at-found codes.before).order_in.ensures s.0 s.1 codes.if2.false c.if3.true
 
 width-in-requires : tie.Need-width-in-requires
 width-in-requires c κs = search rules
@@ -89,7 +89,7 @@ returns-5 c =
     let width = c.before.before in
     let matrix = width.before in
     let s = sized (at-sizes width) in
-    sheet-length _ _ _ (omega arith) (at-found (at-sizes width)).order-in.ensures s.0 s.1 matrix.before.if2.false matrix.if3.false
+    sheet_length_lem _ _ _ (omega arith) (at-found (at-sizes width)).order_in.ensures s.0 s.1 matrix.before.if2.false matrix.if3.false
     width.width-in.ensures (λ e. c.if4.true (e ∙ sym c.before.length-of.ensures))
 
 has-refused-code-requires : tie.Need-has-refused-code-requires
@@ -101,7 +101,7 @@ returns-6 c =
     let width = long.before.before in
     let matrix = width.before in
     let s = sized (at-sizes width) in
-    read-4 _ _ _ (omega arith) (at-found (at-sizes width)).order-in.ensures s.0 s.1 matrix.before.if2.false matrix.if3.false
+    read_4 _ _ _ (omega arith) (at-found (at-sizes width)).order_in.ensures s.0 s.1 matrix.before.if2.false matrix.if3.false
     width.width-in.ensures (long.if4.false ∙ long.before.length-of.ensures) (sym c.before.has-refused-code.ensures ∙ c.if5.true)
 
 first-not-finite-requires : tie.Need-first-not-finite-requires
@@ -114,7 +114,7 @@ returns-7 c =
     let width = long.before.before in
     let matrix = width.before in
     let s = sized (at-sizes width) in
-    read-5 _ _ _ (omega arith) (at-found (at-sizes width)).order-in.ensures s.0 s.1 matrix.before.if2.false matrix.if3.false
+    read_5 _ _ _ (omega arith) (at-found (at-sizes width)).order_in.ensures s.0 s.1 matrix.before.if2.false matrix.if3.false
     width.width-in.ensures (long.if4.false ∙ long.before.length-of.ensures) (sym good.before.has-refused-code.ensures ∙ good.if5.false)
     c.first-not-finite.ensures
 

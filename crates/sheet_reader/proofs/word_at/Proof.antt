@@ -3,14 +3,14 @@ use mathlib.Core.Path.{◌≡◌}
 use native.Mathlib.Omega.{arith}
 use lib.Dec.{lit<}
 use lib.ListN.{get_or}
-use Rattle.sheet.specs.Format.{wordFrom}
-use Rattle.sheet.proofs.Words.{word_none, word_next, word-grows, word_room}
+use Rattle.sheet.specs.Format.{word_from}
+use Rattle.sheet.proofs.Words.{word_none, word_next, word_grows, word_room}
 use Rattle.sheet_reader.proofs.word_at.Statement.{statement}
 use Rattle.sheet_reader.proofs.word_at.Tie as tie
 
 -- The word is that of the first k bytes, and below 256 ^ k; 8 - k bytes are left.
 abbrev invariant-loop : tie.invariant-loop
-invariant-loop bytes at word₀ k₀ word k = (k ≤ 8) × (word < 256 ^ k) × (word ≡ wordFrom bytes at k)
+invariant-loop bytes at word₀ k₀ word k = (k ≤ 8) × (word < 256 ^ k) × (word ≡ word_from bytes at k)
 
 abbrev decreases-loop : tie.decreases-loop
 decreases-loop bytes at word₀ k₀ word k = 8 - k
@@ -51,7 +51,7 @@ loop-less c = omega arith
 loop-again : tie.Need-loop-preserved invariant-loop decreases-loop
 loop-again c =
     let at-loop = c.before.before in
-    (omega arith, word-grows _ _ _ at-loop.loop.invariant.1 (small c), word_next _ _ _ at-loop.loop.invariant.2)
+    (omega arith, word_grows _ _ _ at-loop.loop.invariant.1 (small c), word_next _ _ _ at-loop.loop.invariant.2)
 
 returns : tie.Need-returns invariant-loop decreases-loop
 returns c =

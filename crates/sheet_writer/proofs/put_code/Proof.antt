@@ -1,6 +1,6 @@
 use native.Mathlib.Omega.{arith}
 use lib.ListN.{length-set}
-use Rattle.sheet_writer.proofs.SheetBytes.{short-put, long-put}
+use Rattle.sheet_writer.proofs.SheetBytes.{short_put, long_put}
 use borrow.Author.Rules.{rules}
 use Rattle.sheet_writer.proofs.put_code.Statement.{statement}
 use Rattle.sheet_writer.proofs.put_code.Tie as tie
@@ -15,7 +15,7 @@ same_length : tie.Need-same-length
 same_length c = search rules
 
 returns : tie.Need-returns
-returns c = short-put _ _ _ _ c.if1.true
+returns c = short_put _ _ _ _ c.if1.true
 
 cast-bytes-2 : tie.Need-overflow-cast-bytes-2
 cast-bytes-2 c = search rules
@@ -36,7 +36,7 @@ same-length-2 : tie.Need-same-length-2
 same-length-2 c = search rules
 
 returns-2 : tie.Need-returns-2
-returns-2 c = long-put _ _ _ _ (omega arith) (omega arith)
+returns-2 c = long_put _ _ _ _ (omega arith) (omega arith)
 
 pub put-code-spec : {M : Type 1} → statement M
 put-code-spec =

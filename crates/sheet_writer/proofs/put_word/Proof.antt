@@ -1,6 +1,6 @@
 use native.Mathlib.Omega.{arith}
 use lib.ListN.{length-set}
-use Rattle.sheet_writer.proofs.SheetBytes.{word-put}
+use Rattle.sheet_writer.proofs.SheetBytes.{word_put}
 use borrow.Author.Rules.{rules}
 use Rattle.sheet_writer.proofs.put_word.Statement.{statement}
 use Rattle.sheet_writer.proofs.put_word.Tie as tie
@@ -78,7 +78,7 @@ same_length : tie.Need-same-length
 same_length c = search rules
 
 returns : tie.Need-returns
-returns c = word-put _ _ _ (omega arith)
+returns c = word_put _ _ _ (omega arith)
 
 pub put-word-spec : {M : Type 1} → statement M
 put-word-spec =

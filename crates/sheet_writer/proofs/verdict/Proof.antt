@@ -4,24 +4,24 @@ use mathlib.Core.Bool.{true}
 use native.Mathlib.Omega.{arith}
 use borrow.Author.Rules.{rules}
 use Rattle.refusal.specs.Answers.{answered}
-use Rattle.sizes.specs.Sizes.{is_order, largestOrder, mostSweeps}
-use Rattle.sizes.proofs.Orders.{order_is, sizes-given}
-use Rattle.sheet.specs.Format.{sheetLength, lengthFor}
-use Rattle.sheet.proofs.Forms.{width-for-fits}
-use Rattle.sheet.proofs.Triangle.{few-entries}
-use Rattle.sheet_writer.proofs.Tables.{sizes-refused, write-3, write-3-too, write-4, write-5-6, write-7, write-all}
+use Rattle.sizes.specs.Sizes.{is_order, largest_order, most_sweeps}
+use Rattle.sizes.proofs.Orders.{order_is, sizes_given}
+use Rattle.sheet.specs.Format.{sheet_length, length_for}
+use Rattle.sheet.proofs.Forms.{width_for_fits}
+use Rattle.sheet.proofs.Triangle.{few_entries}
+use Rattle.sheet_writer.proofs.Tables.{sizes_refused, write_3, write_3_too, write_4, write_5_6, write_7, write_all}
 use Rattle.sheet_writer.proofs.verdict.Statement.{statement}
 use Rattle.sheet_writer.proofs.verdict.Tie as tie
 
-abbrev at-start : tie.After-enum-told → tie.Start
-at-start c = c.before.before.before.before.before
+abbrev at_start : tie.After-enum-told → tie.Start
+at_start c = c.before.before.before.before.before
 
 -- past the test of the sizes
-sized : (c : tie.After-enum-told) → let a = (at-start c).args in
-    (is_order a.n ≡ true) × (a.sweeps ≤ mostSweeps)
-sized c = sizes-given _ _ (sym (ap answered (sym c.enum_told.given.1) ∙ c.before.before.tested.ensures))
+sized : (c : tie.After-enum-told) → let a = (at_start c).args in
+    (is_order a.n ≡ true) × (a.sweeps ≤ most_sweeps)
+sized c = sizes_given _ _ (sym (ap answered (sym c.enum_told.given.1) ∙ c.before.before.tested.ensures))
 
-small : (c : tie.After-enum-told) → (at-start c).args.n ≤ largestOrder
+small : (c : tie.After-enum-told) → (at_start c).args.n ≤ largest_order
 small c = (order_is _ (sized c).0).1
 
 tested-requires : tie.Need-tested-requires
@@ -36,19 +36,19 @@ enum-known-refused c = search rules
 returns : tie.Need-returns
 returns c =
     let at-match = c.before in
-    sizes-refused _ _ _ _ _ (ap answered (sym at-match.refused.given.1) ∙ at-match.before.before.tested.ensures)
+    sizes_refused _ _ _ _ _ (ap answered (sym at-match.refused.given.1) ∙ at-match.before.before.tested.ensures)
 
 returns-2 : tie.Need-returns-2
-returns-2 c = let s = sized c.before in write-3 _ _ _ _ _ s.0 s.1 c.if1.true
+returns-2 c = let s = sized c.before in write_3 _ _ _ _ _ s.0 s.1 c.if1.true
 
 mul-if2 : tie.Need-overflow-mul-if2
-mul-if2 c = omega (arith, (few-entries _ (small c.before)).0)
+mul-if2 c = omega (arith, (few_entries _ (small c.before)).0)
 
 returns-3 : tie.Need-returns-3
 returns-3 c =
     let codes = c.before in
     let s = sized codes.before in
-    write-3-too _ _ _ _ _ s.0 s.1 codes.if1.false c.if2.true
+    write_3_too _ _ _ _ _ s.0 s.1 codes.if1.false c.if2.true
 
 has-bad-code-requires : tie.Need-has-bad-code-requires
 has-bad-code-requires c κs = search rules
@@ -58,7 +58,7 @@ returns-4 c =
     let matrix = c.before.before in
     let codes = matrix.before in
     let s = sized codes.before in
-    write-4 _ _ _ _ _ s.0 s.1 codes.if1.false matrix.if2.false (sym c.before.has-bad-code.ensures ∙ c.if3.true)
+    write_4 _ _ _ _ _ s.0 s.1 codes.if1.false matrix.if2.false (sym c.before.has-bad-code.ensures ∙ c.if3.true)
 
 tested-requires-2 : tie.Need-tested-requires-2
 tested-requires-2 c κs = search rules
@@ -77,7 +77,7 @@ returns-5 c =
     let matrix = good.before.before in
     let codes = matrix.before in
     let s = sized codes.before in
-    write-5-6 _ _ _ _ _ s.0 s.1 codes.if1.false matrix.if2.false (sym good.before.has-bad-code.ensures ∙ good.if3.false)
+    write_5_6 _ _ _ _ _ s.0 s.1 codes.if1.false matrix.if2.false (sym good.before.has-bad-code.ensures ∙ good.if3.false)
     (ap answered (sym at-match.refused2.given.1) ∙ tested.tested2.ensures)
 
 abbrev at-sized : tie.After-width-for → tie.After-enum-told
@@ -87,14 +87,14 @@ width-for-requires : tie.Need-width-for-requires
 width-for-requires c κs = search rules
 
 length-of-requires : tie.Need-length-of-requires
-length-of-requires c κs = (rw c.width-for.ensures (width-for-fits _).1, small (at-sized c))
+length-of-requires c κs = (rw c.width-for.ensures (width_for_fits _).1, small (at-sized c))
 
 -- the length that is compared
-form-long : (c : tie.After-length-of) → let a = (at-start (at-sized c.before)).args in
-    c.length-of.result ≡ lengthFor a.n a.codes.now
+form-long : (c : tie.After-length-of) → let a = (at_start (at-sized c.before)).args in
+    c.length-of.result ≡ length_for a.n a.codes.now
 form-long c =
-    let n = (at-start (at-sized c.before)).args.n in
-    c.length-of.ensures ∙ ap (λ (w : ℕ). sheetLength w n) c.before.width-for.ensures
+    let n = (at_start (at-sized c.before)).args.n in
+    c.length-of.ensures ∙ ap (λ (w : ℕ). sheet_length w n) c.before.width-for.ensures
 
 returns-6 : tie.Need-returns-6
 returns-6 c =
@@ -104,7 +104,7 @@ returns-6 c =
     let matrix = good.before.before in
     let codes = matrix.before in
     let s = sized codes.before in
-    write-7 _ _ _ _ _ s.0 s.1 codes.if1.false matrix.if2.false (sym good.before.has-bad-code.ensures ∙ good.if3.false)
+    write_7 _ _ _ _ _ s.0 s.1 codes.if1.false matrix.if2.false (sym good.before.has-bad-code.ensures ∙ good.if3.false)
     (ap answered (sym at-match.enum-told2.given.1) ∙ tested.tested2.ensures) (rw (form-long c.before) at c.if4.true)
 
 returns-7 : tie.Need-returns-7
@@ -115,7 +115,7 @@ returns-7 c =
     let matrix = good.before.before in
     let codes = matrix.before in
     let s = sized codes.before in
-    write-all _ _ _ _ _ s.0 s.1 codes.if1.false matrix.if2.false (sym good.before.has-bad-code.ensures ∙ good.if3.false)
+    write_all _ _ _ _ _ s.0 s.1 codes.if1.false matrix.if2.false (sym good.before.has-bad-code.ensures ∙ good.if3.false)
     (ap answered (sym at-match.enum-told2.given.1) ∙ tested.tested2.ensures) (rw (form-long c.before) at c.if4.false)
 
 pub verdict-spec : {M : Type 1} → statement M

@@ -1,6 +1,6 @@
 use mathlib.Core.Path.{sym, ap, ◌∙◌}
 use Rattle.refusal.specs.Answers.{answered}
-use Rattle.sheet_writer.proofs.SheetBytes.{write-refused, write-accepted-as}
+use Rattle.sheet_writer.proofs.SheetBytes.{write_refused, write_accepted_as}
 use borrow.Author.Rules.{rules}
 use Rattle.sheet_writer.proofs.write.Statement.{statement}
 use Rattle.sheet_writer.proofs.write.Tie as tie
@@ -26,12 +26,12 @@ returns : tie.Need-returns
 returns c =
     let s = c.before.before in
     let k = s.before.before in
-    write-accepted-as _ _ _ _ _ (ap answered (sym k.enum_told.given.1) ∙ k.before.before.verdict.ensures) s.write-accepted.ensures
+    write_accepted_as _ _ _ _ _ (ap answered (sym k.enum_told.given.1) ∙ k.before.before.verdict.ensures) s.write-accepted.ensures
 
 returns-2 : tie.Need-returns-2
 returns-2 c =
     let k = c.before in
-    write-refused _ _ _ _ _ (ap answered (sym k.refused.given.1) ∙ k.before.before.verdict.ensures)
+    write_refused _ _ _ _ _ (ap answered (sym k.refused.given.1) ∙ k.before.before.verdict.ensures)
 
 pub write_spec : {M : Type 1} → statement M
 write_spec =

@@ -4,13 +4,13 @@ use mathlib.Core.Path.{◌≡◌, refl, ◌∙◌}
 use mathlib.Core.List.{List}
 use native.Mathlib.Omega.{arith}
 use lib.ListN.{length}
-use Rattle.sizes.specs.Sizes.{largestOrder}
+use Rattle.sizes.specs.Sizes.{largest_order}
 use Rattle.matrix.specs.Matrix.{at}
 use Rattle.matrix.proofs.EntryPlaces.{entry_in}
-use Rattle.sheet.specs.Format.{sheetLength, entriesFrom, entriesTo}
-use Rattle.sheet.proofs.Triangle.{entry-within, few-codes, few-entries, offset-start, offset-row}
-use Rattle.sheet_writer.specs.Steps.{withEntries}
-use Rattle.sheet_writer.proofs.SheetBytes.{entries_none, entries_next, row-none, row-all, bytes-long}
+use Rattle.sheet.specs.Format.{sheet_length, entries_from, entries_to}
+use Rattle.sheet.proofs.Triangle.{entry_within, few_codes, few_entries, offset_start, offset_row}
+use Rattle.sheet_writer.specs.Steps.{with_entries}
+use Rattle.sheet_writer.proofs.SheetBytes.{entries_none, entries_next, row_none, row_all, bytes_long}
 use Rattle.sheet_writer.proofs.write_entries.Statement.{statement}
 use Rattle.sheet_writer.proofs.write_entries.Tie as tie
 
@@ -19,33 +19,33 @@ use Rattle.sheet_writer.proofs.write_entries.Tie as tie
 abbrev invariant-loop2 : tie.invariant-loop2
 invariant-loop2 width n matrix sheet₀ offset₀ i j₀ j-end sheet offset j =
     (j ≤ i + 1) × (length sheet ≡ length sheet₀) × (offset ≡ offset₀ + 8 * j)
-    × ((b : List ℕ) → sheet₀ ≡ withEntries width n (at n matrix) (entriesTo i) b → sheet ≡ withEntries width n (at n matrix) (entriesTo i + j) b)
+    × ((b : List ℕ) → sheet₀ ≡ with_entries width n (at n matrix) (entries_to i) b → sheet ≡ with_entries width n (at n matrix) (entries_to i + j) b)
 
 abbrev decreases-loop2 : tie.decreases-loop2
 decreases-loop2 width n matrix sheet₀ offset₀ i j₀ j-end sheet offset j = i + 1 - j
 
 abbrev invariant-loop : tie.invariant-loop
 invariant-loop width n matrix sheet₀ offset₀ i₀ sheet offset i =
-    (i ≤ n) × (length sheet ≡ length sheet₀) × (offset ≡ entriesFrom width n + 8 * entriesTo i)
-    × (sheet ≡ withEntries width n (at n matrix) (entriesTo i) sheet₀)
+    (i ≤ n) × (length sheet ≡ length sheet₀) × (offset ≡ entries_from width n + 8 * entries_to i)
+    × (sheet ≡ with_entries width n (at n matrix) (entries_to i) sheet₀)
 
 abbrev decreases-loop : tie.decreases-loop
 decreases-loop width n matrix sheet₀ offset₀ i₀ sheet offset i = n - i
 
-abbrev at-start : tie.In-loop2 invariant-loop2 decreases-loop2 invariant-loop decreases-loop → tie.Start invariant-loop2 decreases-loop2 invariant-loop decreases-loop
-at-start c = c.before.before.before.before.before.before
+abbrev at_start : tie.In-loop2 invariant-loop2 decreases-loop2 invariant-loop decreases-loop → tie.Start invariant-loop2 decreases-loop2 invariant-loop decreases-loop
+at_start c = c.before.before.before.before.before.before
 
 -- there is room for the entry
-room : (c : tie.In-loop2 invariant-loop2 decreases-loop2 invariant-loop decreases-loop) → c.before.loop2.offset + 8 ≤ sheetLength (at-start c).args.width (at-start c).args.n
+room : (c : tie.In-loop2 invariant-loop2 decreases-loop2 invariant-loop decreases-loop) → c.before.loop2.offset + 8 ≤ sheet_length (at_start c).args.width (at_start c).args.n
 room c =
     let u = c.before.loop2.invariant in
     let at-loop = c.before.before.before in
-    entry-within _ _ at-loop.loop.i c.before.loop2.j (omega arith) (omega arith) (omega (arith, u.2, at-loop.loop.invariant.2))
+    entry_within _ _ at-loop.loop.i c.before.loop2.j (omega arith) (omega arith) (omega (arith, u.2, at-loop.loop.invariant.2))
 
 -- the bytes of a sheet are few
 few_bytes : (c : tie.Start invariant-loop2 decreases-loop2 invariant-loop decreases-loop) → let a = c.args in
-    (a.width * a.n ≤ 2 * largestOrder) × (4 * a.n * (a.n + 1) ≤ 4 * largestOrder * (largestOrder + 1))
-few_bytes c = (few-codes _ _ c.requires.0 c.requires.1, (few-entries _ c.requires.1).1)
+    (a.width * a.n ≤ 2 * largest_order) × (4 * a.n * (a.n + 1) ≤ 4 * largest_order * (largest_order + 1))
+few_bytes c = (few_codes _ _ c.requires.0 c.requires.1, (few_entries _ c.requires.1).1)
 
 mul-offset : tie.Need-overflow-mul-offset invariant-loop2 decreases-loop2 invariant-loop decreases-loop
 mul-offset c = omega (arith, (few_bytes c.before.before).0)
@@ -54,13 +54,13 @@ add-offset : tie.Need-overflow-add-offset invariant-loop2 decreases-loop2 invari
 add-offset c = omega (arith, (few_bytes c.before.before).0)
 
 loop-holds : tie.Need-loop-init invariant-loop2 decreases-loop2 invariant-loop decreases-loop
-loop-holds c = (omega arith, refl, offset-start _ _, entries_none _ _ _ _)
+loop-holds c = (omega arith, refl, offset_start _ _, entries_none _ _ _ _)
 
 add-j-end : tie.Need-overflow-add-j-end invariant-loop2 decreases-loop2 invariant-loop decreases-loop
 add-j-end c = omega arith
 
 loop2-holds : tie.Need-loop2-init invariant-loop2 decreases-loop2 invariant-loop decreases-loop
-loop2-holds c = (omega arith, refl, omega arith, λ b e. row-none _ _ _ b _ e)
+loop2-holds c = (omega arith, refl, omega arith, λ b e. row_none _ _ _ b _ e)
 
 add-entry : tie.Need-overflow-add-entry invariant-loop2 decreases-loop2 invariant-loop decreases-loop
 add-entry c = omega arith
@@ -85,7 +85,7 @@ put-word-requires c κs =
 add-offset-2 : tie.Need-overflow-add-offset-2 invariant-loop2 decreases-loop2 invariant-loop decreases-loop
 add-offset-2 c =
     let in-loop2 = c.before.before.before.before.before.before in
-    let few = few_bytes (at-start in-loop2) in
+    let few = few_bytes (at_start in-loop2) in
     omega (arith, room in-loop2, few.0, few.1)
 
 add-j : tie.Need-overflow-add-j invariant-loop2 decreases-loop2 invariant-loop decreases-loop
@@ -100,9 +100,9 @@ loop2-again c =
     let read = put.before.before.before in
     let in-loop2 = read.before in
     let u = in-loop2.before.loop2.invariant in
-    let entry = read.entry.ensures ∙ entry_in _ _ _ _ (at-start in-loop2).requires.2 (omega arith) (omega arith) in (
+    let entry = read.entry.ensures ∙ entry_in _ _ _ _ (at_start in-loop2).requires.2 (omega arith) (omega arith) in (
       omega arith,
-      bytes-long _ _ _ _ _ put.put_word.ensures ∙ u.1,
+      bytes_long _ _ _ _ _ put.put_word.ensures ∙ u.1,
       omega arith,
       λ b e. entries_next _ _ _ b _ _ (omega arith) (u.3 b e) entry put.before.before.to-bits.ensures (omega arith) put.put_word.ensures,
     )
@@ -120,7 +120,7 @@ loop-again c =
     let u = at-loop2.loop2.invariant in
     let v = at-loop.loop.invariant in
     let e : at-loop2.loop2.j ≡ at-loop.loop.i + 1 = omega arith in
-    (omega arith, u.1 ∙ v.1, offset-row _ _ _ v.2 (rw e at u.2), row-all _ _ _ _ _ (rw e at (u.3 _ v.3)))
+    (omega arith, u.1 ∙ v.1, offset_row _ _ _ v.2 (rw e at u.2), row_all _ _ _ _ _ (rw e at (u.3 _ v.3)))
 
 same_length : tie.Need-same-length invariant-loop2 decreases-loop2 invariant-loop decreases-loop
 same_length c = omega arith

@@ -1,7 +1,7 @@
 use mathlib.Core.Path.{ap}
 use Prim.Native.Nat.{◌*◌}
 use borrow.Author.Rules.{rules}
-use Rattle.sizes.proofs.Orders.{steps-fit}
+use Rattle.sizes.proofs.Orders.{steps_fit}
 use Rattle.sizes.proofs.steps_of.Statement.{statement}
 use Rattle.sizes.proofs.steps_of.Tie as tie
 
@@ -9,7 +9,7 @@ sweep-steps-requires : tie.Need-sweep-steps-requires
 sweep-steps-requires c κs = search rules
 
 mul-result : tie.Need-overflow-mul-result
-mul-result c = let p = c.before.requires in record { fits = steps-fit _ _ p.0 p.1 c.sweep-steps.ensures }
+mul-result c = let p = c.before.requires in record { fits = steps_fit _ _ p.0 p.1 c.sweep-steps.ensures }
 
 returns : tie.Need-returns
 returns c = ap (λ k. c.before.args.sweeps * k) c.sweep-steps.ensures

@@ -1,6 +1,6 @@
 use native.Mathlib.Omega.{arith}
 use borrow.Author.Rules.{rules}
-use Rattle.sizes.proofs.Orders.{steps-few, order-half}
+use Rattle.sizes.proofs.Orders.{steps_few, order_half}
 use Rattle.sizes.proofs.ticks_of.Statement.{statement}
 use Rattle.sizes.proofs.ticks_of.Tie as tie
 
@@ -8,7 +8,7 @@ steps-of-requires : tie.Need-steps-of-requires
 steps-of-requires c κs = search rules
 
 mul-result : tie.Need-overflow-mul-result
-mul-result c = let p = c.before.requires in let s = steps-few _ _ p.0 p.1 in let e = c.steps_of.ensures in record { fits = omega arith }
+mul-result c = let p = c.before.requires in let s = steps_few _ _ p.0 p.1 in let e = c.steps_of.ensures in record { fits = omega arith }
 
 processors-of-requires : tie.Need-processors-of-requires
 processors-of-requires c κs = search rules
@@ -17,8 +17,8 @@ add-result : tie.Need-overflow-add-result
 add-result c =
     let t = c.before in
     let p = t.before.requires in
-    let s = steps-few _ _ p.0 p.1 in
-    let h = order-half _ p.0 in
+    let s = steps_few _ _ p.0 p.1 in
+    let h = order_half _ p.0 in
     let e = t.steps_of.ensures in
     omega arith
 

@@ -58,8 +58,8 @@ use Rattle.refusal.specs.Answers.{answered}
 use Rattle.refusal.specs.declared.Answer.{Answer}
 use Rattle.refusal.specs.contracts.Answer as Ans
 use Rattle.refusal.proofs.Answer.TheLaws as Ans'
-use Rattle.sizes.specs.Sizes.{mostProcessors}
-use Rattle.step_records.specs.Records.{recordsOf, rowOutcome}
+use Rattle.sizes.specs.Sizes.{most_processors}
+use Rattle.step_records.specs.Records.{records_of, row_outcome}
 use Rattle.step_records.specs.declared.Record.{Record}
 use Rattle.step_records.specs.declared.Recorded.{Recorded}
 use Rattle.step_records.specs.contracts.Record as Rec
@@ -77,7 +77,7 @@ use Rattle.step_records.proofs.in_row.Code as code
 use Rattle.step_records.proofs.in_row.Code.Mir as mirs
 
 abbrev Row : RattleType
-Row = Array Rec.the_row mostProcessors
+Row = Array Rec.the_row most_processors
 
 abbrev stayed : Stays (f.ended).signature.params (f.ended).kept
 stayed =
@@ -90,17 +90,17 @@ Stepped 𝓛 mem run = triple_of 𝓛 of-step.signature (of-step.spec 𝓛 mem r
 abbrev word : Ty
 word = ty_int w64
 
-abbrev arrayTy : Ty
-arrayTy = ty_array Rec'.mir mostProcessors
+abbrev array_ty : Ty
+array_ty = ty_array Rec'.mir most_processors
 
-abbrev matrixTy : Ty
-matrixTy = slice_ty (ty_ref (named 0) imm (ty_float binary64))
+abbrev matrix_ty : Ty
+matrix_ty = slice_ty (ty_ref (named 0) imm (ty_float binary64))
 
 abbrev ref_ty : Ty
 ref_ty = ty_ref erased mut (pointee Row.written)
 
-abbrev rowTy : Ty
-rowTy = slice_ty (ty_ref erased mut (pointee (Rec.the_row).written))
+abbrev row_ty : Ty
+row_ty = slice_ty (ty_ref erased mut (pointee (Rec.the_row).written))
 
 -- the machine value of an array of records
 abbrev spelled : List Record → List Val
@@ -110,7 +110,7 @@ abbrev val : List Record → Val
 val zs = only (spelled zs)
 
 tells : (zs : List Record) (vs : List Val) → Is Row zs vs → vs ≡ spelled zs
-tells = Array-Tells Rec.the_row (StructLaws.vals Rec.the_type Rec'.the_laws) (StructLaws.tells Rec.the_type Rec'.the_laws) mostProcessors
+tells = Array-Tells Rec.the_row (StructLaws.vals Rec.the_type Rec'.the_laws) (StructLaws.tells Rec.the_type Rec'.the_laws) most_processors
 
 -- an answer and a row are the struct of both
 abbrev recorded : Answer → List Record → Recorded
@@ -119,43 +119,43 @@ recorded r zs = record { answer = r; row = zs }
 abbrev both : Val → Val → Val
 both u z = vstruct (of_list (u ∷ z ∷ []))
 
-is-both : (r : Answer) (zs : List Record) (u z : Val) → Is Ans.the_row r (u ∷ []) → Is Row zs (z ∷ []) → Is Res.the_row (recorded r zs) (both u z ∷ [])
-is-both r zs u z is-u is-z =
-    let is_row = is_same (Struct (shape Rec.the_type)) Record (Rec.the_type).to (Rec.the_type).to_one mostProcessors zs (z ∷ []) is-z in
+is_both : (r : Answer) (zs : List Record) (u z : Val) → Is Ans.the_row r (u ∷ []) → Is Row zs (z ∷ []) → Is Res.the_row (recorded r zs) (both u z ∷ [])
+is_both r zs u z is-u is-z =
+    let is_row = is_same (Struct (shape Rec.the_type)) Record (Rec.the_type).to (Rec.the_type).to_one most_processors zs (z ∷ []) is-z in
     ((u ∷ [], (z ∷ [], tt)), (refl, (is-u, (is_row, tt))))
 
 module _ {M : Type 1} {𝓤 : Ura M} (𝓛 : Logic 𝓤) where
-  makes-row : Makes 𝓛 Row (Is Row)
-  makes-row = Array-Makes 𝓛 Rec.the_row (StructLaws.makes Rec.the_type Rec'.the_plain 𝓛) mostProcessors
+  makes_row : Makes 𝓛 Row (Is Row)
+  makes_row = Array-Makes 𝓛 Rec.the_row (StructLaws.makes Rec.the_type Rec'.the_plain 𝓛) most_processors
 
   -- a local array as its elements side by side, and back
   spreads : (l : ℕ) (xs : List Record) (z : Val) → Is Row xs (z ∷ [])
-      → ent 𝓤 (⋆ 𝓛 (‵ (fat full_share arrayTy l 0 z) ∷ [])) (sem 𝓛 (cells (mem Rec.the_row) xs l 0))
+      → ent 𝓤 (⋆ 𝓛 (‵ (fat full_share array_ty l 0 z) ∷ [])) (sem 𝓛 (cells (mem Rec.the_row) xs l 0))
   unfolding part_of
   spreads l xs z is =
-      qed 𝓛 (‵ (fat full_share arrayTy l 0 z) ∷ []) ∵ use1 𝓛 (‵ (cell_at full_share Row.mir (z ∷ []) l 0)) (𝓛.laws.at_raw full_share arrayTy l 0 z) $
-      owned ! Row (Is Row) makes-row xs (z ∷ []) is $ move ! (1 ∷ 0 ∷ []) $ fjoin ! $
+      qed 𝓛 (‵ (fat full_share array_ty l 0 z) ∷ []) ∵ use1 𝓛 (‵ (cell_at full_share Row.mir (z ∷ []) l 0)) (𝓛.laws.at_raw full_share array_ty l 0 z) $
+      owned ! Row (Is Row) makes_row xs (z ∷ []) is $ move ! (1 ∷ 0 ∷ []) $ fjoin ! $
       fpack ! (List Val) (λ us. fsep (cell_at full_share Row.mir us l 0) (Row.own_val xs us)) (z ∷ []) $
-      use1 𝓛 (‵ ((arr_parts (shares Rec.the_row) mostProcessors).part full_share xs l 0)) (Array-apart 𝓛 Rec.the_row full_share tt mostProcessors xs l 0) $
+      use1 𝓛 (‵ ((arr_parts (shares Rec.the_row) most_processors).part full_share xs l 0)) (Array-apart 𝓛 Rec.the_row full_share tt most_processors xs l 0) $
       fsplit ! $ drop ! $ use1 𝓛 (‵ (cells (mem Rec.the_row) xs l 0)) (whole_in 𝓛 Rec.the_row xs l 0) $ done !
 
-  gathers : (l : ℕ) (zs : List Record) (m : ℕ) → m ≡ mostProcessors
-      → ent 𝓤 (⋆ 𝓛 (‵ ((Arr (mem Rec.the_row) m).own_at zs l 0) ∷ [])) (mean 𝓛 (given (Is Row zs (val zs ∷ [])) (‵ (fat full_share arrayTy l 0 (val zs)))))
+  gathers : (l : ℕ) (zs : List Record) (m : ℕ) → m ≡ most_processors
+      → ent 𝓤 (⋆ 𝓛 (‵ ((Arr (mem Rec.the_row) m).own_at zs l 0) ∷ [])) (mean 𝓛 (given (Is Row zs (val zs ∷ [])) (‵ (fat full_share array_ty l 0 (val zs)))))
   unfolding part_of
   gathers l zs m long =
       qed 𝓛 (‵ ((Arr (mem Rec.the_row) m).own_at zs l 0) ∷ []) ∵ fsplit ! $ feq_l ! (λ e.
       use1 𝓛 (‵ (row Rec.the_row full_share zs l 0)) (whole_out 𝓛 Rec.the_row zs l 0) $
-      feq_i ! ℕ (length zs) mostProcessors (e ∙ long) $ fjoin ! $
-      use1 𝓛 (‵ (part_at Row full_share zs l 0)) (Array-whole 𝓛 Rec.the_row full_share mostProcessors zs l 0) $
+      feq_i ! ℕ (length zs) most_processors (e ∙ long) $ fjoin ! $
+      use1 𝓛 (‵ (part_at Row full_share zs l 0)) (Array-whole 𝓛 Rec.the_row full_share most_processors zs l 0) $
       fpick ! (λ vs. fsplit ! $ move ! (1 ∷ []) $ facts ! Row (Is Row) (shows 𝓛 Row) zs vs (λ p.
       rewrite ! 0 (λ (us : List Val). ‵ (cell_at full_share Row.mir us l 0)) (tells zs vs p) refl $
-      use1 𝓛 (‵ (fat full_share arrayTy l 0 (val zs))) (𝓛.laws.raw_at full_share arrayTy l 0 (val zs)) $
+      use1 𝓛 (‵ (fat full_share array_ty l 0 (val zs))) (𝓛.laws.raw_at full_share array_ty l 0 (val zs)) $
       check ! (subst (Is Row zs) (tells zs vs p) p) $ done !)))
 
 -- A call: the matrix xm, and the row xs as the value v.
 module _ {M : Type 1} {𝓤 : Ura M} (𝓛 : Logic 𝓤) (mem' : Memory → SProp 𝓤) (run : Routine → Fun 𝓤) (κ₀ : Lft) (q₀ : Share)
     (xm : Bor (List Float)) (xs : List Record) (v : Val) (n step : ℕ) (n-fits : n < 2 ^ 64) (step_fits : step < 2 ^ 64)
-    (matrix-room : Room f64 (length xm.now)) (is-v : Is Row xs (v ∷ [])) (long : length xs ≡ mostProcessors) where
+    (matrix-room : Room f64 (length xm.now)) (is-v : Is Row xs (v ∷ [])) (long : length xs ≡ most_processors) where
   open 𝓛 use {H}
 
   abbrev vm : Val
@@ -180,10 +180,10 @@ module _ {M : Type 1} {𝓤 : Ura M} (𝓛 : Logic 𝓤) (mem' : Memory → SPro
   Lent = (ShrSlice (named 0) κ₀ f64).own_val xm (vm ∷ [])
 
   abbrev Says : Answer → List Record → Type 0
-  Says r zs = rowOutcome (answered r) zs ≡ recordsOf n xm.now step xs
+  Says r zs = row_outcome (answered r) zs ≡ records_of n xm.now step xs
 
-  typed : (zs : List Record) (z : Val) → Is Row zs (z ∷ []) → Holds (has_ty arrayTy z) × WT z
-  typed zs z is = (Array-Typed Rec.the_row (StructLaws.lawful Rec.the_type Rec'.the_laws 𝓛).typed mostProcessors zs _ is).0
+  typed : (zs : List Record) (z : Val) → Is Row zs (z ∷ []) → Holds (has_ty array_ty z) × WT z
+  typed zs z is = (Array-Typed Rec.the_row (StructLaws.lawful Rec.the_type Rec'.the_laws 𝓛).typed most_processors zs _ is).0
 
   room : Room Rec.the_row (length xs)
   room = subst (Room Rec.the_row) (sym long) (lit< tt, lit< tt)
@@ -205,8 +205,8 @@ module _ {M : Type 1} {𝓤 : Ura M} (𝓛 : Logic 𝓤) (mem' : Memory → SPro
     abbrev Asked : ℕ → GName → List (Item 𝓤)
     Asked ν γ = (‵ (flft (ν ∷ []) full_share) ⊛ Tok) ∷ ‵ Lent ∷ ‵ ((MutSlice (named 1) (ν ∷ []) Rec.the_row).own_val (x γ) (slice_val (b, 0) (length xs) ∷ [])) ∷ []
 
-    asks-step : (ν : ℕ) (γ : GName) → ent 𝓤 (⋆ 𝓛 (Asked ν γ)) ((Stepped 𝓛 mem' run).pre (to_step ν γ))
-    asks-step ν γ =
+    asks_step : (ν : ℕ) (γ : GName) → ent 𝓤 (⋆ 𝓛 (Asked ν γ)) ((Stepped 𝓛 mem' run).pre (to_step ν γ))
+    asks_step ν γ =
         qed 𝓛 (Asked ν γ) ∵ move ! (2 ∷ []) $ nothing ! $ move ! (1 ∷ 0 ∷ []) $ fjoin ! $
         owned ! usize (Is usize) (uint_Makes 𝓛 w64) step _ (refl, step_fits) $ fjoin ! $ move ! (2 ∷ 0 ∷ []) $ fjoin ! $
         owned ! usize (Is usize) (uint_Makes 𝓛 w64) n _ (refl, n-fits) $ fjoin ! $
@@ -220,7 +220,7 @@ module _ {M : Type 1} {𝓤 : Ura M} (𝓛 : Logic 𝓤) (mem' : Memory → SPro
       suffices ! _ (ends_at 𝓛 f.ended stayed (f.clauses 𝓛 mem' run) (((κ₀, tt), (q₀, tt), tt, a, vals), tt) (both u (val zs)) (recorded r zs)
       (tt, (tt, (tt, (tt, tt)))) (tt, (tt, (tt, (tt, tt))))) $ says ! say $
       nothing ! $ move ! (1 ∷ 0 ∷ []) $ join ! $ frame ! $ nothing ! $
-      owned ! Row (Is Row) (makes-row 𝓛) xs (v ∷ []) is-v $ fjoin ! $
+      owned ! Row (Is Row) (makes_row 𝓛) xs (v ∷ []) is-v $ fjoin ! $
       owned ! usize (Is usize) (uint_Makes 𝓛 w64) step _ (refl, step_fits) $ fjoin ! $ move ! (1 ∷ 0 ∷ []) $ fjoin ! $
       owned ! usize (Is usize) (uint_Makes 𝓛 w64) n _ (refl, n-fits) $ fjoin ! $ frame ! $
       owned ! Res.the_row (Is Res.the_row) (StructLaws.makes Res.the_type Res'.the_plain 𝓛) (recorded r zs) (both u (val zs) ∷ []) is $ done !
@@ -230,19 +230,19 @@ module _ {M : Type 1} {𝓤 : Ura M} (𝓛 : Logic 𝓤) (mem' : Memory → SPro
     module _ (l₀ l₁ l₂ l₃ l₄ l₅ l₆ l₇ l₈ l₉ : ℕ) where
       abbrev En : Env 𝓤 H
       En =
-          (Res'.mir, l₀) ∷ (word, l₁) ∷ (matrixTy, l₂) ∷ (word, l₃) ∷ (arrayTy, l₄) ∷ (arrayTy, l₅) ∷ (Ans'.mir, l₆) ∷ (ref_ty, l₇) ∷ (rowTy, l₈)
-          ∷ (arrayTy, l₉) ∷ []
+          (Res'.mir, l₀) ∷ (word, l₁) ∷ (matrix_ty, l₂) ∷ (word, l₃) ∷ (array_ty, l₄) ∷ (array_ty, l₅) ∷ (Ans'.mir, l₆) ∷ (ref_ty, l₇) ∷ (row_ty, l₈)
+          ∷ (array_ty, l₉) ∷ []
 
       abbrev Dies : List (Item 𝓤)
       Dies =
-          ‵ (fdies Res'.mir l₀) ∷ ‵ (fdies word l₁) ∷ ‵ (fdies matrixTy l₂) ∷ ‵ (fdies word l₃) ∷ ‵ (fdies arrayTy l₄) ∷ ‵ (fdies arrayTy l₅)
-          ∷ ‵ (fdies Ans'.mir l₆) ∷ ‵ (fdies ref_ty l₇) ∷ ‵ (fdies rowTy l₈) ∷ ‵ (fdies arrayTy l₉) ∷ []
+          ‵ (fdies Res'.mir l₀) ∷ ‵ (fdies word l₁) ∷ ‵ (fdies matrix_ty l₂) ∷ ‵ (fdies word l₃) ∷ ‵ (fdies array_ty l₄) ∷ ‵ (fdies array_ty l₅)
+          ∷ ‵ (fdies Ans'.mir l₆) ∷ ‵ (fdies ref_ty l₇) ∷ ‵ (fdies row_ty l₈) ∷ ‵ (fdies array_ty l₉) ∷ []
 
       -- what the call leaves as it is
       abbrev Rest : List (Item 𝓤)
       Rest =
-          ‵ (froom arrayTy l₉ 0) ∷ ‵ (fat full_share rowTy l₈ 0 (slice_val (l₅, 0) (length xs))) ∷ ‵ (fat full_share ref_ty l₇ 0 (vptr l₅ 0))
-          ∷ ‵ (fat full_share arrayTy l₄ 0 v) ∷ ‵ (fat full_share word l₃ 0 (vint w64 step)) ∷ ‵ (fat full_share matrixTy l₂ 0 vm)
+          ‵ (froom array_ty l₉ 0) ∷ ‵ (fat full_share row_ty l₈ 0 (slice_val (l₅, 0) (length xs))) ∷ ‵ (fat full_share ref_ty l₇ 0 (vptr l₅ 0))
+          ∷ ‵ (fat full_share array_ty l₄ 0 v) ∷ ‵ (fat full_share word l₃ 0 (vint w64 step)) ∷ ‵ (fat full_share matrix_ty l₂ 0 vm)
           ∷ ‵ (fat full_share word l₁ 0 (vint w64 n)) ∷ ‵ (froom Res'.mir l₀ 0) ∷ Dies
 
       abbrev After : ℕ → GName → Val → List Record → List (Item 𝓤)
@@ -257,17 +257,17 @@ module _ {M : Type 1} {𝓤 : Ura M} (𝓛 : Logic 𝓤) (mem' : Memory → SPro
           qed 𝓛 (After ν γ u zs) ∵ exec ! C Λ En mirs.t-5 (at_ret En Post) $
           lft_end ! tt $
           use3 𝓛 (later (‵ ((Arr (mem Rec.the_row) (length xs)).own_at zs l₅ 0))) (slice_back 𝓛 Rec.the_row (ν ∷ []) γ zs (length xs) l₅ 0) $ await ! tt $
-          use1 𝓛 (given (Is Row zs (val zs ∷ [])) (‵ (fat full_share arrayTy l₅ 0 (val zs)))) (gathers 𝓛 l₅ zs (length xs) long) $ learn ! (λ is-z.
+          use1 𝓛 (given (Is Row zs (val zs ∷ [])) (‵ (fat full_share array_ty l₅ 0 (val zs)))) (gathers 𝓛 l₅ zs (length xs) long) $ learn ! (λ is-z.
           -- [_5 0; the token; what is lent; _6 3; _9 4; _8 5; _7 6; _4 7; _3 8; _2 9; _1 10; _0 11; that each dies 12 ..]
           assigns ! (of_opd ! (load ! (from ! (stop !)) (look ! 0 refl))) (from ! (stop !)) (init ! 4 refl (typed zs (val zs) is-z)) $
           assigns ! (agg ! (and_then ! (load ! (from ! (stop !)) (look ! 3 refl)) (and_then ! (load ! (from ! (stop !)) (look ! 4 refl)) (no_more !))))
           (from ! (stop !))
-          (init ! 11 refl ((StructLaws.lawful Res.the_type Res'.the_laws 𝓛).typed (recorded r zs) _ (is-both r zs u (val zs) is-u is-z)).0) $
+          (init ! 11 refl ((StructLaws.lawful Res.the_type Res'.the_laws 𝓛).typed (recorded r zs) _ (is_both r zs u (val zs) is-u is-z)).0) $
           returns ! (look ! 11 refl) $ forget ! 0 refl $ forget ! 3 refl $ forget ! 4 refl $ forget ! 5 refl $ forget ! 6 refl $ forget ! 7 refl $
           forget ! 8 refl $ forget ! 9 refl $ forget ! 10 refl $ forget ! 11 refl $
           keep ! (11 ∷ 12 ∷ 10 ∷ 13 ∷ 9 ∷ 14 ∷ 8 ∷ 15 ∷ 7 ∷ 16 ∷ 0 ∷ 17 ∷ 3 ∷ 18 ∷ 6 ∷ 19 ∷ 5 ∷ 20 ∷ 4 ∷ 21 ∷ 1 ∷ 2 ∷ []) $
           free1 ! $ free1 ! $ free1 ! $ free1 ! $ free1 ! $ free1 ! $ free1 ! $ free1 ! $ free1 ! $ free1 ! $ free0 ! $
-          by ! (exits r zs u (is-both r zs u (val zs) is-u is-z) say))
+          by ! (exits r zs u (is_both r zs u (val zs) is-u is-z) say))
 
       abbrev Ready : List (Item 𝓤)
       Ready = Tok ∷ ‵ Lent ∷ ‵ (cells (mem Rec.the_row) xs l₅ 0) ∷ ‵ (froom Ans'.mir l₆ 0) ∷ Rest
@@ -285,7 +285,7 @@ module _ {M : Type 1} {𝓤 : Ura M} (𝓛 : Logic 𝓤) (mem' : Memory → SPro
           await ! tt $ pick ! (λ γ. split ! $
           -- [the slice; the lender's part; ν's token; the token; what is lent 4; _6; ..]
           move ! (4 ∷ []) $ use1 𝓛 (‵ Lent ⊛ ‵ Lent) ((shr_slice_copy 𝓛 (named 0) κ₀ f64).twice xm (vm ∷ [])) $ split ! $
-          move ! (4 ∷ 5 ∷ 0 ∷ 2 ∷ []) $ join ! $ use3 𝓛 (raw ((Stepped 𝓛 mem' run).pre (to_step l₅ ν γ))) (asks-step l₅ ν γ) $
+          move ! (4 ∷ 5 ∷ 0 ∷ 2 ∷ []) $ join ! $ use3 𝓛 (raw ((Stepped 𝓛 mem' run).pre (to_step l₅ ν γ))) (asks_step l₅ ν γ) $
           -- [what the callee asks for; what is lent; the lender's part; _6 3; _9 4; _8 5; _7 6; _4 7; _3 8; _2 9; _1 10; ..]
           calls_at ! fm (Stepped 𝓛 mem' run) known (to_step l₅ ν γ)
           (and_then ! (load ! (from ! (stop !)) (look ! 10 refl)) (and_then ! (load ! (from ! (stop !)) (look ! 9 refl))
@@ -306,10 +306,10 @@ module _ {M : Type 1} {𝓤 : Ura M} (𝓛 : Logic 𝓤) (mem' : Memory → SPro
       -- once the parameters are stored; _i stands at 2 · (9 - i)
       abbrev Entry : List (Item 𝓤)
       Entry =
-          ‵ (froom arrayTy l₉ 0) ∷ ‵ (fdies arrayTy l₉) ∷ ‵ (froom rowTy l₈ 0) ∷ ‵ (fdies rowTy l₈) ∷ ‵ (froom ref_ty l₇ 0) ∷ ‵ (fdies ref_ty l₇)
-          ∷ ‵ (froom Ans'.mir l₆ 0) ∷ ‵ (fdies Ans'.mir l₆) ∷ ‵ (froom arrayTy l₅ 0) ∷ ‵ (fdies arrayTy l₅)
-          ∷ ‵ (fat full_share arrayTy l₄ 0 v) ∷ ‵ (fdies arrayTy l₄) ∷ ‵ (fat full_share word l₃ 0 (vint w64 step)) ∷ ‵ (fdies word l₃)
-          ∷ ‵ (fat full_share matrixTy l₂ 0 vm) ∷ ‵ (fdies matrixTy l₂)
+          ‵ (froom array_ty l₉ 0) ∷ ‵ (fdies array_ty l₉) ∷ ‵ (froom row_ty l₈ 0) ∷ ‵ (fdies row_ty l₈) ∷ ‵ (froom ref_ty l₇ 0) ∷ ‵ (fdies ref_ty l₇)
+          ∷ ‵ (froom Ans'.mir l₆ 0) ∷ ‵ (fdies Ans'.mir l₆) ∷ ‵ (froom array_ty l₅ 0) ∷ ‵ (fdies array_ty l₅)
+          ∷ ‵ (fat full_share array_ty l₄ 0 v) ∷ ‵ (fdies array_ty l₄) ∷ ‵ (fat full_share word l₃ 0 (vint w64 step)) ∷ ‵ (fdies word l₃)
+          ∷ ‵ (fat full_share matrix_ty l₂ 0 vm) ∷ ‵ (fdies matrix_ty l₂)
           ∷ ‵ (fat full_share word l₁ 0 (vint w64 n)) ∷ ‵ (fdies word l₁) ∷ ‵ (froom Res'.mir l₀ 0) ∷ ‵ (fdies Res'.mir l₀) ∷ Tok
           ∷ ‵ (owns (usize ∷ ShrSlice (named 0) κ₀ f64 ∷ usize ∷ Row ∷ []) a vals) ∷ []
 
@@ -320,19 +320,19 @@ module _ {M : Type 1} {𝓤 : Ura M} (𝓛 : Logic 𝓤) (mem' : Memory → SPro
           assigns ! (addr ! (from ! (stop !))) (from ! (stop !)) (init ! 4 refl (tt, tt)) $
           assigns ! (agg ! (and_then ! (load ! (from ! (stop !)) (look ! 4 refl)) (and_then ! (lit ! tt) (no_more !)))) (from ! (stop !))
           (init ! 2 refl (tt, (tt, (record { fits = lit< tt }, tt)))) $
-          rewrite ! 2 (λ (m : ℕ). ‵ (fat full_share rowTy l₈ 0 (slice_val (l₅, 0) m))) (sym long) refl $
+          rewrite ! 2 (λ (m : ℕ). ‵ (fat full_share row_ty l₈ 0 (slice_val (l₅, 0) m))) (sym long) refl $
           move ! (8 ∷ []) $ use1 𝓛 (‵ (cells (mem Rec.the_row) xs l₅ 0)) (spreads 𝓛 l₅ xs v is-v) $
           move ! (21 ∷ []) $ fsplit ! $ drop ! $ fsplit ! $ move ! (1 ∷ []) $ drop ! $
           keep ! (21 ∷ 0 ∷ 1 ∷ 8 ∷ 2 ∷ 4 ∷ 6 ∷ 11 ∷ 13 ∷ 15 ∷ 17 ∷ 19 ∷ 20 ∷ 18 ∷ 16 ∷ 14 ∷ 12 ∷ 10 ∷ 9 ∷ 7 ∷ 5 ∷ 3 ∷ []) $ by ! lends
 
     -- the function with any body
-    abbrev with-body : Code → Fn
-    with-body body = record {
+    abbrev with_body : Code → Fn
+    with_body body = record {
       lifetimes = 1;
       outlives = [];
       params = 4;
-      locals = local Res'.mir value_local ∷ local word value_local ∷ local matrixTy value_local ∷ local word value_local ∷ local arrayTy value_local
-          ∷ local arrayTy memory_slot ∷ local Ans'.mir value_local ∷ local ref_ty value_local ∷ local rowTy value_local ∷ local arrayTy value_local ∷ [];
+      locals = local Res'.mir value_local ∷ local word value_local ∷ local matrix_ty value_local ∷ local word value_local ∷ local array_ty value_local
+          ∷ local array_ty memory_slot ∷ local Ans'.mir value_local ∷ local ref_ty value_local ∷ local row_ty value_local ∷ local array_ty value_local ∷ [];
       body = body;
     }
 
@@ -340,10 +340,10 @@ module _ {M : Type 1} {𝓤 : Ura M} (𝓛 : Logic 𝓤) (mem' : Memory → SPro
         → ((l₀ l₁ l₂ l₃ l₄ l₅ l₆ l₇ l₈ l₉ : ℕ)
         → ent 𝓤 (⋆ 𝓛 (Entry l₀ l₁ l₂ l₃ l₄ l₅ l₆ l₇ l₈ l₉))
         (Wp 𝓤 H C Λ (En l₀ l₁ l₂ l₃ l₄ l₅ l₆ l₇ l₈ l₉) body (at_return 𝓤 H (En l₀ l₁ l₂ l₃ l₄ l₅ l₆ l₇ l₈ l₉) Post)))
-        → ent 𝓤 (on_entry 𝓛 f.signature (κ₀, tt) (q₀, tt) a vals) (WpFn 𝓤 H C Λ (with-body body) (vint w64 n ∷ vm ∷ vint w64 step ∷ v ∷ []) Post)
+        → ent 𝓤 (on_entry 𝓛 f.signature (κ₀, tt) (q₀, tt) a vals) (WpFn 𝓤 H C Λ (with_body body) (vint w64 n ∷ vm ∷ vint w64 step ∷ v ∷ []) Post)
     enters body next =
         qed 𝓛 (Tok ∷ ‵ (owns (usize ∷ ShrSlice (named 0) κ₀ f64 ∷ usize ∷ Row ∷ []) a vals) ∷ []) ∵
-        enter ! C Λ (with-body body) (vint w64 n ∷ vm ∷ vint w64 step ∷ v ∷ []) _ $
+        enter ! C Λ (with_body body) (vint w64 n ∷ vm ∷ vint w64 step ∷ v ∷ []) _ $
         alloc1 ! (λ l₀. alloc1 ! (λ l₁. alloc1 ! (λ l₂. alloc1 ! (λ l₃. alloc1 ! (λ l₄. alloc1 ! (λ l₅. alloc1 ! (λ l₆. alloc1 ! (λ l₇. alloc1 ! (λ l₈.
         alloc1 ! (λ l₉. alloc0 ! $ params1 ! $
         pass1 ! (init ! 16 refl (tt, record { fits = n-fits })) $ pass1 ! (init ! 14 refl (tt, (tt, (record { fits = matrix-room.0 }, tt)))) $

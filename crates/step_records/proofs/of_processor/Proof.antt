@@ -1,8 +1,8 @@
 use mathlib.Core.Path.{ap, ◌∙◌}
 use lib.ListN.{length-map}
-use Rattle.runs.specs.Blocks.{ruledFound}
-use Rattle.step_records.proofs.AbsentProcessor.{no-processor}
-use Rattle.step_records.specs.Records.{recordOf, recordAt}
+use Rattle.runs.specs.Blocks.{ruled_found}
+use Rattle.step_records.proofs.AbsentProcessor.{no_processor}
+use Rattle.step_records.specs.Records.{record_of, record_at}
 use borrow.Author.Rules.{rules}
 use Rattle.step_records.proofs.of_processor.Statement.{statement}
 use Rattle.step_records.proofs.of_processor.Tie as tie
@@ -29,10 +29,10 @@ of-found-requires : tie.Need-of-found-requires
 of-found-requires c κs = search rules
 
 returns : tie.Need-returns
-unfolding recordAt
+unfolding record_at
 returns c =
     let turns = c.before in
-    c.of-found.ensures ∙ ap recordOf (turns.ruled.ensures ∙ ap (ruledFound _ _) turns.before.found.ensures)
+    c.of-found.ensures ∙ ap record_of (turns.ruled.ensures ∙ ap (ruled_found _ _) turns.before.found.ensures)
 
 found-requires-2 : tie.Need-found-requires-2
 found-requires-2 c κs = search rules
@@ -44,8 +44,8 @@ returns-2 : tie.Need-returns-2
 returns-2 c =
     let start = c.before.before.before.before.before.before in
     let g = start.well-formed.1.1.0.1.1 in
-    c.of-found2.ensures ∙ ap recordOf c.before.found2.ensures
-    ∙ no-processor _ _ start.args.registers _ (simp length-map at g.0.1.0.1) (simp length-map at g.1.0.1.0.1) c.before.before.if1.false
+    c.of-found2.ensures ∙ ap record_of c.before.found2.ensures
+    ∙ no_processor _ _ start.args.registers _ (simp length-map at g.0.1.0.1) (simp length-map at g.1.0.1.0.1) c.before.before.if1.false
 
 pub of-processor-spec : {M : Type 1} → statement M
 of-processor-spec =

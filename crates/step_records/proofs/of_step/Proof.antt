@@ -57,16 +57,16 @@ use Rattle.refusal.specs.declared.Answer.{Answer}
 use Rattle.refusal.specs.contracts.Answer as Ans
 use Rattle.refusal.proofs.Answer.TheLaws as Ans'
 use Rattle.lists.specs.Over.{over}
-use Rattle.lists.proofs.Over.{length_over, over-next}
-use Rattle.ordering.specs.Pairs.{orNone, registersAt}
+use Rattle.lists.proofs.Over.{length_over, over_next}
+use Rattle.ordering.specs.Pairs.{or_none, registers_at}
 use Rattle.ordering.specs.declared.Registers.{Registers}
 use Rattle.ordering.specs.contracts.Registers as Reg
 use Rattle.ordering.proofs.Registers.TheLaws as Reg'
-use Rattle.step_records.specs.Records.{recordAt, beforeRecords, written}
+use Rattle.step_records.specs.Records.{record_at, before_records, written}
 use Rattle.step_records.specs.declared.Record.{Record}
 use Rattle.step_records.specs.contracts.Record as Rec
 use Rattle.step_records.proofs.Record.TheLaws as Rec'
-use Rattle.step_records.proofs.WrittenRows.{written-fits, outcome}
+use Rattle.step_records.proofs.WrittenRows.{written_fits, outcome}
 use Rattle.step_records.specs.contracts.verdict as verdict
 use Rattle.step_records.proofs.verdict.Symbol as verdict-def
 use Rattle.step_records.proofs.verdict.Symbol.{name as #verdict}
@@ -116,15 +116,15 @@ module _ {M : Type 1} {𝓤 : Ura M} (𝓛 : Logic 𝓤) (mem : Memory → SProp
 abbrev word : Ty
 word = ty_int w64
 
-abbrev matrixTy : Ty
-matrixTy = slice_ty (ty_ref (named 0) imm (ty_float binary64))
+abbrev matrix_ty : Ty
+matrix_ty = slice_ty (ty_ref (named 0) imm (ty_float binary64))
 
-abbrev rowTy : Ty
-rowTy = slice_ty (ty_ref (named 1) mut (pointee (Rec.the_row).written))
+abbrev row_ty : Ty
+row_ty = slice_ty (ty_ref (named 1) mut (pointee (Rec.the_row).written))
 
 -- how many bytes a record has
-abbrev recordBytes : ℕ
-recordBytes = (memory Rec.the_row).size
+abbrev record_bytes : ℕ
+record_bytes = (memory Rec.the_row).size
 
 -- A call: the matrix xm, and a row at b and o that holds ys.
 module _ {M : Type 1} {𝓤 : Ura M} (𝓛 : Logic 𝓤) (mem : Memory → SProp 𝓤) (run : Routine → Fun 𝓤)
@@ -156,10 +156,10 @@ module _ {M : Type 1} {𝓤 : Ura M} (𝓛 : Logic 𝓤) (mem : Memory → SProp
   passed = vint w64 n ∷ vm ∷ vint w64 step ∷ vr ∷ []
 
   abbrev regs : Registers
-  regs = orNone n (registersAt n step)
+  regs = or_none n (registers_at n step)
 
   abbrev rec : ℕ → Record
-  rec k = recordAt n xm.now regs k
+  rec k = record_at n xm.now regs k
 
   -- the row once k records are written
   abbrev zs : ℕ → List Record
@@ -170,7 +170,7 @@ module _ {M : Type 1} {𝓤 : Ura M} (𝓛 : Logic 𝓤) (mem : Memory → SProp
   many v = written n (answered v)
 
   abbrev Says : Answer → Type 0
-  Says v = answered v ≡ beforeRecords n xm.now (length ys)
+  Says v = answered v ≡ before_records n xm.now (length ys)
 
   abbrev Post : Val → SProp 𝓤
   Post = (walk_of 𝓛 f.ended stayed (f.clauses 𝓛 mem run)).post (((κ₀, (κ₁, tt)), (q₀, (q₁, tt)), tt, a, vals), tt)
@@ -188,57 +188,57 @@ module _ {M : Type 1} {𝓤 : Ura M} (𝓛 : Logic 𝓤) (mem : Memory → SProp
   Lent = (ShrSlice (named 0) κ₀ f64).own_val xm (vm ∷ [])
 
   -- what each callee is given, what it asks for, and what it says
-  abbrev to-verdict : (Judged 𝓛 mem run).Ghost
-  to-verdict = (((κ₀, tt), (q₀, tt), tt, (n, (xm, (length ys, tt))), (vint w64 n ∷ [], (vm ∷ [], (vint w64 (length ys) ∷ [], tt)))), tt)
+  abbrev to_verdict : (Judged 𝓛 mem run).Ghost
+  to_verdict = (((κ₀, tt), (q₀, tt), tt, (n, (xm, (length ys, tt))), (vint w64 n ∷ [], (vm ∷ [], (vint w64 (length ys) ∷ [], tt)))), tt)
 
-  asks-verdict : ent 𝓤 (⋆ 𝓛 (Tok ∷ ‵ Lent ∷ [])) ((Judged 𝓛 mem run).pre to-verdict)
-  asks-verdict =
+  asks_verdict : ent 𝓤 (⋆ 𝓛 (Tok ∷ ‵ Lent ∷ [])) ((Judged 𝓛 mem run).pre to_verdict)
+  asks_verdict =
       qed 𝓛 (Tok ∷ ‵ Lent ∷ []) ∵ move ! (1 ∷ []) $ nothing ! $
       owned ! usize (Is usize) (uint_Makes 𝓛 w64) (length ys) _ (refl, room.0) $ fjoin ! $ move ! (1 ∷ 0 ∷ []) $ fjoin ! $
       owned ! usize (Is usize) (uint_Makes 𝓛 w64) n _ (refl, n-fits) $ fjoin ! $ move ! (1 ∷ 0 ∷ []) $ join ! $ frame ! $ done !
 
-  says-verdict : (r : Answer)
+  says_verdict : (r : Answer)
       → ent 𝓤 (ensured 𝓛 verdict.ended (verdict.clauses 𝓛 mem run) (κ₀, tt) (n, (xm, (length ys, tt))) tt r) (fact 𝓤 (Says r))
-  says-verdict r = ex_e 𝓤 _ (λ ws. snd∗ 𝓤 (sem 𝓛 (lasts verdict.ended (κ₀, tt) (n, (xm, (length ys, tt))) ws)) (fact 𝓤 (Says r)))
+  says_verdict r = ex_e 𝓤 _ (λ ws. snd∗ 𝓤 (sem 𝓛 (lasts verdict.ended (κ₀, tt) (n, (xm, (length ys, tt))) ws)) (fact 𝓤 (Says r)))
 
-  abbrev to-count : Answer → Val → (Counted 𝓛 mem run).Ghost
-  to-count v w = ((tt, tt, tt, (n, (v, tt)), (vint w64 n ∷ [], (w ∷ [], tt))), tt)
+  abbrev to_count : Answer → Val → (Counted 𝓛 mem run).Ghost
+  to_count v w = ((tt, tt, tt, (n, (v, tt)), (vint w64 n ∷ [], (w ∷ [], tt))), tt)
 
-  asks-count : (v : Answer) (w : Val) → Is Ans.the_row v (w ∷ []) → ent 𝓤 (emp 𝓤) ((Counted 𝓛 mem run).pre (to-count v w))
-  asks-count v w is =
+  asks_count : (v : Answer) (w : Val) → Is Ans.the_row v (w ∷ []) → ent 𝓤 (emp 𝓤) ((Counted 𝓛 mem run).pre (to_count v w))
+  asks_count v w is =
       qed 𝓛 [] ∵ nothing ! $ owned ! Ans.the_row (Is Ans.the_row) (EnumLaws.makes Ans.the_type Ans'.the_plain 𝓛) v _ is $ fjoin ! $
       owned ! usize (Is usize) (uint_Makes 𝓛 w64) n _ (refl, n-fits) $ fjoin ! $ nothing ! $ join ! $ frame ! $ done !
 
-  says-count : (v : Answer) (r : ℕ) → ent 𝓤 (ensured 𝓛 count.ended (count.clauses 𝓛 mem run) tt (n, (v, tt)) tt r) (fact 𝓤 (r ≡ many v))
-  says-count v r = ex_e 𝓤 _ (λ ws. snd∗ 𝓤 (sem 𝓛 (lasts count.ended tt (n, (v, tt)) ws)) (fact 𝓤 (r ≡ many v)))
+  says_count : (v : Answer) (r : ℕ) → ent 𝓤 (ensured 𝓛 count.ended (count.clauses 𝓛 mem run) tt (n, (v, tt)) tt r) (fact 𝓤 (r ≡ many v))
+  says_count v r = ex_e 𝓤 _ (λ ws. snd∗ 𝓤 (sem 𝓛 (lasts count.ended tt (n, (v, tt)) ws)) (fact 𝓤 (r ≡ many v)))
 
-  abbrev to-registers : (Listed 𝓛 mem run).Ghost
-  to-registers = ((tt, tt, tt, (n, (step, tt)), (vint w64 n ∷ [], (vint w64 step ∷ [], tt))), tt)
+  abbrev to_registers : (Listed 𝓛 mem run).Ghost
+  to_registers = ((tt, tt, tt, (n, (step, tt)), (vint w64 n ∷ [], (vint w64 step ∷ [], tt))), tt)
 
-  asks-registers : ent 𝓤 (emp 𝓤) ((Listed 𝓛 mem run).pre to-registers)
-  asks-registers =
+  asks_registers : ent 𝓤 (emp 𝓤) ((Listed 𝓛 mem run).pre to_registers)
+  asks_registers =
       qed 𝓛 [] ∵ nothing ! $ owned ! usize (Is usize) (uint_Makes 𝓛 w64) step _ (refl, step_fits) $ fjoin ! $
       owned ! usize (Is usize) (uint_Makes 𝓛 w64) n _ (refl, n-fits) $ fjoin ! $ nothing ! $ join ! $ frame ! $ done !
 
-  says-registers : (r : Registers)
+  says_registers : (r : Registers)
       → ent 𝓤 (ensured 𝓛 registers.ended (registers.clauses 𝓛 mem run) tt (n, (step, tt)) tt r) (fact 𝓤 (r ≡ regs))
-  says-registers r = ex_e 𝓤 _ (λ ws. snd∗ 𝓤 (sem 𝓛 (lasts registers.ended tt (n, (step, tt)) ws)) (fact 𝓤 (r ≡ regs)))
+  says_registers r = ex_e 𝓤 _ (λ ws. snd∗ 𝓤 (sem 𝓛 (lasts registers.ended tt (n, (step, tt)) ws)) (fact 𝓤 (r ≡ regs)))
 
   -- g holds the registers
-  abbrev to-record : Val → ℕ → (Computed 𝓛 mem run).Ghost
-  to-record g k =
+  abbrev to_record : Val → ℕ → (Computed 𝓛 mem run).Ghost
+  to_record g k =
       (((κ₀, tt), (q₀, tt), tt, (n, (xm, (regs, (k, tt)))), (vint w64 n ∷ [], (vm ∷ [], (g ∷ [], (vint w64 k ∷ [], tt))))), tt)
 
-  asks-record : (g : Val) (k : ℕ) → Is Reg.the_row regs (g ∷ []) → k < 2 ^ 64
-      → ent 𝓤 (⋆ 𝓛 (Tok ∷ ‵ Lent ∷ [])) ((Computed 𝓛 mem run).pre (to-record g k))
-  asks-record g k is-g k-fits =
-      qed 𝓛 (Tok ∷ ‵ Lent ∷ []) ∵ move ! (1 ∷ []) $ nothing ! $ owned ! usize (Is usize) (uint_Makes 𝓛 w64) k _ (refl, k-fits) $ fjoin ! $
+  asks_record : (g : Val) (k : ℕ) → Is Reg.the_row regs (g ∷ []) → k < 2 ^ 64
+      → ent 𝓤 (⋆ 𝓛 (Tok ∷ ‵ Lent ∷ [])) ((Computed 𝓛 mem run).pre (to_record g k))
+  asks_record g k is-g k_fits =
+      qed 𝓛 (Tok ∷ ‵ Lent ∷ []) ∵ move ! (1 ∷ []) $ nothing ! $ owned ! usize (Is usize) (uint_Makes 𝓛 w64) k _ (refl, k_fits) $ fjoin ! $
       owned ! Reg.the_row (Is Reg.the_row) (StructLaws.makes Reg.the_type Reg'.the_plain 𝓛) regs _ is-g $ fjoin ! $ move ! (1 ∷ 0 ∷ []) $ fjoin ! $
       owned ! usize (Is usize) (uint_Makes 𝓛 w64) n _ (refl, n-fits) $ fjoin ! $ move ! (1 ∷ 0 ∷ []) $ join ! $ frame ! $ done !
 
-  says-record : (k : ℕ) (r : Record)
+  says_record : (k : ℕ) (r : Record)
       → ent 𝓤 (ensured 𝓛 of-processor.ended (of-processor.clauses 𝓛 mem run) (κ₀, tt) (n, (xm, (regs, (k, tt)))) tt r) (fact 𝓤 (r ≡ rec k))
-  says-record k r = ex_e 𝓤 _ (λ ws. snd∗ 𝓤 (sem 𝓛 (lasts of-processor.ended (κ₀, tt) (n, (xm, (regs, (k, tt)))) ws)) (fact 𝓤 (r ≡ rec k)))
+  says_record k r = ex_e 𝓤 _ (λ ws. snd∗ 𝓤 (sem 𝓛 (lasts of-processor.ended (κ₀, tt) (n, (xm, (regs, (k, tt)))) ws)) (fact 𝓤 (r ≡ rec k)))
 
   -- what is left at exit
   abbrev Exit : ℕ → List (Item 𝓤)
@@ -279,7 +279,7 @@ module _ {M : Type 1} {𝓤 : Ura M} (𝓛 : Logic 𝓤) (mem : Memory → SProp
     module _ (l₀ l₁ l₂ l₃ l₄ l₅ l₆ l₇ l₈ l₉ l₁₀ l₁₁ l₁₂ l₁₃ : ℕ) where
       abbrev En : Env 𝓤 H
       En =
-          (Ans'.mir, l₀) ∷ (word, l₁) ∷ (matrixTy, l₂) ∷ (word, l₃) ∷ (rowTy, l₄) ∷ (Ans'.mir, l₅) ∷ (word, l₆) ∷ (Reg'.mir, l₇) ∷ (word, l₈) ∷ (word, l₉)
+          (Ans'.mir, l₀) ∷ (word, l₁) ∷ (matrix_ty, l₂) ∷ (word, l₃) ∷ (row_ty, l₄) ∷ (Ans'.mir, l₅) ∷ (word, l₆) ∷ (Reg'.mir, l₇) ∷ (word, l₈) ∷ (word, l₉)
           ∷ (ty_bool, l₁₀) ∷ (Rec'.mir, l₁₁) ∷ (word, l₁₂) ∷ (ty_ptr, l₁₃) ∷ []
 
       -- the verdict v as the value w, and the registers as the value g
@@ -290,11 +290,11 @@ module _ {M : Type 1} {𝓤 : Ura M} (𝓛 : Logic 𝓤) (mem : Memory → SProp
         -- what stays as it is while the loop runs
         abbrev Frame : List (Item 𝓤)
         Frame =
-            Tok ∷ ‵ Lent ∷ ‵ (fat full_share word l₁ 0 (vint w64 n)) ∷ ‵ (fat full_share matrixTy l₂ 0 vm) ∷ ‵ (fat full_share word l₃ 0 (vint w64 step))
-            ∷ ‵ (fat full_share rowTy l₄ 0 vr) ∷ ‵ (fat full_share Ans'.mir l₅ 0 w) ∷ ‵ (fat full_share word l₆ 0 (vint w64 m)) ∷ ‵ (fat full_share Reg'.mir l₇ 0 g)
+            Tok ∷ ‵ Lent ∷ ‵ (fat full_share word l₁ 0 (vint w64 n)) ∷ ‵ (fat full_share matrix_ty l₂ 0 vm) ∷ ‵ (fat full_share word l₃ 0 (vint w64 step))
+            ∷ ‵ (fat full_share row_ty l₄ 0 vr) ∷ ‵ (fat full_share Ans'.mir l₅ 0 w) ∷ ‵ (fat full_share word l₆ 0 (vint w64 m)) ∷ ‵ (fat full_share Reg'.mir l₇ 0 g)
             ∷ ‵ (froom word l₉ 0) ∷ ‵ (froom Ans'.mir l₀ 0) ∷ ‵ (fobor κ₁ q₁ (Held Rec.the_row (length ys) b o γ))
             ∷ ‵ (fobs γ ((coded_holeys Rec.the_row).code (heres Rec.the_row ys))) ∷ ‵ (fauth γ ((coded_holeys Rec.the_row).code (heres Rec.the_row ys)))
-            ∷ ‵ (fdies Ans'.mir l₀) ∷ ‵ (fdies word l₁) ∷ ‵ (fdies matrixTy l₂) ∷ ‵ (fdies word l₃) ∷ ‵ (fdies rowTy l₄) ∷ ‵ (fdies Ans'.mir l₅)
+            ∷ ‵ (fdies Ans'.mir l₀) ∷ ‵ (fdies word l₁) ∷ ‵ (fdies matrix_ty l₂) ∷ ‵ (fdies word l₃) ∷ ‵ (fdies row_ty l₄) ∷ ‵ (fdies Ans'.mir l₅)
             ∷ ‵ (fdies word l₆) ∷ ‵ (fdies Reg'.mir l₇) ∷ ‵ (fdies word l₈) ∷ ‵ (fdies word l₉) ∷ ‵ (fdies ty_bool l₁₀) ∷ ‵ (fdies Rec'.mir l₁₁)
             ∷ ‵ (fdies word l₁₂) ∷ ‵ (fdies ty_ptr l₁₃) ∷ []
 
@@ -325,23 +325,23 @@ module _ {M : Type 1} {𝓤 : Ura M} (𝓛 : Logic 𝓤) (mem : Memory → SProp
             rewrite ! 2 (λ (t : Bool). ‵ (fat full_share ty_bool l₁₀ 0 (vbool t))) (lt-ltb k m small) refl $
             stays ! (load ! (from ! (stop !)) (look ! 2 refl)) $
             move ! (7 ∷ []) $ use1 𝓛 (‵ Lent ⊛ ‵ Lent) ((shr_slice_copy 𝓛 (named 0) κ₀ f64).twice xm (vm ∷ [])) $ split ! $
-            move ! (8 ∷ 0 ∷ []) $ use2 𝓛 (raw ((Computed 𝓛 mem run).pre (to-record g k))) (asks-record g k is-g k-fits) $
+            move ! (8 ∷ 0 ∷ []) $ use2 𝓛 (raw ((Computed 𝓛 mem run).pre (to_record g k))) (asks_record g k is-g k_fits) $
             -- [what the callee asks for; what is lent; row 2; k 3; _10 4; _11 5; _12 6; _13 7; _1 8; _2 9; .. _7 14; ..]
-            calls_at ! fm (Computed 𝓛 mem run) known-record (to-record g k)
+            calls_at ! fm (Computed 𝓛 mem run) known-record (to_record g k)
             (and_then ! (load ! (from ! (stop !)) (look ! 8 refl)) (and_then ! (load ! (from ! (stop !)) (look ! 9 refl))
             (and_then ! (load ! (from ! (stop !)) (look ! 14 refl)) (and_then ! (load ! (from ! (stop !)) (look ! 3 refl)) (no_more !))))) (λ u.
             use1 𝓛 (later (some (λ (r : Record). (Tok ⊛ ‵ ((Rec.the_row).own_val r (u ∷ []))) ⊛
             raw (ensured 𝓛 of-processor.ended (of-processor.clauses 𝓛 mem run) (κ₀, tt) (n, (xm, (regs, (k, tt)))) tt r)))) (id⊢ 𝓤 _) $
-            await ! tt $ pick ! (λ r. split ! $ move ! (1 ∷ []) $ use1 𝓛 (raw (fact 𝓤 (r ≡ rec k))) (says-record k r) $ heard ! (r ≡ rec k) (λ e.
+            await ! tt $ pick ! (λ r. split ! $ move ! (1 ∷ []) $ use1 𝓛 (raw (fact 𝓤 (r ≡ rec k))) (says_record k r) $ heard ! (r ≡ rec k) (λ e.
             split ! $ move ! (1 ∷ []) $
             -- [the record; the token; what is lent; row 3; k 4; _10 5; _11 6; _12 7; _13 8; _1 9; _2 10; _3 11; _4 12; ..]
             peeks ! Rec.the_row (Is Rec.the_row) (shows 𝓛 Rec.the_row) r (u ∷ []) (λ is.
             land ! (from ! (stop !)) (init ! 6 refl ((StructLaws.lawful Rec.the_type Rec'.the_laws 𝓛).typed r _ is).0) $
-            assigns ! (bin ! (load ! (from ! (stop !)) (look ! 4 refl)) (lit ! tt) (record { fits = offset-fits }))
-            (from ! (stop !)) (init ! 7 refl (tt, record { fits = offset-fits })) $
+            assigns ! (bin ! (load ! (from ! (stop !)) (look ! 4 refl)) (lit ! tt) (record { fits = offset_fits }))
+            (from ! (stop !)) (init ! 7 refl (tt, record { fits = offset_fits })) $
             assigns ! (bin ! (load ! (from ! (fld ! refl (stop !))) (look_in ! 12 (sub ! 0 refl (whole !)))) (load ! (from ! (stop !)) (look ! 7 refl)) tt)
             (from ! (stop !)) (init ! 8 refl (tt, tt)) $
-            rewrite ! 8 (λ (p : ℕ). ‵ (fat full_share ty_ptr l₁₃ 0 (vptr b p))) (sym (place_is recordBytes o k)) refl $
+            rewrite ! 8 (λ (p : ℕ). ‵ (fat full_share ty_ptr l₁₃ 0 (vptr b p))) (sym (place_is record_bytes o k)) refl $
             move ! (3 ∷ []) $ elem_out ! Rec.the_row (Is Rec.the_row) (shows 𝓛 Rec.the_row) (StructLaws.vals Rec.the_type Rec'.the_laws)
             (StructLaws.tells Rec.the_type Rec'.the_laws) full_share (zs k) k (rec 0) b o inside (λ _.
             -- [the element; what it owns; the others; the record 3; the token; what is lent; k 6; _10 7; _11 8; _12 9; _13 10; ..]
@@ -349,7 +349,7 @@ module _ {M : Type 1} {𝓤 : Ura M} (𝓛 : Logic 𝓤) (mem : Memory → SProp
             (store_raw ! 0 refl ((StructLaws.lawful Rec.the_type Rec'.the_laws 𝓛).typed r _ is).0) $
             move ! (1 ∷ []) $ drop ! $ move ! (0 ∷ 2 ∷ []) $ elem_put ! Rec.the_row full_share (zs k) k r (u ∷ []) b o inside $
             rewrite ! 0 (λ (d : Record). ‵ (row Rec.the_row full_share (set (zs k) k d) b o)) e refl $
-            rewrite ! 0 (λ (l : List Record). ‵ (row Rec.the_row full_share l b o)) (over-next k rec ys) refl $
+            rewrite ! 0 (λ (l : List Record). ‵ (row Rec.the_row full_share l b o)) (over_next k rec ys) refl $
             -- [row; the token; what is lent; k 3; _10 4; _11 5; _12 6; _13 7; ..]
             assigns_last ! (bin ! (load ! (from ! (stop !)) (look ! 3 refl)) (lit ! tt) (record { fits = next_fits }))
             (from ! (stop !)) (store ! 3 refl (tt, record { fits = next_fits })) $
@@ -358,19 +358,19 @@ module _ {M : Type 1} {𝓤 : Ura M} (𝓛 : Logic 𝓤) (mem : Memory → SProp
             move ! (0 ∷ 3 ∷ 4 ∷ 5 ∷ 6 ∷ 7 ∷ 1 ∷ 2 ∷ []) $ by ! next)))))
           where
             all_fit : m ≤ length ys
-            all_fit = rw say (written-fits n xm.now (length ys))
+            all_fit = rw say (written_fits n xm.now (length ys))
 
             in_row : k < length ys
             in_row = omega (arith, all_fit)
 
-            bytes : length ys * recordBytes < 2 ^ 63
+            bytes : length ys * record_bytes < 2 ^ 63
             bytes = room.1
 
-            k-fits : k < 2 ^ 64
-            k-fits = omega (arith, bytes, in_row)
+            k_fits : k < 2 ^ 64
+            k_fits = omega (arith, bytes, in_row)
 
-            offset-fits : k * recordBytes < 2 ^ 64
-            offset-fits = omega (arith, bytes, in_row)
+            offset_fits : k * record_bytes < 2 ^ 64
+            offset_fits = omega (arith, bytes, in_row)
 
             next_fits : k + 1 < 2 ^ 64
             next_fits = omega (arith, bytes, in_row)
@@ -430,8 +430,8 @@ module _ {M : Type 1} {𝓤 : Ura M} (𝓛 : Logic 𝓤) (mem : Memory → SProp
           ∷ ‵ (froom ty_ptr l₁₃ 0) ∷ ‵ (fdies ty_ptr l₁₃) ∷ ‵ (froom word l₁₂ 0) ∷ ‵ (fdies word l₁₂) ∷ ‵ (froom Rec'.mir l₁₁ 0) ∷ ‵ (fdies Rec'.mir l₁₁)
           ∷ ‵ (froom ty_bool l₁₀ 0) ∷ ‵ (fdies ty_bool l₁₀) ∷ ‵ (fat full_share word l₉ 0 (vint w64 (length ys))) ∷ ‵ (fdies word l₉)
           ∷ ‵ (froom word l₈ 0) ∷ ‵ (fdies word l₈) ∷ c₇ ∷ ‵ (fdies Reg'.mir l₇) ∷ c₆ ∷ ‵ (fdies word l₆) ∷ c₅ ∷ ‵ (fdies Ans'.mir l₅)
-          ∷ ‵ (fat full_share rowTy l₄ 0 vr) ∷ ‵ (fdies rowTy l₄) ∷ ‵ (fat full_share word l₃ 0 (vint w64 step)) ∷ ‵ (fdies word l₃)
-          ∷ ‵ (fat full_share matrixTy l₂ 0 vm) ∷ ‵ (fdies matrixTy l₂) ∷ ‵ (fat full_share word l₁ 0 (vint w64 n)) ∷ ‵ (fdies word l₁)
+          ∷ ‵ (fat full_share row_ty l₄ 0 vr) ∷ ‵ (fdies row_ty l₄) ∷ ‵ (fat full_share word l₃ 0 (vint w64 step)) ∷ ‵ (fdies word l₃)
+          ∷ ‵ (fat full_share matrix_ty l₂ 0 vm) ∷ ‵ (fdies matrix_ty l₂) ∷ ‵ (fat full_share word l₁ 0 (vint w64 n)) ∷ ‵ (fdies word l₁)
           ∷ ‵ (froom Ans'.mir l₀ 0) ∷ ‵ (fdies Ans'.mir l₀) ∷ []
 
       -- no answer, no count, no registers so far
@@ -463,12 +463,12 @@ module _ {M : Type 1} {𝓤 : Ura M} (𝓛 : Logic 𝓤) (mem : Memory → SProp
         lists : ent 𝓤 (⋆ 𝓛 (Before (Judge w) (Count v) Unlisted)) (Wp 𝓤 H C Λ En mirs.t-4 (at_return 𝓤 H En Post))
         lists =
             qed 𝓛 (Before (Judge w) (Count v) Unlisted) ∵ exec ! C Λ En mirs.t-4 (at_ret En Post) $
-            use0 𝓛 (raw ((Listed 𝓛 mem run).pre to-registers)) asks-registers $
-            calls_at ! fm (Listed 𝓛 mem run) known-registers to-registers
+            use0 𝓛 (raw ((Listed 𝓛 mem run).pre to_registers)) asks_registers $
+            calls_at ! fm (Listed 𝓛 mem run) known-registers to_registers
             (and_then ! (load ! (from ! (stop !)) (look ! 31 refl)) (and_then ! (load ! (from ! (stop !)) (look ! 27 refl)) (no_more !))) (λ u.
             use1 𝓛 (later (some (λ (r : Registers). (‵ ftrue ⊛ ‵ ((Reg.the_row).own_val r (u ∷ []))) ⊛
             raw (ensured 𝓛 registers.ended (registers.clauses 𝓛 mem run) tt (n, (step, tt)) tt r)))) (id⊢ 𝓤 _) $
-            await ! tt $ pick ! (λ r. split ! $ move ! (1 ∷ []) $ use1 𝓛 (raw (fact 𝓤 (r ≡ regs))) (says-registers r) $ heard ! (r ≡ regs) (λ e.
+            await ! tt $ pick ! (λ r. split ! $ move ! (1 ∷ []) $ use1 𝓛 (raw (fact 𝓤 (r ≡ regs))) (says_registers r) $ heard ! (r ≡ regs) (λ e.
             split ! $ drop ! $ facts ! Reg.the_row (Is Reg.the_row) (shows 𝓛 Reg.the_row) r (u ∷ []) (λ is.
             land ! (from ! (stop !)) (init ! 18 refl ((StructLaws.lawful Reg.the_type Reg'.the_laws 𝓛).typed r _ is).0) $
             by ! (starts u (subst (λ (q : Registers). Is Reg.the_row q (u ∷ [])) e is))))))
@@ -476,12 +476,12 @@ module _ {M : Type 1} {𝓤 : Ura M} (𝓛 : Logic 𝓤) (mem : Memory → SProp
         counts : ent 𝓤 (⋆ 𝓛 (Before (Judge w) Uncounted Unlisted)) (Wp 𝓤 H C Λ En mirs.t-3 (at_return 𝓤 H En Post))
         counts =
             qed 𝓛 (Before (Judge w) Uncounted Unlisted) ∵ exec ! C Λ En mirs.t-3 (at_ret En Post) $
-            use0 𝓛 (raw ((Counted 𝓛 mem run).pre (to-count v w))) (asks-count v w is-v) $
-            calls_at ! fm (Counted 𝓛 mem run) known-count (to-count v w)
+            use0 𝓛 (raw ((Counted 𝓛 mem run).pre (to_count v w))) (asks_count v w is-v) $
+            calls_at ! fm (Counted 𝓛 mem run) known-count (to_count v w)
             (and_then ! (load ! (from ! (stop !)) (look ! 31 refl)) (and_then ! (load ! (from ! (stop !)) (look ! 23 refl)) (no_more !))) (λ u.
             use1 𝓛 (later (some (λ (r : ℕ). (‵ ftrue ⊛ ‵ (usize.own_val r (u ∷ []))) ⊛
             raw (ensured 𝓛 count.ended (count.clauses 𝓛 mem run) tt (n, (v, tt)) tt r)))) (id⊢ 𝓤 _) $
-            await ! tt $ pick ! (λ r. split ! $ move ! (1 ∷ []) $ use1 𝓛 (raw (fact 𝓤 (r ≡ many v))) (says-count v r) $ heard ! (r ≡ many v) (λ e.
+            await ! tt $ pick ! (λ r. split ! $ move ! (1 ∷ []) $ use1 𝓛 (raw (fact 𝓤 (r ≡ many v))) (says_count v r) $ heard ! (r ≡ many v) (λ e.
             split ! $ drop ! $ facts ! usize (Is usize) (shows 𝓛 usize) r (u ∷ []) (λ is.
             land ! (from ! (stop !)) (init ! 20 refl ((uint_Lawful 𝓛 w64).typed r _ is).0) $
             rewrite ! 20 (λ (c : Val). ‵ (fat full_share word l₆ 0 c)) (ap only is.0 ∙ ap (vint w64) e) refl $ by ! lists))))
@@ -490,13 +490,13 @@ module _ {M : Type 1} {𝓤 : Ura M} (𝓛 : Logic 𝓤) (mem : Memory → SProp
       judges =
           qed 𝓛 (Before Unjudged Uncounted Unlisted) ∵ exec ! C Λ En mirs.t-2 (at_ret En Post) $
           move ! (1 ∷ []) $ use1 𝓛 (‵ Lent ⊛ ‵ Lent) ((shr_slice_copy 𝓛 (named 0) κ₀ f64).twice xm (vm ∷ [])) $ split ! $
-          move ! (2 ∷ 0 ∷ []) $ use2 𝓛 (raw ((Judged 𝓛 mem run).pre to-verdict)) asks-verdict $
-          calls_at ! fm (Judged 𝓛 mem run) known-verdict to-verdict
+          move ! (2 ∷ 0 ∷ []) $ use2 𝓛 (raw ((Judged 𝓛 mem run).pre to_verdict)) asks_verdict $
+          calls_at ! fm (Judged 𝓛 mem run) known-verdict to_verdict
           (and_then ! (load ! (from ! (stop !)) (look ! 30 refl)) (and_then ! (load ! (from ! (stop !)) (look ! 28 refl))
           (and_then ! (load ! (from ! (stop !)) (look ! 14 refl)) (no_more !)))) (λ u.
           use1 𝓛 (later (some (λ (r : Answer). (Tok ⊛ ‵ ((Ans.the_row).own_val r (u ∷ []))) ⊛
           raw (ensured 𝓛 verdict.ended (verdict.clauses 𝓛 mem run) (κ₀, tt) (n, (xm, (length ys, tt))) tt r)))) (id⊢ 𝓤 _) $
-          await ! tt $ pick ! (λ r. split ! $ move ! (1 ∷ []) $ use1 𝓛 (raw (fact 𝓤 (Says r))) (says-verdict r) $ heard ! (Says r) (λ say.
+          await ! tt $ pick ! (λ r. split ! $ move ! (1 ∷ []) $ use1 𝓛 (raw (fact 𝓤 (Says r))) (says_verdict r) $ heard ! (Says r) (λ say.
           split ! $ move ! (1 ∷ []) $ facts ! Ans.the_row (Is Ans.the_row) (shows 𝓛 Ans.the_row) r (u ∷ []) (λ is.
           land ! (from ! (stop !)) (init ! 22 refl ((EnumLaws.lawful Ans.the_type Ans'.the_laws 𝓛 tt).typed r _ is).0) $ by ! (counts r u is say)))))
 
@@ -506,8 +506,8 @@ module _ {M : Type 1} {𝓤 : Ura M} (𝓛 : Logic 𝓤) (mem : Memory → SProp
           ‵ (froom ty_ptr l₁₃ 0) ∷ ‵ (fdies ty_ptr l₁₃) ∷ ‵ (froom word l₁₂ 0) ∷ ‵ (fdies word l₁₂) ∷ ‵ (froom Rec'.mir l₁₁ 0) ∷ ‵ (fdies Rec'.mir l₁₁)
           ∷ ‵ (froom ty_bool l₁₀ 0) ∷ ‵ (fdies ty_bool l₁₀) ∷ ‵ (froom word l₉ 0) ∷ ‵ (fdies word l₉) ∷ ‵ (froom word l₈ 0) ∷ ‵ (fdies word l₈)
           ∷ ‵ (froom Reg'.mir l₇ 0) ∷ ‵ (fdies Reg'.mir l₇) ∷ ‵ (froom word l₆ 0) ∷ ‵ (fdies word l₆) ∷ ‵ (froom Ans'.mir l₅ 0) ∷ ‵ (fdies Ans'.mir l₅)
-          ∷ ‵ (fat full_share rowTy l₄ 0 vr) ∷ ‵ (fdies rowTy l₄) ∷ ‵ (fat full_share word l₃ 0 (vint w64 step)) ∷ ‵ (fdies word l₃)
-          ∷ ‵ (fat full_share matrixTy l₂ 0 vm) ∷ ‵ (fdies matrixTy l₂) ∷ ‵ (fat full_share word l₁ 0 (vint w64 n)) ∷ ‵ (fdies word l₁)
+          ∷ ‵ (fat full_share row_ty l₄ 0 vr) ∷ ‵ (fdies row_ty l₄) ∷ ‵ (fat full_share word l₃ 0 (vint w64 step)) ∷ ‵ (fdies word l₃)
+          ∷ ‵ (fat full_share matrix_ty l₂ 0 vm) ∷ ‵ (fdies matrix_ty l₂) ∷ ‵ (fat full_share word l₁ 0 (vint w64 n)) ∷ ‵ (fdies word l₁)
           ∷ ‵ (froom Ans'.mir l₀ 0) ∷ ‵ (fdies Ans'.mir l₀) ∷ Tokens ∷ Params ∷ []
 
       -- the length of the row is read, and the borrow is opened
@@ -523,12 +523,12 @@ module _ {M : Type 1} {𝓤 : Ura M} (𝓛 : Logic 𝓤) (mem : Memory → SProp
           move ! (5 ∷ 4 ∷ []) $ join ! $ move ! (0 ∷ 5 ∷ []) $ by ! judges
 
     -- the function with any body
-    abbrev with-body : Code → Fn
-    with-body body = record {
+    abbrev with_body : Code → Fn
+    with_body body = record {
       lifetimes = 2;
       outlives = [];
       params = 4;
-      locals = local Ans'.mir value_local ∷ local word value_local ∷ local matrixTy value_local ∷ local word value_local ∷ local rowTy value_local
+      locals = local Ans'.mir value_local ∷ local word value_local ∷ local matrix_ty value_local ∷ local word value_local ∷ local row_ty value_local
           ∷ local Ans'.mir value_local ∷ local word value_local ∷ local Reg'.mir value_local ∷ local word value_local ∷ local word value_local
           ∷ local ty_bool value_local ∷ local Rec'.mir value_local ∷ local word value_local ∷ local ty_ptr value_local ∷ [];
       body = body;
@@ -538,10 +538,10 @@ module _ {M : Type 1} {𝓤 : Ura M} (𝓛 : Logic 𝓤) (mem : Memory → SProp
         → ((l₀ l₁ l₂ l₃ l₄ l₅ l₆ l₇ l₈ l₉ l₁₀ l₁₁ l₁₂ l₁₃ : ℕ)
         → ent 𝓤 (⋆ 𝓛 (Entry l₀ l₁ l₂ l₃ l₄ l₅ l₆ l₇ l₈ l₉ l₁₀ l₁₁ l₁₂ l₁₃))
         (Wp 𝓤 H C Λ (En l₀ l₁ l₂ l₃ l₄ l₅ l₆ l₇ l₈ l₉ l₁₀ l₁₁ l₁₂ l₁₃) body (at_return 𝓤 H (En l₀ l₁ l₂ l₃ l₄ l₅ l₆ l₇ l₈ l₉ l₁₀ l₁₁ l₁₂ l₁₃) Post)))
-        → ent 𝓤 (on_entry 𝓛 f.signature (κ₀, (κ₁, tt)) (q₀, (q₁, tt)) a vals) (WpFn 𝓤 H C Λ (with-body body) passed Post)
+        → ent 𝓤 (on_entry 𝓛 f.signature (κ₀, (κ₁, tt)) (q₀, (q₁, tt)) a vals) (WpFn 𝓤 H C Λ (with_body body) passed Post)
     enters body next =
         qed 𝓛 (Tokens ∷ Params ∷ []) ∵
-        enter ! C Λ (with-body body) passed _ $
+        enter ! C Λ (with_body body) passed _ $
         alloc1 ! (λ l₀. alloc1 ! (λ l₁. alloc1 ! (λ l₂. alloc1 ! (λ l₃. alloc1 ! (λ l₄. alloc1 ! (λ l₅. alloc1 ! (λ l₆. alloc1 ! (λ l₇. alloc1 ! (λ l₈.
         alloc1 ! (λ l₉. alloc1 ! (λ l₁₀. alloc1 ! (λ l₁₁. alloc1 ! (λ l₁₂. alloc1 ! (λ l₁₃. alloc0 ! $ params1 ! $
         pass1 ! (init ! 24 refl (tt, record { fits = n-fits })) $ pass1 ! (init ! 22 refl (tt, (tt, (record { fits = matrix-room.0 }, tt)))) $

@@ -1,15 +1,15 @@
 use Prim.Native.Nat.{◌-◌, ◌≤◌}
 use borrow.Author.Rules.{rules}
-use Rattle.sizes.specs.Sizes.{mostProcessors}
+use Rattle.sizes.specs.Sizes.{most_processors}
 use Rattle.test_entries.proofs.write_registers.Statement.{statement}
 use Rattle.test_entries.proofs.write_registers.Tie as tie
 
 -- The index stays within the registers. What falls is the number of registers left.
 abbrev invariant-loop : tie.invariant-loop
-invariant-loop lefts rights k₀ k = k ≤ mostProcessors
+invariant-loop lefts rights k₀ k = k ≤ most_processors
 
 abbrev decreases-loop : tie.decreases-loop
-decreases-loop lefts rights k₀ k = mostProcessors - k
+decreases-loop lefts rights k₀ k = most_processors - k
 
 loop-holds : tie.Need-loop-init invariant-loop decreases-loop
 loop-holds c = search rules

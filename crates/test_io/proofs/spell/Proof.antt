@@ -1,7 +1,7 @@
 use borrow.Author.Rules.{rules}
-use Rattle.text.specs.Text.{hexOf}
+use Rattle.text.specs.Text.{hex_of}
 use Rattle.text.proofs.TextPieces.{put_whole}
-use Rattle.test_io.specs.TextLines.{wordTextLine}
+use Rattle.test_io.specs.TextLines.{word_text_line}
 use Rattle.test_io.proofs.spell.Statement.{statement}
 use Rattle.test_io.proofs.spell.Tie as tie
 
@@ -12,7 +12,7 @@ put-hex-requires : tie.Need-put-hex-requires
 put-hex-requires c κs = search rules
 
 returns : tie.Need-returns
-unfolding wordTextLine hexOf
+unfolding word_text_line hex_of
 returns c = (put_whole _ _ _ _ c.before.put-hex.ensures.0).1
 
 pub spell-spec : {M : Type 1} → statement M

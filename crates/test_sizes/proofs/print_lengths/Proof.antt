@@ -1,15 +1,15 @@
 use Prim.Native.Nat.{◌-◌, ◌≤◌}
 use borrow.Author.Rules.{rules}
-use Rattle.sizes.specs.Sizes.{largestOrder}
+use Rattle.sizes.specs.Sizes.{largest_order}
 use Rattle.test_sizes.proofs.print_lengths.Statement.{statement}
 use Rattle.test_sizes.proofs.print_lengths.Tie as tie
 
 -- No more numbers are done than the largest order. What falls is the number of those left.
 abbrev invariant-loop : tie.invariant-loop
-invariant-loop k₀ t2 t3 t4 k = k ≤ largestOrder
+invariant-loop k₀ t2 t3 t4 k = k ≤ largest_order
 
 abbrev decreases-loop : tie.decreases-loop
-decreases-loop k₀ t2 t3 t4 k = largestOrder - k
+decreases-loop k₀ t2 t3 t4 k = largest_order - k
 
 loop-holds : tie.Need-loop-init invariant-loop decreases-loop
 loop-holds c = search rules

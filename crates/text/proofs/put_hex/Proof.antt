@@ -1,7 +1,7 @@
 use Prim.Native.Nat.{suc, ◌-◌, ◌≤◌}
 use mathlib.Core.Path.{◌≡◌, refl}
 use native.Mathlib.Omega.{arith}
-use Rattle.text.proofs.TextPieces.{Digits, digits-none, digits-next, digits-all}
+use Rattle.text.proofs.TextPieces.{Digits, digits_none, digits_next, digits_all}
 use Rattle.text.proofs.put_hex.Statement.{statement}
 use Rattle.text.proofs.put_hex.Tie as tie
 
@@ -13,7 +13,7 @@ abbrev decreases-loop : tie.decreases-loop
 decreases-loop word at text₀ rest₀ k₀ text rest k = k
 
 loop-holds : tie.Need-loop-init invariant-loop decreases-loop
-loop-holds c = (omega arith, digits-none _ _ _)
+loop-holds c = (omega arith, digits_none _ _ _)
 
 sub-k : tie.Need-overflow-sub-k invariant-loop decreases-loop
 sub-k c = omega arith
@@ -34,7 +34,7 @@ loop-again : tie.Need-loop-preserved invariant-loop decreases-loop
 loop-again c =
     let loop = c.before.before.loop in
     let z : loop.k ≡ suc (loop.k - 1) = omega arith in
-    (omega arith, digits-next _ _ _ _ _ _ (rw z at loop.invariant.1) (omega arith) (omega arith) c.code.ensures)
+    (omega arith, digits_next _ _ _ _ _ _ (rw z at loop.invariant.1) (omega arith) (omega arith) c.code.ensures)
 
 add-result : tie.Need-overflow-add-result invariant-loop decreases-loop
 add-result c = omega arith
@@ -46,7 +46,7 @@ returns : tie.Need-returns invariant-loop decreases-loop
 returns c =
     let loop = c.before.loop in
     let z : loop.k ≡ 0 = omega arith in
-    (digits-all _ _ _ _ _ (rw z at loop.invariant.1), refl)
+    (digits_all _ _ _ _ _ (rw z at loop.invariant.1), refl)
 
 pub put-hex-spec : {M : Type 1} → statement M
 put-hex-spec =

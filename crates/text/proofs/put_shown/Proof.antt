@@ -3,13 +3,13 @@ use mathlib.Core.List.{[], ◌∷◌}
 use Prim.Native.Nat.{ℕ}
 use native.Mathlib.Omega.{arith}
 use lib.ListN.{length}
-use Rattle.text.proofs.TextPieces.{put-none, put_as, shown-not, shown}
+use Rattle.text.proofs.TextPieces.{put_none, put_as, shown_not, shown}
 use borrow.Author.Rules.{rules}
 use Rattle.text.proofs.put_shown.Statement.{statement}
 use Rattle.text.proofs.put_shown.Tie as tie
 
 returns : tie.Need-returns
-returns c = put_as (put-none _ _) (shown-not _ _ (omega arith))
+returns c = put_as (put_none _ _) (shown_not _ _ (omega arith))
 
 div-code : tie.Need-nonzero-div-code
 div-code c = search rules

@@ -1,4 +1,4 @@
-use Rattle.systolic.specs.Tiles.{phaseIn}
+use Rattle.systolic.specs.Tiles.{phase_in}
 use borrow.Author.Rules.{rules}
 use Rattle.tile_schedule.proofs.phase_in.Statement.{statement}
 use Rattle.tile_schedule.proofs.phase_in.Tie as tie
@@ -22,27 +22,27 @@ enum-told-6 : tie.Need-enum-told-6
 enum-told-6 c = search rules
 
 returns : tie.Need-returns
-unfolding phaseIn
+unfolding phase_in
 returns c = rw c.enum_told.given.1
 
 returns-2 : tie.Need-returns-2
-unfolding phaseIn
+unfolding phase_in
 returns-2 c = rw c.enum-told2.given.1
 
 returns-3 : tie.Need-returns-3
-unfolding phaseIn
+unfolding phase_in
 returns-3 c = rw c.enum-told3.given.1
 
 returns-4 : tie.Need-returns-4
-unfolding phaseIn
+unfolding phase_in
 returns-4 c = rw c.enum-told4.given.1
 
 returns-5 : tie.Need-returns-5
-unfolding phaseIn
+unfolding phase_in
 returns-5 c = rw c.enum-told5.given.1
 
 returns-6 : tie.Need-returns-6
-unfolding phaseIn
+unfolding phase_in
 returns-6 c = rw c.enum-told6.given.1
 
 pub phase-in-spec : {M : Type 1} → statement M

@@ -1,6 +1,6 @@
 use mathlib.Core.Path.{◌∙◌}
 use native.Mathlib.Omega.{arith}
-use Rattle.tile_start.proofs.StartTiles.{row-unused, column-unused, in_use}
+use Rattle.tile_start.proofs.StartTiles.{row_unused, column_unused, in_use}
 use borrow.Author.Rules.{rules}
 use Rattle.tile_start.proofs.tile_at.Statement.{statement}
 use Rattle.tile_start.proofs.tile_at.Tie as tie
@@ -12,13 +12,13 @@ zero-tile-requires : tie.Need-zero-tile-requires
 zero-tile-requires c κs = search rules
 
 returns : tie.Need-returns
-returns c = c.zero-tile.ensures ∙ row-unused _ _ _ _ (omega arith)
+returns c = c.zero-tile.ensures ∙ row_unused _ _ _ _ (omega arith)
 
 zero-tile-requires-2 : tie.Need-zero-tile-requires-2
 zero-tile-requires-2 c κs = search rules
 
 returns-2 : tie.Need-returns-2
-returns-2 c = c.zero-tile2.ensures ∙ column-unused _ _ _ _ (omega arith) (omega arith)
+returns-2 c = c.zero-tile2.ensures ∙ column_unused _ _ _ _ (omega arith) (omega arith)
 
 first-line-requires : tie.Need-first-line-requires
 first-line-requires c κs = search rules
@@ -48,7 +48,7 @@ returns-3 : tie.Need-returns-3
 returns-3 c =
     let identity = c.before in
     let entries = identity.before in
-    in_use _ _ _ _ (omega arith) (omega arith) entries.before.first-line.ensures entries.entries_at.ensures identity.identity-at.ensures
+    in_use _ _ _ _ (omega arith) (omega arith) entries.before.first_line.ensures entries.entries_at.ensures identity.identity-at.ensures
     c.tile-with.ensures
 
 pub tile-at-spec : {M : Type 1} → statement M

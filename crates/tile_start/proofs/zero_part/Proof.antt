@@ -1,10 +1,10 @@
 use mathlib.Core.Path.{refl}
-use Rattle.tile_start.specs.Beginning.{zeroPart}
+use Rattle.tile_start.specs.Beginning.{zero_part}
 use Rattle.tile_start.proofs.zero_part.Statement.{statement}
 use Rattle.tile_start.proofs.zero_part.Tie as tie
 
 returns : tie.Need-returns
-unfolding zeroPart
+unfolding zero_part
 returns c = refl
 
 pub zero-part-spec : {M : Type 1} → statement M

@@ -1,4 +1,4 @@
-use Rattle.tile_wires.specs.Wires.{partWires}
+use Rattle.tile_wires.specs.Wires.{part_wires}
 use borrow.Author.Rules.{rules}
 use Rattle.tile_wires.proofs.after.Statement.{statement}
 use Rattle.tile_wires.proofs.after.Tie as tie
@@ -10,7 +10,7 @@ quad-after-requires-2 : tie.Need-quad-after-requires-2
 quad-after-requires-2 c κs = search rules
 
 returns : tie.Need-returns
-unfolding partWires
+unfolding part_wires
 returns c = rw (c.before.quad-after.ensures, c.quad-after2.ensures)
 
 pub after-spec : {M : Type 1} → statement M

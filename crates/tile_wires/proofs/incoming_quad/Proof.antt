@@ -1,4 +1,4 @@
-use Rattle.tile_wires.specs.Wires.{incomingQuad}
+use Rattle.tile_wires.specs.Wires.{incoming_quad}
 use borrow.Author.Rules.{rules}
 use Rattle.tile_wires.proofs.incoming_quad.Statement.{statement}
 use Rattle.tile_wires.proofs.incoming_quad.Tie as tie
@@ -16,7 +16,7 @@ corner-requires-4 : tie.Need-corner-requires-4
 corner-requires-4 c κs = search rules
 
 returns : tie.Need-returns
-unfolding incomingQuad
+unfolding incoming_quad
 returns c = rw (c.before.before.before.corner.ensures, c.before.before.corner2.ensures, c.before.corner3.ensures, c.corner4.ensures)
 
 pub incoming-quad-spec : {M : Type 1} → statement M

@@ -1,4 +1,4 @@
-use Rattle.tile_wires.specs.Wires.{wiresOf}
+use Rattle.tile_wires.specs.Wires.{wires_of}
 use borrow.Author.Rules.{rules}
 use Rattle.tile_wires.proofs.quad_after.Statement.{statement}
 use Rattle.tile_wires.proofs.quad_after.Tie as tie
@@ -16,7 +16,7 @@ set-requires : tie.Need-set-requires
 set-requires c κs = search rules
 
 returns : tie.Need-returns
-unfolding wiresOf
+unfolding wires_of
 returns c = rw (← c.before.before.before.interchange.ensures, ← c.before.before.edge.ensures, ← c.before.order.ensures) c.set.ensures
 
 pub quad-after-spec : {M : Type 1} → statement M

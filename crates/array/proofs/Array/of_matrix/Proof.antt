@@ -3,21 +3,21 @@ use borrow.Author.Rules.{rules}
 use Prim.Native.Nat.{◌-◌, ◌*◌, ◌/◌, ◌%◌, ◌≤◌}
 use mathlib.Core.Path.{refl}
 use native.Mathlib.Omega.{arith}
-use Rattle.lists.proofs.Filled.{Filled, filled_none, filled_next, filled-all}
-use Rattle.sizes.specs.Sizes.{mostProcessors}
-use Rattle.tile_start.specs.Beginning.{startTile}
-use Rattle.array.specs.Arrays.{noTile}
+use Rattle.lists.proofs.Filled.{Filled, filled_none, filled_next, filled_all}
+use Rattle.sizes.specs.Sizes.{most_processors}
+use Rattle.tile_start.specs.Beginning.{start_tile}
+use Rattle.array.specs.Arrays.{no_tile}
 use Rattle.array.proofs.ArrayStart.{start_is}
 use Rattle.array.proofs.Array.of_matrix.Statement.{statement}
 use Rattle.array.proofs.Array.of_matrix.Tie as tie
 
 abbrev invariant-loop : tie.invariant-loop
 invariant-loop n sweeps matrix tiles₀ k₀ tiles k =
-    (k ≤ mostProcessors * mostProcessors)
-    × Filled noTile (λ k. startTile n matrix (k / mostProcessors) (k % mostProcessors)) (mostProcessors * mostProcessors) k tiles
+    (k ≤ most_processors * most_processors)
+    × Filled no_tile (λ k. start_tile n matrix (k / most_processors) (k % most_processors)) (most_processors * most_processors) k tiles
 
 abbrev decreases-loop : tie.decreases-loop
-decreases-loop n sweeps matrix tiles₀ k₀ tiles k = mostProcessors * mostProcessors - k
+decreases-loop n sweeps matrix tiles₀ k₀ tiles k = most_processors * most_processors - k
 
 zero-tile-requires : tie.Need-zero-tile-requires invariant-loop decreases-loop
 zero-tile-requires c κs = search rules
@@ -44,7 +44,7 @@ loop-again : tie.Need-loop-preserved invariant-loop decreases-loop
 loop-again c = let at-loop = c.before.before.loop in (omega arith, filled_next _ _ _ at-loop.invariant.1 (omega arith) c.tile-at.ensures)
 
 returns : tie.Need-returns invariant-loop decreases-loop
-returns c = start_is _ _ _ (filled-all _ _ c.before.loop.invariant.1 (omega arith))
+returns c = start_is _ _ _ (filled_all _ _ c.before.loop.invariant.1 (omega arith))
 
 pub of-matrix-spec : {M : Type 1} → statement M
 of-matrix-spec =

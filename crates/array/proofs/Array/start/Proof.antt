@@ -1,6 +1,6 @@
 use mathlib.Core.Path.{sym, ap, ◌∙◌}
 use Rattle.refusal.specs.Answers.{answered}
-use Rattle.array.proofs.TicksInARow.{starts-accepted, starts-refused}
+use Rattle.array.proofs.TicksInARow.{starts_accepted, starts_refused}
 use borrow.Author.Rules.{rules}
 use Rattle.array.proofs.Array.start.Statement.{statement}
 use Rattle.array.proofs.Array.start.Tie as tie
@@ -23,12 +23,12 @@ none-requires c κs = search rules
 returns : tie.Need-returns
 returns c =
     let k = c.before in
-    starts-accepted _ _ _ (ap answered (sym k.enum_told.given.1) ∙ k.before.before.verdict.ensures) c.of-matrix.ensures
+    starts_accepted _ _ _ (ap answered (sym k.enum_told.given.1) ∙ k.before.before.verdict.ensures) c.of-matrix.ensures
 
 returns-2 : tie.Need-returns-2
 returns-2 c =
     let k = c.before.before in
-    starts-refused _ _ _ _ (ap answered (sym k.refused.given.1) ∙ k.before.before.verdict.ensures) c.none.ensures
+    starts_refused _ _ _ _ (ap answered (sym k.refused.given.1) ∙ k.before.before.verdict.ensures) c.none.ensures
 
 pub start_spec : {M : Type 1} → statement M
 start_spec =

@@ -1,5 +1,5 @@
 use native.Mathlib.Omega.{arith}
-use Rattle.array.proofs.TileNeighbours.{down_le, nearer-le, near-is}
+use Rattle.array.proofs.TileNeighbours.{down_le, nearer_le, near_is}
 use borrow.Author.Rules.{rules}
 use Rattle.array.proofs.wiring.sources.Statement.{statement}
 use Rattle.array.proofs.wiring.sources.Tie as tie
@@ -47,16 +47,16 @@ nearer-requires : tie.Need-nearer-requires
 nearer-requires c κs = search rules
 
 add-t18 : tie.Need-overflow-add-t18
-add-t18 c = let start = c.before.before.before.before.before in omega (arith, nearer-le _ _ _ start.requires.0 start.requires.1)
+add-t18 c = let start = c.before.before.before.before.before in omega (arith, nearer_le _ _ _ start.requires.0 start.requires.1)
 
 nearer-requires-2 : tie.Need-nearer-requires-2
 nearer-requires-2 c κs = search rules
 
 mul-t20 : tie.Need-overflow-mul-t20
-mul-t20 c = let start = c.before.before.before.before.before.before in omega (arith, nearer-le _ _ _ start.requires.1 start.requires.0)
+mul-t20 c = let start = c.before.before.before.before.before.before in omega (arith, nearer_le _ _ _ start.requires.1 start.requires.0)
 
 add-t21 : tie.Need-overflow-add-t21
-add-t21 c = let start = c.before.before.before.before.before.before in omega (arith, nearer-le _ _ _ start.requires.1 start.requires.0)
+add-t21 c = let start = c.before.before.before.before.before.before in omega (arith, nearer_le _ _ _ start.requires.1 start.requires.0)
 
 returns : tie.Need-returns
 returns c =
@@ -64,7 +64,7 @@ returns c =
     let d = t.before in
     let u = d.before.before in
     let start = u.before.before in
-    near-is _ _ _ start.requires.0 start.requires.1 start.requires.2 u.before.up.ensures u.up2.ensures d.before.down.ensures
+    near_is _ _ _ start.requires.0 start.requires.1 start.requires.2 u.before.up.ensures u.up2.ensures d.before.down.ensures
     d.down2.ensures t.nearer.ensures c.nearer2.ensures
 
 pub sources-spec : {M : Type 1} → statement M

@@ -4,14 +4,14 @@ use Prim.Native.Nat.{◌-◌, ◌≤◌}
 use mathlib.Core.Path.{◌≡◌}
 use mathlib.Core.Bool.{false}
 use native.Mathlib.Omega.{arith}
-use Rattle.lists.proofs.Bounded.{any_none, any-more}
-use Rattle.array.specs.Arrays.{noQuad, no_part, noTile, tileAt}
-use Rattle.array_run.proofs.DiagonalCounts.{countedBefore, counts-none, some-counted, none-counted}
+use Rattle.lists.proofs.Bounded.{any_none, any_more}
+use Rattle.array.specs.Arrays.{no_quad, no_part, no_tile, tile_at}
+use Rattle.array_run.proofs.DiagonalCounts.{counted_before, counts_none, some_counted, none_counted_lem}
 use Rattle.array_run.proofs.advance.none_counted.Statement.{statement}
 use Rattle.array_run.proofs.advance.none_counted.Tie as tie
 
 abbrev invariant-loop : tie.invariant-loop
-invariant-loop array i₀ i-end i = (i ≤ i-end) × (countedBefore array.tiles i ≡ false)
+invariant-loop array i₀ i-end i = (i ≤ i-end) × (counted_before array.tiles i ≡ false)
 
 abbrev decreases-loop : tie.decreases-loop
 decreases-loop array i₀ i-end i = i-end - i
@@ -35,8 +35,8 @@ element-copy-out-if1 : tie.Need-element-copy-out-if1 invariant-loop decreases-lo
 element-copy-out-if1 c = omega arith
 
 returns : tie.Need-returns invariant-loop decreases-loop
-unfolding tileAt noTile no_part noQuad
-returns c = some-counted _ _ c.before.before.loop.i (omega arith) c.if1.true
+unfolding tile_at no_tile no_part no_quad
+returns c = some_counted _ _ c.before.before.loop.i (omega arith) c.if1.true
 
 add-i : tie.Need-overflow-add-i invariant-loop decreases-loop
 add-i c = omega arith
@@ -45,13 +45,13 @@ loop-less : tie.Need-loop-smaller invariant-loop decreases-loop
 loop-less c = omega arith
 
 loop-again : tie.Need-loop-preserved invariant-loop decreases-loop
-unfolding tileAt noTile no_part noQuad
+unfolding tile_at no_tile no_part no_quad
 loop-again c =
     let k = c.before.before.loop in
-    (omega arith, any-more _ _ k.invariant.1 (counts-none c.before.before.before.before.args.t1.tiles k.i c.if1.false))
+    (omega arith, any_more _ _ k.invariant.1 (counts_none c.before.before.before.before.args.t1.tiles k.i c.if1.false))
 
 returns-2 : tie.Need-returns-2 invariant-loop decreases-loop
-returns-2 c = let k = c.before.loop in none-counted _ _ k.i k.invariant.1 (omega arith)
+returns-2 c = let k = c.before.loop in none_counted_lem _ _ k.i k.invariant.1 (omega arith)
 
 pub none-counted-spec : {M : Type 1} → statement M
 none-counted-spec =

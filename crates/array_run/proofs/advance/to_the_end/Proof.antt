@@ -3,10 +3,10 @@ use borrow.Author.Rules.{rules}
 use Prim.Native.Nat.{ℕ, ◌+◌, ◌-◌, ◌*◌, ◌≤◌}
 use mathlib.Core.Path.{◌≡◌, sym, ap, subst, ◌∙◌}
 use native.Mathlib.Omega.{arith}
-use Rattle.sizes.proofs.Orders.{order_is, steps_next, steps-few}
+use Rattle.sizes.proofs.Orders.{order_is, steps_next, steps_few}
 use Rattle.array.specs.declared.Array.{Array}
 use Rattle.array.specs.Runs.{ticked, GoesOn}
-use Rattle.array_run.proofs.Advances.{Swept, fits, some-done, swept_none, swept-tick, swept-goes, swept-order, swept-more, swept-quiet, swept_all}
+use Rattle.array_run.proofs.Advances.{Swept, fits, some_done, swept_none, swept_tick, swept_goes, swept_order, swept_more, swept_quiet, swept_all}
 use Rattle.array_run.proofs.advance.to_the_end.Statement.{statement}
 use Rattle.array_run.proofs.advance.to_the_end.Tie as tie
 
@@ -17,15 +17,15 @@ abbrev decreases-loop : tie.decreases-loop
 decreases-loop n sweeps end array₀ m₀ array m = sweeps - m
 
 -- what the tick after the next sweep's rotations on the diagonal is, by the code's steps
-next-ticks : (y : Array) {k steps : ℕ} {z : Array} → steps ≡ k → z ≡ ticked (3 * steps - 2 - y.tick) y → z ≡ ticked (3 * k - 2 - y.tick) y
-next-ticks y e h = h ∙ ap (λ (k : ℕ). ticked (3 * k - 2 - y.tick) y) e
+next_ticks : (y : Array) {k steps : ℕ} {z : Array} → steps ≡ k → z ≡ ticked (3 * steps - 2 - y.tick) y → z ≡ ticked (3 * k - 2 - y.tick) y
+next_ticks y e h = h ∙ ap (λ (k : ℕ). ticked (3 * k - 2 - y.tick) y) e
 
 goes_so : (y : Array) {k steps : ℕ} → steps ≡ k → GoesOn y (3 * k - 2 - y.tick) → GoesOn y (3 * steps - 2 - y.tick)
 goes_so y e h = rw e h
 
-last-ticks : (y : Array) {k steps all end : ℕ} {z : Array} → steps ≡ k → end ≡ all → z ≡ ticked (end - (3 * steps - 2)) y
+last_ticks : (y : Array) {k steps all end : ℕ} {z : Array} → steps ≡ k → end ≡ all → z ≡ ticked (end - (3 * steps - 2)) y
     → z ≡ ticked (all - (3 * k - 2)) y
-last-ticks y e f h = h ∙ rw (e, f)
+last_ticks y e f h = h ∙ rw (e, f)
 
 ticks-of-requires : tie.Need-ticks-of-requires invariant-loop decreases-loop
 ticks-of-requires c κs = search rules
@@ -42,20 +42,20 @@ steps-of-requires c κs = let p = c.before.before.before.requires in (p.0, omega
 mul_next : tie.Need-overflow-mul-next invariant-loop decreases-loop
 mul_next c =
     let p = c.before.before.before.before.requires in
-    let few = steps-few _ (c.before.before.loop.m + 1) p.0 (omega (arith, p.1)) in
+    let few = steps_few _ (c.before.before.loop.m + 1) p.0 (omega (arith, p.1)) in
     record { fits = omega (arith, few, c.steps_of.ensures) }
 
 sub-next : tie.Need-overflow-sub-next invariant-loop decreases-loop
 sub-next c =
     let p = c.before.before.before.before.requires in
-    let some = some-done c.before.before.before.before.args.start p.0 p.1 p.2 c.before.before.loop.m in
+    let some = some_done c.before.before.before.before.args.start p.0 p.1 p.2 c.before.before.loop.m in
     omega (arith, some, c.steps_of.ensures)
 
 sub-after : tie.Need-overflow-sub-after invariant-loop decreases-loop
 sub-after c =
     let loop = c.before.before.before.loop in
     let p = c.before.before.before.before.before.requires in
-    let now = swept-tick _ p.0 p.1 p.2 loop.m (omega arith) loop.invariant.1 in
+    let now = swept_tick _ p.0 p.1 p.2 loop.m (omega arith) loop.invariant.1 in
     let next = steps_next c.before.before.before.before.before.args.start.n loop.m in
     omega (arith, now, next, c.before.steps_of.ensures)
 
@@ -63,14 +63,14 @@ after-requires : tie.Need-after-requires invariant-loop decreases-loop
 after-requires c κs =
     let loop = c.before.before.before.loop in
     let p = c.before.before.before.before.before.requires in
-    goes_so _ c.before.steps_of.ensures (swept-goes _ p.0 p.1 p.2 (omega arith) loop.invariant.1)
+    goes_so _ c.before.steps_of.ensures (swept_goes _ p.0 p.1 p.2 (omega arith) loop.invariant.1)
 
 none-counted-requires : tie.Need-none-counted-requires invariant-loop decreases-loop
 none-counted-requires c κs =
     let loop = c.before.before.before.before.loop in
     let p = c.before.before.before.before.before.before.requires in
     let e =
-    swept-order _ p.0 p.1 p.2 (omega arith) loop.invariant.1 (next-ticks _ c.before.before.steps_of.ensures c.after.ensures) in
+    swept_order _ p.0 p.1 p.2 (omega arith) loop.invariant.1 (next_ticks _ c.before.before.steps_of.ensures c.after.ensures) in
     rw e (order_is _ p.0).1
 
 add-array : tie.Need-overflow-add-array invariant-loop decreases-loop
@@ -95,8 +95,8 @@ returns c =
     let p = swept.before.before.before.before.before.before.requires in
     let steps = swept.before.before.steps_of.ensures in
     let all = swept.before.before.before.before.before.ticks-of.ensures in
-    swept-quiet _ p.0 p.1 p.2 (omega arith) loop.invariant.1 (next-ticks _ steps swept.after.ensures)
-    (sym q.before.none-counted.ensures ∙ q.if1.true) (last-ticks _ steps all c.ticks.ensures)
+    swept_quiet _ p.0 p.1 p.2 (omega arith) loop.invariant.1 (next_ticks _ steps swept.after.ensures)
+    (sym q.before.none_counted.ensures ∙ q.if1.true) (last_ticks _ steps all c.ticks.ensures)
 
 add-m : tie.Need-overflow-add-m invariant-loop decreases-loop
 add-m c =
@@ -111,15 +111,15 @@ loop-again c =
     let loop = swept.before.before.before.before.loop in
     let p = swept.before.before.before.before.before.before.requires in (
       omega arith,
-      swept-more _ p.0 p.1 p.2 (omega arith) loop.invariant.1 (next-ticks _ swept.before.before.steps_of.ensures swept.after.ensures)
-          (sym c.before.none-counted.ensures ∙ c.if1.false),
+      swept_more _ p.0 p.1 p.2 (omega arith) loop.invariant.1 (next_ticks _ swept.before.before.steps_of.ensures swept.after.ensures)
+          (sym c.before.none_counted.ensures ∙ c.if1.false),
     )
 
 sub-ticks-2 : tie.Need-overflow-sub-ticks-2 invariant-loop decreases-loop
 sub-ticks-2 c =
     let loop = c.before.before.loop in
     let p = c.before.before.before.before.requires in
-    let now = swept-tick _ p.0 p.1 p.2 loop.m (omega arith) loop.invariant.1 in
+    let now = swept_tick _ p.0 p.1 p.2 loop.m (omega arith) loop.invariant.1 in
     let fit = fits c.before.before.before.before.args.start p.0 p.1 p.2 loop.m (omega arith) in
     omega (arith, now, fit, c.before.before.before.ticks-of.ensures)
 

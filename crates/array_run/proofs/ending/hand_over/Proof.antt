@@ -1,6 +1,6 @@
 use mathlib.Core.Path.{sym, ◌∙◌}
-use Rattle.runs.proofs.Starts.{cleared, spoiled-outcome}
-use Rattle.array_run.proofs.Results.{spoiled-over, cells_over}
+use Rattle.runs.proofs.Starts.{cleared, spoiled_outcome}
+use Rattle.array_run.proofs.Results.{spoiled_over, cells_over}
 use borrow.Author.Rules.{rules}
 use Rattle.array_run.proofs.ending.hand_over.Statement.{statement}
 use Rattle.array_run.proofs.ending.hand_over.Tie as tie
@@ -26,8 +26,8 @@ returns c =
     let first = second.before.before.before.before in
     let test = first.before.before in
     let start = test.before.before.before.before in
-    spoiled-over _ (sym test.before.is-marked.ensures ∙ test.if1.true)
-    (spoiled-outcome _ (cleared _ start.requires.1 first.clear.ensures) (cleared _ start.requires.2 second.clear2.ensures))
+    spoiled_over _ (sym test.before.is-marked.ensures ∙ test.if1.true)
+    (spoiled_outcome _ (cleared _ start.requires.1 first.clear.ensures) (cleared _ start.requires.2 second.clear2.ensures))
 
 write-cells-requires : tie.Need-write-cells-requires
 write-cells-requires c κs = search rules

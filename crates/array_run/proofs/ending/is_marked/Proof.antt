@@ -5,20 +5,20 @@ use Prim.Native.Nat.{◌-◌, ◌≤◌}
 use mathlib.Core.Path.{◌≡◌}
 use mathlib.Core.Bool.{false}
 use native.Mathlib.Omega.{arith}
-use Rattle.lists.proofs.Bounded.{any_none, any-more}
-use Rattle.array.specs.Arrays.{noQuad, no_part, noTile, tileAt}
-use Rattle.array_run.proofs.Results.{markedInRow, markedBefore, one-marked, none-marked}
+use Rattle.lists.proofs.Bounded.{any_none, any_more}
+use Rattle.array.specs.Arrays.{no_quad, no_part, no_tile, tile_at}
+use Rattle.array_run.proofs.Results.{marked_in_row, marked_before, one_marked, none_marked}
 use Rattle.array_run.proofs.ending.is_marked.Statement.{statement}
 use Rattle.array_run.proofs.ending.is_marked.Tie as tie
 
 abbrev invariant-loop2 : tie.invariant-loop2
-invariant-loop2 array processors i j₀ j = (j ≤ processors) × (markedInRow j array.tiles i ≡ false)
+invariant-loop2 array processors i j₀ j = (j ≤ processors) × (marked_in_row j array.tiles i ≡ false)
 
 abbrev decreases-loop2 : tie.decreases-loop2
 decreases-loop2 array processors i j₀ j = processors - j
 
 abbrev invariant-loop : tie.invariant-loop
-invariant-loop array processors i₀ i = (i ≤ processors) × (markedBefore processors array.tiles i ≡ false)
+invariant-loop array processors i₀ i = (i ≤ processors) × (marked_before processors array.tiles i ≡ false)
 
 abbrev decreases-loop : tie.decreases-loop
 decreases-loop array processors i₀ i = processors - i
@@ -45,10 +45,10 @@ element-copy-out-if1 : tie.Need-element-copy-out-if1 invariant-loop2 decreases-l
 element-copy-out-if1 c = omega arith
 
 returns : tie.Need-returns invariant-loop2 decreases-loop2 invariant-loop decreases-loop
-unfolding tileAt noTile no_part noQuad
+unfolding tile_at no_tile no_part no_quad
 returns c =
     let k = c.before.before in
-    one-marked _ _ k.before.before.loop.i k.loop2.j (omega arith) (omega arith) c.if1.true
+    one_marked _ _ k.before.before.loop.i k.loop2.j (omega arith) (omega arith) c.if1.true
 
 add-j : tie.Need-overflow-add-j invariant-loop2 decreases-loop2 invariant-loop decreases-loop
 add-j c = omega arith
@@ -57,8 +57,8 @@ loop2-less : tie.Need-loop2-smaller invariant-loop2 decreases-loop2 invariant-lo
 loop2-less c = omega arith
 
 loop2-again : tie.Need-loop2-preserved invariant-loop2 decreases-loop2 invariant-loop decreases-loop
-unfolding tileAt noTile no_part noQuad
-loop2-again c = (omega arith, any-more _ _ c.before.before.loop2.invariant.1 c.if1.false)
+unfolding tile_at no_tile no_part no_quad
+loop2-again c = (omega arith, any_more _ _ c.before.before.loop2.invariant.1 c.if1.false)
 
 add-i : tie.Need-overflow-add-i invariant-loop2 decreases-loop2 invariant-loop decreases-loop
 add-i c = omega arith
@@ -71,10 +71,10 @@ loop-again c =
     let inner = c.before.loop2 in
     let at-loop = c.before.before.before in
     let e : inner.j ≡ at-loop.before.processors-of.result = omega arith in
-    (omega arith, any-more _ _ at-loop.loop.invariant.1 (rw e at inner.invariant.1))
+    (omega arith, any_more _ _ at-loop.loop.invariant.1 (rw e at inner.invariant.1))
 
 returns-2 : tie.Need-returns-2 invariant-loop2 decreases-loop2 invariant-loop decreases-loop
-returns-2 c = let at-loop = c.before in rw (← at-loop.before.processors-of.ensures) (none-marked _ _ _ at-loop.loop.invariant.1 (omega arith))
+returns-2 c = let at-loop = c.before in rw (← at-loop.before.processors-of.ensures) (none_marked _ _ _ at-loop.loop.invariant.1 (omega arith))
 
 pub is-marked-spec : {M : Type 1} → statement M
 is-marked-spec =

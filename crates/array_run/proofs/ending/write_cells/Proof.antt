@@ -5,18 +5,18 @@ use mathlib.Core.Path.{◌∙◌}
 use native.Mathlib.Omega.{arith}
 use lib.Ieee.{nan}
 use Rattle.lists.proofs.Filled.{Filled, filled_none, filled_next}
-use Rattle.sizes.specs.Sizes.{largestOrder}
-use Rattle.matrix.proofs.Flat.{row_lt, column-lt}
-use Rattle.array.specs.Arrays.{noQuad, no_part, noTile, tileAt}
-use Rattle.array_run.specs.Results.{matrixIn, vectorsIn}
-use Rattle.array_run.proofs.Results.{joined_at, flat-filled}
+use Rattle.sizes.specs.Sizes.{largest_order}
+use Rattle.matrix.proofs.Flat.{row_lt, column_lt}
+use Rattle.array.specs.Arrays.{no_quad, no_part, no_tile, tile_at}
+use Rattle.array_run.specs.Results.{matrix_in, vectors_in}
+use Rattle.array_run.proofs.Results.{joined_at, flat_filled}
 use Rattle.array_run.proofs.ending.write_cells.Statement.{statement}
 use Rattle.array_run.proofs.ending.write_cells.Tie as tie
 
 abbrev invariant-loop : tie.invariant-loop
 invariant-loop result₀ vectors₀ array n first k₀ k-end result vectors k =
-    (k ≤ n * n) × Filled nan (λ i. matrixIn n array.tiles (i / n + 1) (i % n + 1)) (n * n) k result
-    × Filled nan (λ i. vectorsIn n array.tiles (i / n + 1) (i % n + 1)) (n * n) k vectors
+    (k ≤ n * n) × Filled nan (λ i. matrix_in n array.tiles (i / n + 1) (i % n + 1)) (n * n) k result
+    × Filled nan (λ i. vectors_in n array.tiles (i / n + 1) (i % n + 1)) (n * n) k vectors
 
 abbrev decreases-loop : tie.decreases-loop
 decreases-loop result₀ vectors₀ array n first k₀ k-end result vectors k = n * n - k
@@ -24,16 +24,16 @@ decreases-loop result₀ vectors₀ array n first k₀ k-end result vectors k = 
 -- the row and the column of the entry that is written
 record Place (n k : ℕ) : Type 0 where
   row_in : k / n < n
-  column-in : k % n < n
-  few : n ≤ largestOrder
+  column_in : k % n < n
+  few : n ≤ largest_order
 
-abbrev at-start : tie.In-loop invariant-loop decreases-loop → tie.Start invariant-loop decreases-loop
-at-start c = c.before.before.before.before.before
+abbrev at_start : tie.In-loop invariant-loop decreases-loop → tie.Start invariant-loop decreases-loop
+at_start c = c.before.before.before.before.before
 
-place : (c : tie.In-loop invariant-loop decreases-loop) → Place (at-start c).args.t1.n c.before.loop.k
+place : (c : tie.In-loop invariant-loop decreases-loop) → Place (at_start c).args.t1.n c.before.loop.k
 place c =
-    let n = (at-start c).args.t1.n in
-    record { row_in = row_lt n c.before.loop.k (omega arith); column-in = column-lt n c.before.loop.k (omega arith); few = omega arith }
+    let n = (at_start c).args.t1.n in
+    record { row_in = row_lt n c.before.loop.k (omega arith); column_in = column_lt n c.before.loop.k (omega arith); few = omega arith }
 
 first-line-requires : tie.Need-first-line-requires invariant-loop decreases-loop
 first-line-requires c κs = search rules
@@ -54,22 +54,22 @@ rem-j : tie.Need-nonzero-rem-j invariant-loop decreases-loop
 rem-j c = omega (arith, (place c).row_in)
 
 add-j : tie.Need-overflow-add-j invariant-loop decreases-loop
-add-j c = let p = place c in omega (arith, p.column-in, p.few)
+add-j c = let p = place c in omega (arith, p.column_in, p.few)
 
 sub-j : tie.Need-overflow-sub-j invariant-loop decreases-loop
 sub-j c = omega arith
 
 mul-tile : tie.Need-overflow-mul-tile invariant-loop decreases-loop
-mul-tile c = let p = place c in omega (arith, p.row_in, p.column-in, p.few)
+mul-tile c = let p = place c in omega (arith, p.row_in, p.column_in, p.few)
 
 add-tile : tie.Need-overflow-add-tile invariant-loop decreases-loop
-add-tile c = let p = place c in omega (arith, p.row_in, p.column-in, p.few)
+add-tile c = let p = place c in omega (arith, p.row_in, p.column_in, p.few)
 
 mul-tile-2 : tie.Need-overflow-mul-tile-2 invariant-loop decreases-loop
-mul-tile-2 c = let p = place c in omega (arith, p.row_in, p.column-in, p.few)
+mul-tile-2 c = let p = place c in omega (arith, p.row_in, p.column_in, p.few)
 
 element-copy-out-tile : tie.Need-element-copy-out-tile invariant-loop decreases-loop
-element-copy-out-tile c = let p = place c in omega (arith, p.row_in, p.column-in, p.few)
+element-copy-out-tile c = let p = place c in omega (arith, p.row_in, p.column_in, p.few)
 
 corner-requires : tie.Need-corner-requires invariant-loop decreases-loop
 corner-requires c κs = search rules
@@ -96,15 +96,15 @@ loop-less : tie.Need-loop-smaller invariant-loop decreases-loop
 loop-less c = omega arith
 
 loop-again : tie.Need-loop-preserved invariant-loop decreases-loop
-unfolding tileAt noTile no_part noQuad
+unfolding tile_at no_tile no_part no_quad
 loop-again c =
     let turn = c.before.before.before.before.before.before in
     let u = turn.before.loop.invariant in
-    let e = turn.before.before.first-line.ensures in
-    let t = (at-start turn).args.t1.tiles in (
+    let e = turn.before.before.first_line.ensures in
+    let t = (at_start turn).args.t1.tiles in (
       omega arith,
-      filled_next _ _ _ u.1 (omega arith) (c.before.corner.ensures ∙ joined_at (λ i j. (tileAt t i j).cells.matrix) _ _ e),
-      filled_next _ _ _ u.2 (omega arith) (c.corner2.ensures ∙ joined_at (λ i j. (tileAt t i j).cells.vectors) _ _ e),
+      filled_next _ _ _ u.1 (omega arith) (c.before.corner.ensures ∙ joined_at (λ i j. (tile_at t i j).cells.matrix) _ _ e),
+      filled_next _ _ _ u.2 (omega arith) (c.corner2.ensures ∙ joined_at (λ i j. (tile_at t i j).cells.vectors) _ _ e),
     )
 
 same_length : tie.Need-same-length invariant-loop decreases-loop
@@ -116,7 +116,7 @@ same-length-2 c = omega arith
 returns : tie.Need-returns invariant-loop decreases-loop
 returns c =
     let u = c.before.loop.invariant in
-    (flat-filled _ _ _ _ u.1 (omega arith), flat-filled _ _ _ _ u.2 (omega arith))
+    (flat_filled _ _ _ _ u.1 (omega arith), flat_filled _ _ _ _ u.2 (omega arith))
 
 pub write-cells-spec : {M : Type 1} → statement M
 write-cells-spec =

@@ -9,7 +9,7 @@ not-a-number-requires : tie.Need-not-a-number-requires
 not-a-number-requires c κs = search rules
 
 returns : tie.Need-returns
-returns c = c.not-a-number.ensures ∙ sym (differs_from_itself _ (subst T (sym c.before.if1.true) tt))
+returns c = c.not_a_number.ensures ∙ sym (differs_from_itself _ (subst T (sym c.before.if1.true) tt))
 
 returns-2 : tie.Need-returns-2
 returns-2 c = search rules

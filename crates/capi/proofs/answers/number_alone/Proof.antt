@@ -1,4 +1,4 @@
-use Rattle.capi.specs.CAnswers.{numberAnswered}
+use Rattle.capi.specs.CAnswers.{number_answered}
 use borrow.Author.Rules.{rules}
 use Rattle.capi.proofs.answers.number_alone.Statement.{statement}
 use Rattle.capi.proofs.answers.number_alone.Tie as tie
@@ -13,11 +13,11 @@ number-requires : tie.Need-number-requires
 number-requires c κs = search rules
 
 returns : tie.Need-returns
-unfolding numberAnswered
+unfolding number_answered
 returns c = rw c.enum_told.given.1
 
 returns-2 : tie.Need-returns-2
-unfolding numberAnswered
+unfolding number_answered
 returns-2 c = rw c.before.before.answer.given.1 c.number.ensures
 
 pub number-alone-spec : {M : Type 1} → statement M

@@ -1,4 +1,4 @@
-use Rattle.capi.specs.CAnswers.{cAnswerOf}
+use Rattle.capi.specs.CAnswers.{c_answer_of}
 use borrow.Author.Rules.{rules}
 use Rattle.capi.proofs.answers.number_of.Statement.{statement}
 use Rattle.capi.proofs.answers.number_of.Tie as tie
@@ -13,11 +13,11 @@ refuse-requires : tie.Need-refuse-requires
 refuse-requires c κs = search rules
 
 returns : tie.Need-returns
-unfolding cAnswerOf
+unfolding c_answer_of
 returns c = rw c.enum_told.given.1
 
 returns-2 : tie.Need-returns-2
-unfolding cAnswerOf
+unfolding c_answer_of
 returns-2 c =
     let told = c.before.before.before.before in
     rw told.answer.given.1 c.refuse.ensures

@@ -1,4 +1,4 @@
-use Rattle.capi.proofs.CAnswers.{run-made, run-refused}
+use Rattle.capi.proofs.CAnswers.{run_made, run_refused}
 use borrow.Author.Rules.{rules}
 use Rattle.capi.proofs.both_runs.weimrukas_plain_run.Statement.{statement}
 use Rattle.capi.proofs.both_runs.weimrukas_plain_run.Tie as tie
@@ -28,7 +28,7 @@ returns : tie.Need-returns
 returns c =
     let told = c.before in
     let ran = at-run told.before.before in
-    run-made _ _ _ _ _ _ _ _ told.made.given.1 ran.run.ensures
+    run_made _ _ _ _ _ _ _ _ told.made.given.1 ran.run.ensures
 
 same-length-3 : tie.Need-same-length-3
 same-length-3 c = search rules
@@ -40,7 +40,7 @@ returns-2 : tie.Need-returns-2
 returns-2 c =
     let told = c.before.before.before.before in
     let ran = at-run told.before.before in
-    run-refused _ _ _ _ _ _ _ told.refused.given.1 ran.run.ensures c.refuse.ensures
+    run_refused _ _ _ _ _ _ _ told.refused.given.1 ran.run.ensures c.refuse.ensures
 
 pub weimrukas-plain-run-spec : {M : Type 1} → statement M
 weimrukas-plain-run-spec =

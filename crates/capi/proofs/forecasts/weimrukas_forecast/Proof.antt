@@ -1,8 +1,8 @@
 use mathlib.Core.Path.{sym, ap, ◌∙◌}
 use native.Mathlib.Omega.{arith}
 use borrow.Author.Rules.{rules}
-use Rattle.forecast.specs.Forecast.{forecastAnswered}
-use Rattle.capi.proofs.CAnswers.{forecast-given, value-refused}
+use Rattle.forecast.specs.Forecast.{forecast_answered}
+use Rattle.capi.proofs.CAnswers.{forecast_given, value_refused}
 use Rattle.capi.proofs.forecasts.weimrukas_forecast.Statement.{statement}
 use Rattle.capi.proofs.forecasts.weimrukas_forecast.Tie as tie
 
@@ -21,13 +21,13 @@ number-requires c κs = search rules
 returns : tie.Need-returns
 returns c =
     let told = c.before in
-    forecast-given _ _ (ap forecastAnswered (sym told.figures.given.1) ∙ told.before.before.of-run.ensures) (omega arith) (omega arith) (omega arith)
+    forecast_given _ _ (ap forecast_answered (sym told.figures.given.1) ∙ told.before.before.of-run.ensures) (omega arith) (omega arith) (omega arith)
 
 returns-2 : tie.Need-returns-2
 returns-2 c =
     let told = c.before.before in
     let refused = told.refused.given in
-    value-refused _ refused.0.0 (ap forecastAnswered (sym refused.1) ∙ told.before.before.of-run.ensures) c.number.ensures
+    value_refused _ refused.0.0 (ap forecast_answered (sym refused.1) ∙ told.before.before.of-run.ensures) c.number.ensures
 
 pub weimrukas-forecast-spec : {M : Type 1} → statement M
 weimrukas-forecast-spec =

@@ -1,6 +1,6 @@
 use borrow.Author.Tests.{not-true, not-false}
 use mathlib.Core.Path.{sym, ◌∙◌}
-use Rattle.capi.proofs.ArrayByHand.{start-refused, start-stored}
+use Rattle.capi.proofs.ArrayByHand.{start_refused, start_stored}
 use borrow.Author.Rules.{rules}
 use Rattle.capi.proofs.hand.weimrukas_array_start.Statement.{statement}
 use Rattle.capi.proofs.hand.weimrukas_array_start.Tie as tie
@@ -18,7 +18,7 @@ returns : tie.Need-returns
 returns c =
     let judged = c.before.before.before in
     let test = judged.before in
-    start-refused _ _ _ _ _ _ (sym test.before.is-array.ensures ∙ not-true _ test.if1.true) judged.verdict.ensures c.number_of_lem.ensures
+    start_refused _ _ _ _ _ _ (sym test.before.is-array.ensures ∙ not-true _ test.if1.true) judged.verdict.ensures c.number_of_lem.ensures
 
 start-requires : tie.Need-start-requires
 start-requires c κs = search rules
@@ -37,7 +37,7 @@ returns-2 c =
     let stored = c.before.before.before.before.before in
     let started = stored.before.before.before in
     let test = started.before in
-    start-stored _ _ _ _ _ _ _ (sym test.before.is-array.ensures ∙ not-false _ test.if1.false) started.start.ensures
+    start_stored _ _ _ _ _ _ _ (sym test.before.is-array.ensures ∙ not-false _ test.if1.false) started.start.ensures
     stored.store.ensures c.number-of2.ensures
 
 pub weimrukas-array-start-spec : {M : Type 1} → statement M

@@ -1,6 +1,6 @@
 use borrow.Author.Tests.{not-true, not-false}
 use mathlib.Core.Path.{sym, ◌∙◌}
-use Rattle.capi.proofs.ArrayByHand.{tick-refused-by-3, tick-made, tick-stopped, tick-refused}
+use Rattle.capi.proofs.ArrayByHand.{tick_refused_by_3, tick_made, tick_stopped, tick_refused}
 use borrow.Author.Rules.{rules}
 use Rattle.capi.proofs.hand.weimrukas_array_tick.Statement.{statement}
 use Rattle.capi.proofs.hand.weimrukas_array_tick.Tie as tie
@@ -18,7 +18,7 @@ number-requires c κs = search rules
 returns : tie.Need-returns
 returns c =
     let test = c.before in
-    tick-refused-by-3 _ (sym test.before.is-array.ensures ∙ not-true _ test.if1.true) c.number.ensures
+    tick_refused_by_3 _ (sym test.before.is-array.ensures ∙ not-true _ test.if1.true) c.number.ensures
 
 load-requires : tie.Need-load-requires
 load-requires c κs = search rules
@@ -49,7 +49,7 @@ returns-2 c =
     let told = c.before.before.before.before.before in
     let ticked = told.before.before in
     let test = at_test ticked in
-    tick-made _ (sym test.before.is-array.ensures ∙ not-false _ test.if1.left) _ ticked.before.load.ensures _ ticked.tick.ensures
+    tick_made _ (sym test.before.is-array.ensures ∙ not-false _ test.if1.left) _ ticked.before.load.ensures _ ticked.tick.ensures
     told.enum_told.given.1 c.before.before.store.ensures
 
 same-length-2 : tie.Need-same-length-2
@@ -59,7 +59,7 @@ returns-3 : tie.Need-returns-3
 returns-3 c =
     let ticked = c.before.before in
     let test = at_test ticked in
-    tick-stopped _ (sym test.before.is-array.ensures ∙ not-false _ test.if1.left) _ ticked.before.load.ensures _ ticked.tick.ensures
+    tick_stopped _ (sym test.before.is-array.ensures ∙ not-false _ test.if1.left) _ ticked.before.load.ensures _ ticked.tick.ensures
     c.enum-told2.given.1
 
 same-length-3 : tie.Need-same-length-3
@@ -70,7 +70,7 @@ returns-4 c =
     let told = c.before.before in
     let ticked = told.before.before in
     let test = at_test ticked in
-    tick-refused _ (sym test.before.is-array.ensures ∙ not-false _ test.if1.left) _ ticked.before.load.ensures _ ticked.tick.ensures _
+    tick_refused _ (sym test.before.is-array.ensures ∙ not-false _ test.if1.left) _ ticked.before.load.ensures _ ticked.tick.ensures _
     told.answer.given.1 c.number2.ensures
 
 pub weimrukas-array-tick-spec : {M : Type 1} → statement M

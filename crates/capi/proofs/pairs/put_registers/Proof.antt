@@ -4,7 +4,7 @@ use mathlib.Core.Path.{refl}
 use native.Mathlib.Omega.{arith}
 use lib.ListN.{length, get_or}
 use Rattle.lists.proofs.Filled.{Filled, filled_none, filled_next}
-use Rattle.capi.proofs.Listing.{registers-listed}
+use Rattle.capi.proofs.Listing.{registers_listed}
 use Rattle.capi.proofs.pairs.put_registers.Statement.{statement}
 use Rattle.capi.proofs.pairs.put_registers.Tie as tie
 
@@ -40,7 +40,7 @@ same_length : tie.Need-same-length invariant-loop decreases-loop
 same_length c = omega arith
 
 returns : tie.Need-returns invariant-loop decreases-loop
-returns c = registers-listed _ _ _ c.before.loop.invariant.1 (omega arith)
+returns c = registers_listed _ _ _ c.before.loop.invariant.1 (omega arith)
 
 pub put-registers-spec : {M : Type 1} → statement M
 put-registers-spec =

@@ -1,5 +1,5 @@
 use mathlib.Core.Path.{sym, ◌∙◌}
-use Rattle.capi.proofs.Listing.{pairs-refused, pairs-listed}
+use Rattle.capi.proofs.Listing.{pairs_refused, pairs_listed}
 use borrow.Author.Rules.{rules}
 use Rattle.capi.proofs.pairs.weimrukas_pairs.Statement.{statement}
 use Rattle.capi.proofs.pairs.weimrukas_pairs.Tie as tie
@@ -11,7 +11,7 @@ number-requires : tie.Need-number-requires
 number-requires c κs = search rules
 
 returns : tie.Need-returns
-returns c = pairs-refused _ _ _ _ (sym c.before.before.pairs-too-short.ensures ∙ c.before.if1.true) c.number.ensures
+returns c = pairs_refused _ _ _ _ (sym c.before.before.pairs-too-short.ensures ∙ c.before.if1.true) c.number.ensures
 
 pairs-requires : tie.Need-pairs-requires
 pairs-requires c κs = search rules
@@ -43,7 +43,7 @@ returns-2 c =
     let lefts = rights.before.before.before.before.before in
     let listed = lefts.before.before.before.before.before.before in
     let test = listed.before in
-    pairs-listed _ _ _ _ _ listed.pairs.ensures (sym test.before.pairs-too-short.ensures ∙ test.if1.false) c.number-alone.ensures
+    pairs_listed _ _ _ _ _ listed.pairs.ensures (sym test.before.pairs-too-short.ensures ∙ test.if1.false) c.number-alone.ensures
     lefts.put-registers.ensures rights.put-registers2.ensures
 
 pub weimrukas-pairs-spec : {M : Type 1} → statement M

@@ -1,4 +1,4 @@
-use Rattle.capi.proofs.CAnswers.{parameters-said}
+use Rattle.capi.proofs.CAnswers.{parameters_said}
 use borrow.Author.Rules.{rules}
 use Rattle.capi.proofs.rotations.weimrukas_parameters.Statement.{statement}
 use Rattle.capi.proofs.rotations.weimrukas_parameters.Tie as tie
@@ -31,7 +31,7 @@ returns c =
     let tangent = cosine.before in
     let turned = tangent.before in
     let recorded = turned.before in
-    parameters-said recorded.before.of_pair.ensures recorded.of-found.ensures turned.turns.ensures tangent.canonical.ensures
+    parameters_said recorded.before.of_pair.ensures recorded.of-found.ensures turned.turns.ensures tangent.canonical.ensures
     cosine.canonical2.ensures sine.canonical3.ensures c.flag-byte.ensures
 
 pub weimrukas-parameters-spec : {M : Type 1} → statement M

@@ -1,7 +1,7 @@
 use mathlib.Core.Path.{sym, ap, ◌∙◌}
 use borrow.Author.Rules.{rules}
-use Rattle.root.specs.Exact.{rootAnswered}
-use Rattle.capi.proofs.CAnswers.{root-given, root-refused}
+use Rattle.root.specs.Exact.{root_answered}
+use Rattle.capi.proofs.CAnswers.{root_given, root_refused}
 use Rattle.capi.proofs.rotations.weimrukas_root.Statement.{statement}
 use Rattle.capi.proofs.rotations.weimrukas_root.Tie as tie
 
@@ -23,13 +23,13 @@ number-requires c κs = search rules
 returns : tie.Need-returns
 returns c =
     let told = c.before.before in
-    root-given _ _ _ _ (ap rootAnswered (sym told.y.given.1) ∙ told.before.before.sqrt.ensures) c.flag-byte.ensures
+    root_given _ _ _ _ (ap root_answered (sym told.y.given.1) ∙ told.before.before.sqrt.ensures) c.flag-byte.ensures
 
 returns-2 : tie.Need-returns-2
 returns-2 c =
     let told = c.before.before in
     let refused = told.refused.given in
-    root-refused _ _ refused.0.0 (ap rootAnswered (sym refused.1) ∙ told.before.before.sqrt.ensures) c.number.ensures
+    root_refused _ _ refused.0.0 (ap root_answered (sym refused.1) ∙ told.before.before.sqrt.ensures) c.number.ensures
 
 pub weimrukas-root-spec : {M : Type 1} → statement M
 weimrukas-root-spec =

@@ -4,22 +4,22 @@ use native.Mathlib.Nat.{le_antisymm}
 use native.Mathlib.Omega.{arith}
 use lib.ListN.{length}
 use lib.Ieee.{nan}
-use Rattle.lists.proofs.Replaced.{Replaced, replaced-none}
-use Rattle.ordering.specs.Pairs.{registersAt}
-use Rattle.ordering.proofs.OrderRegisters.{of-order}
-use Rattle.capi.specs.Calls.{recordFields, recordFlag}
-use Rattle.capi.proofs.Listing.{record_of, record-put, records-put, flag-put, flags-put}
+use Rattle.lists.proofs.Replaced.{Replaced, replaced_none}
+use Rattle.ordering.specs.Pairs.{registers_at}
+use Rattle.ordering.proofs.OrderRegisters.{of_order}
+use Rattle.capi.specs.Calls.{record_fields, record_flag}
+use Rattle.capi.proofs.Listing.{record_of, record_put, records_put, flag_put, flags_put}
 use borrow.Author.Rules.{rules}
 use Rattle.capi.proofs.rows.put_records.Statement.{statement}
 use Rattle.capi.proofs.rows.put_records.Tie as tie
-use Rattle.sizes.specs.Sizes.{processorsOf}
+use Rattle.sizes.specs.Sizes.{processors_of}
 
 -- The values and the flags of the first k records are written, the others are as they were. What falls is processors - k.
 abbrev invariant-loop : tie.invariant-loop
 invariant-loop n matrix step values₀ exact₀ registers processors k₀ values exact k =
-    (k ≤ processorsOf n) × (processors ≡ processorsOf n) × (processorsOf n * 3 ≤ length values₀) × (processorsOf n ≤ length exact₀)
-    × (registers ≡ registersAt n step) × Replaced nan (recordFields n matrix step) values₀ (k * 3) values
-    × Replaced 0 (recordFlag n matrix step) exact₀ k exact
+    (k ≤ processors_of n) × (processors ≡ processors_of n) × (processors_of n * 3 ≤ length values₀) × (processors_of n ≤ length exact₀)
+    × (registers ≡ registers_at n step) × Replaced nan (record_fields n matrix step) values₀ (k * 3) values
+    × Replaced 0 (record_flag n matrix step) exact₀ k exact
 
 abbrev decreases-loop : tie.decreases-loop
 decreases-loop n matrix step values₀ exact₀ registers processors k₀ values exact k = processors - k
@@ -38,7 +38,7 @@ loop-holds : tie.Need-loop-init invariant-loop decreases-loop
 loop-holds c =
     let listed = c.before.before in
     let fits = listed.before.before.before.before.requires in
-    (omega arith, c.processors-of.ensures, fits.1, fits.2, of-order _ fits.0 listed.pairs.ensures.lists, replaced-none, replaced-none)
+    (omega arith, c.processors-of.ensures, fits.1, fits.2, of_order _ fits.0 listed.pairs.ensures.lists, replaced_none, replaced_none)
 
 of-processor-requires : tie.Need-of-processor-requires invariant-loop decreases-loop
 of-processor-requires c κs = search rules
@@ -74,8 +74,8 @@ loop-again c =
       i.2,
       i.3,
       i.4,
-      record-put _ _ _ _ _ _ _ _ x i.5 (omega arith) put.put_record.ensures,
-      flag-put _ _ _ _ _ _ _ _ x c.flag-byte.ensures i.6 (omega arith),
+      record_put _ _ _ _ _ _ _ _ x i.5 (omega arith) put.put_record.ensures,
+      flag_put _ _ _ _ _ _ _ _ x c.flag-byte.ensures i.6 (omega arith),
     )
 
 same_length : tie.Need-same-length invariant-loop decreases-loop
@@ -88,7 +88,7 @@ returns : tie.Need-returns invariant-loop decreases-loop
 returns c =
     let i = c.before.loop.invariant in
     let all = le_antisymm i.0 (omega (arith, i.1, c.loop-test.false)) in
-    (records-put _ _ _ _ _ (rw all at i.5) i.2, flags-put _ _ _ _ _ (rw all at i.6) i.3)
+    (records_put _ _ _ _ _ (rw all at i.5) i.2, flags_put _ _ _ _ _ (rw all at i.6) i.3)
 
 pub put-records-spec : {M : Type 1} → statement M
 put-records-spec =

@@ -1,4 +1,4 @@
-use Rattle.capi.proofs.Listing.{records-fit, records-given, records-refused}
+use Rattle.capi.proofs.Listing.{records_fit, records_given, records_refused}
 use borrow.Author.Rules.{rules}
 use Rattle.capi.proofs.rows.weimrukas_records.Statement.{statement}
 use Rattle.capi.proofs.rows.weimrukas_records.Tie as tie
@@ -16,7 +16,7 @@ put-records-requires : tie.Need-put-records-requires
 put-records-requires c κs =
     let told = c.before.before in
     let said = told.before.before in
-    records-fit _ _ _ _ _ said.before.records-room.ensures told.enum_told.given.1 said.verdict.ensures
+    records_fit _ _ _ _ _ said.before.records-room.ensures told.enum_told.given.1 said.verdict.ensures
 
 enum-known-refused : tie.Need-enum-known-refused
 enum-known-refused c = search rules
@@ -35,13 +35,13 @@ returns c =
     let put = c.before.before.before.before in
     let told = put.before.before.before in
     let said = told.before.before in
-    records-given _ _ _ _ _ _ _ _ said.before.records-room.ensures told.enum_told.given.1 said.verdict.ensures put.put-records.ensures
+    records_given _ _ _ _ _ _ _ _ said.before.records-room.ensures told.enum_told.given.1 said.verdict.ensures put.put-records.ensures
 
 returns-2 : tie.Need-returns-2
 returns-2 c =
     let told = c.before.before.before.before in
     let said = told.before.before in
-    records-refused _ _ _ _ _ _ _ _ _ said.before.records-room.ensures told.refused.given.1 said.verdict.ensures c.refuse.ensures
+    records_refused _ _ _ _ _ _ _ _ _ said.before.records-room.ensures told.refused.given.1 said.verdict.ensures c.refuse.ensures
 
 pub weimrukas-records-spec : {M : Type 1} → statement M
 weimrukas-records-spec =

@@ -1,4 +1,4 @@
-use Rattle.capi.proofs.CAnswers.{read-given, read-refused}
+use Rattle.capi.proofs.CAnswers.{read_given, read_refused}
 use borrow.Author.Rules.{rules}
 use Rattle.capi.proofs.sheets.weimrukas_read_sheet.Statement.{statement}
 use Rattle.capi.proofs.sheets.weimrukas_read_sheet.Tie as tie
@@ -28,7 +28,7 @@ returns : tie.Need-returns
 returns c =
     let told = c.before in
     let read = at_read told.before.before in
-    read-given _ _ _ _ _ _ _ _ told.order.given.1 read.read.ensures
+    read_given _ _ _ _ _ _ _ _ told.order.given.1 read.read.ensures
 
 same-length-3 : tie.Need-same-length-3
 same-length-3 c = search rules
@@ -40,7 +40,7 @@ returns-2 : tie.Need-returns-2
 returns-2 c =
     let told = c.before.before.before.before in
     let read = at_read told.before.before in
-    read-refused _ _ _ _ _ _ _ told.refused.given.1 read.read.ensures c.refuse.ensures
+    read_refused _ _ _ _ _ _ _ told.refused.given.1 read.read.ensures c.refuse.ensures
 
 pub weimrukas-read-sheet-spec : {M : Type 1} → statement M
 weimrukas-read-sheet-spec =

@@ -1,5 +1,5 @@
 use borrow.Author.Rules.{rules}
-use Rattle.capi.proofs.CAnswers.{write-said}
+use Rattle.capi.proofs.CAnswers.{write_said}
 use Rattle.capi.proofs.sheets.weimrukas_write_sheet.Statement.{statement}
 use Rattle.capi.proofs.sheets.weimrukas_write_sheet.Tie as tie
 
@@ -15,7 +15,7 @@ same_length c = search rules
 returns : tie.Need-returns
 returns c =
     let wrote = c.before.before.before.before.before.before in
-    write-said _ _ _ wrote.write.result _ wrote.write.ensures c.tell-written.ensures
+    write_said _ _ _ wrote.write.result _ wrote.write.ensures c.tell-written.ensures
 
 pub weimrukas-write-sheet-spec : {M : Type 1} → statement M
 weimrukas-write-sheet-spec = tie.close (tie.spec write-requires tell-written-requires same_length returns)

@@ -3,23 +3,23 @@ use mathlib.Core.Path.{◌≡◌}
 use native.Mathlib.Omega.{arith}
 use Rattle.lists.specs.Tabulate.{tabulate}
 use Rattle.systolic.specs.Slots.{left, right, slot, prior}
-use Rattle.ordering.specs.Registers.{column, comingInto, in_slot}
-use Rattle.ordering.proofs.Columns.{column-none, column-next, registers-are}
+use Rattle.ordering.specs.Registers.{column, coming_into, in_slot}
+use Rattle.ordering.proofs.Columns.{column_none, column_next, registers_are}
 use Rattle.ordering.proofs.Registers.moved.Statement.{statement}
 use Rattle.ordering.proofs.Registers.moved.Tie as tie
 
 -- The first k registers of both sides hold what comes into them. What falls is processors - k.
 abbrev invariant-loop : tie.invariant-loop
 invariant-loop processors old-left old-right lefts₀ rights₀ k₀ lefts rights k =
-    (k ≤ processors) × (lefts ≡ column k (λ i. comingInto old-left old-right (processors - 1) left i))
-    × (rights ≡ column k (λ i. comingInto old-left old-right (processors - 1) right i))
+    (k ≤ processors) × (lefts ≡ column k (λ i. coming_into old-left old-right (processors - 1) left i))
+    × (rights ≡ column k (λ i. coming_into old-left old-right (processors - 1) right i))
 
 abbrev decreases-loop : tie.decreases-loop
 decreases-loop processors old-left old-right lefts₀ rights₀ k₀ lefts rights k = processors - k
 
 loop-holds : tie.Need-loop-init invariant-loop decreases-loop
 unfolding tabulate
-loop-holds c = (omega arith, column-none _, column-none _)
+loop-holds c = (omega arith, column_none _, column_none _)
 
 into-left-requires : tie.Need-into-left-requires invariant-loop decreases-loop
 into-left-requires c κs = omega arith
@@ -54,13 +54,13 @@ loop-again c =
     let loop = at_left.before.before.before.before.loop in
     let i = loop.invariant in (
       omega arith,
-      column-next _ loop.k _ _ i.1 (omega arith) (at_left.into-left.ensures _),
-      column-next _ loop.k _ _ i.2 (omega arith) c.into-right.ensures,
+      column_next _ loop.k _ _ i.1 (omega arith) (at_left.into-left.ensures _),
+      column_next _ loop.k _ _ i.2 (omega arith) c.into-right.ensures,
     )
 
 returns : tie.Need-returns invariant-loop decreases-loop
-unfolding in_slot comingInto prior slot
-returns c = let i = c.before.loop.invariant in registers-are _ _ _ (omega arith) i.1 i.2
+unfolding in_slot coming_into prior slot
+returns c = let i = c.before.loop.invariant in registers_are _ _ _ (omega arith) i.1 i.2
 
 pub moved-spec : {M : Type 1} → statement M
 moved-spec =

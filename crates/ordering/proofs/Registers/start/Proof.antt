@@ -2,9 +2,9 @@ use Rattle.lists.specs.Tabulate.{tabulate}
 use Prim.Native.Nat.{◌-◌, ◌≤◌}
 use mathlib.Core.Path.{◌≡◌}
 use native.Mathlib.Omega.{arith}
-use Rattle.systolic.specs.Slots.{left, right, slot, inOrder}
+use Rattle.systolic.specs.Slots.{left, right, slot, ordered_line}
 use Rattle.ordering.specs.Registers.{column}
-use Rattle.ordering.proofs.Columns.{column-none, column-next, registers-are}
+use Rattle.ordering.proofs.Columns.{column_none, column_next, registers_are}
 use Rattle.ordering.proofs.Movement.{start_left, start_right}
 use Rattle.ordering.proofs.Registers.start.Statement.{statement}
 use Rattle.ordering.proofs.Registers.start.Tie as tie
@@ -12,14 +12,14 @@ use Rattle.ordering.proofs.Registers.start.Tie as tie
 -- The first k registers of both sides hold their lines. What falls is processors - k.
 abbrev invariant-loop : tie.invariant-loop
 invariant-loop processors first lefts₀ rights₀ k₀ lefts rights k =
-    (k ≤ processors) × (lefts ≡ column k (λ i. inOrder first (slot i left))) × (rights ≡ column k (λ i. inOrder first (slot i right)))
+    (k ≤ processors) × (lefts ≡ column k (λ i. ordered_line first (slot i left))) × (rights ≡ column k (λ i. ordered_line first (slot i right)))
 
 abbrev decreases-loop : tie.decreases-loop
 decreases-loop processors first lefts₀ rights₀ k₀ lefts rights k = processors - k
 
 loop-holds : tie.Need-loop-init invariant-loop decreases-loop
 unfolding tabulate
-loop-holds c = (omega arith, column-none _, column-none _)
+loop-holds c = (omega arith, column_none _, column_none _)
 
 mul-lefts : tie.Need-overflow-mul-lefts invariant-loop decreases-loop
 mul-lefts c = omega arith
@@ -58,10 +58,10 @@ loop-again : tie.Need-loop-preserved invariant-loop decreases-loop
 loop-again c =
     let k = c.before.loop.k in
     let i = c.before.loop.invariant in
-    (omega arith, column-next _ k _ _ i.1 (omega arith) (start_left _ k), column-next _ k _ _ i.2 (omega arith) (start_right _ k))
+    (omega arith, column_next _ k _ _ i.1 (omega arith) (start_left _ k), column_next _ k _ _ i.2 (omega arith) (start_right _ k))
 
 returns : tie.Need-returns invariant-loop decreases-loop
-returns c = let i = c.before.loop.invariant in registers-are _ _ _ (omega arith) i.1 i.2
+returns c = let i = c.before.loop.invariant in registers_are _ _ _ (omega arith) i.1 i.2
 
 pub start_spec : {M : Type 1} → statement M
 start_spec =

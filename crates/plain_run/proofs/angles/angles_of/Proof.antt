@@ -6,21 +6,21 @@ use native.Mathlib.Omega.{arith}
 use borrow.Author.Rules.{rules}
 use lib.ListN.{get_or}
 use Rattle.lists.specs.Bounded.{count}
-use Rattle.lists.proofs.Bounded.{count_none, count-more, count_most}
+use Rattle.lists.proofs.Bounded.{count_none, count_more, count_most}
 use Rattle.lists.proofs.Filled.{FilledFrom, filled_none, filled_next}
-use Rattle.sizes.specs.Sizes.{mostProcessors, still_of}
-use Rattle.rotation.specs.Rotation.{angleOf}
-use Rattle.runs.specs.Blocks.{ruledExact}
-use Rattle.runs.proofs.LineZero.{always-exact, own-exact}
-use Rattle.plain_run.specs.Angles.{noTangent, noAngle, exactBy}
+use Rattle.sizes.specs.Sizes.{most_processors, still_of}
+use Rattle.rotation.specs.Rotation.{angle_of}
+use Rattle.runs.specs.Blocks.{ruled_exact}
+use Rattle.runs.proofs.LineZero.{always_exact, own_exact}
+use Rattle.plain_run.specs.Angles.{no_tangent, no_angle, exact_by}
 use Rattle.plain_run.proofs.angles.angles_of.Statement.{statement}
 use Rattle.plain_run.proofs.angles.angles_of.Tie as tie
 
 -- The angles of the processors from k₀ to k are found, and the rounded pairs of the processors below k are counted. What falls is processors - k.
 abbrev invariant-loop : tie.invariant-loop
 invariant-loop n tangents angles₀ rounded₀ processors k₀ angles rounded k =
-    (k ≤ processors) × (still_of n ≤ k) × FilledFrom k₀ noAngle (λ i. angleOf (get_or tangents i noTangent).value) mostProcessors k angles
-    × (rounded ≡ count (λ i. not (ruledExact n i (exactBy (get_or tangents i noTangent)))) k)
+    (k ≤ processors) × (still_of n ≤ k) × FilledFrom k₀ no_angle (λ i. angle_of (get_or tangents i no_tangent).value) most_processors k angles
+    × (rounded ≡ count (λ i. not (ruled_exact n i (exact_by (get_or tangents i no_tangent)))) k)
 
 abbrev decreases-loop : tie.decreases-loop
 decreases-loop n tangents angles₀ rounded₀ processors k₀ angles rounded k = processors - k
@@ -32,7 +32,7 @@ still-of-requires : tie.Need-still-of-requires invariant-loop decreases-loop
 still-of-requires c κs = search rules
 
 loop-holds : tie.Need-loop-init invariant-loop decreases-loop
-loop-holds c = (omega arith, omega arith, filled_none _ refl, sym (count_none _ _ (λ i h. ap not (sym (always-exact _ i _ (omega arith))))))
+loop-holds c = (omega arith, omega arith, filled_none _ refl, sym (count_none _ _ (λ i h. ap not (sym (always_exact _ i _ (omega arith))))))
 
 mul-tangent : tie.Need-overflow-mul-tangent invariant-loop decreases-loop
 mul-tangent c = omega arith
@@ -59,7 +59,7 @@ loop-again c =
       omega arith,
       omega arith,
       filled_next _ _ _ i.2 (omega arith) (rw found.cosine-of.ensures),
-      count-more _ _ i.3 ((rw found.cosine-of.ensures at c.rounded-in.ensures) ∙ ap (λ (b : Bool). cond (not b) 1 0) (own-exact _ _ _ i.1)),
+      count_more _ _ i.3 ((rw found.cosine-of.ensures at c.rounded-in.ensures) ∙ ap (λ (b : Bool). cond (not b) 1 0) (own_exact _ _ _ i.1)),
     )
 
 add-rounded : tie.Need-overflow-add-rounded invariant-loop decreases-loop

@@ -1,7 +1,7 @@
 use mathlib.Core.Path.{◌∙◌}
 use borrow.Author.Rules.{rules}
-use Rattle.rotation.specs.Exact.{tangentFound}
-use Rattle.matrix_turns.proofs.LinePairs.{from-three}
+use Rattle.rotation.specs.Exact.{tangent_found}
+use Rattle.matrix_turns.proofs.LinePairs.{from_three}
 use Rattle.plain_run.proofs.angles.tangent_at.Statement.{statement}
 use Rattle.plain_run.proofs.angles.tangent_at.Tie as tie
 
@@ -20,7 +20,7 @@ tangent-of-pair-requires c κs = search rules
 returns : tie.Need-returns
 returns c =
     let s = c.before in
-    c.tangent-of-pair.ensures ∙ from-three tangentFound s.before.before.entry.ensures s.before.entry2.ensures s.entry3.ensures
+    c.tangent-of-pair.ensures ∙ from_three tangent_found s.before.before.entry.ensures s.before.entry2.ensures s.entry3.ensures
 
 pub tangent-at-spec : {M : Type 1} → statement M
 tangent-at-spec =

@@ -4,17 +4,17 @@ use native.Mathlib.Omega.{arith}
 use borrow.Author.Rules.{rules}
 use lib.ListN.{get_or}
 use Rattle.lists.proofs.Filled.{FilledFrom, filled_none, filled_next}
-use Rattle.sizes.specs.Sizes.{mostProcessors}
+use Rattle.sizes.specs.Sizes.{most_processors}
 use Rattle.matrix.specs.Matrix.{entry_of}
-use Rattle.matrix_turns.specs.Turns.{tangentAt}
-use Rattle.plain_run.specs.Angles.{noTangent}
+use Rattle.matrix_turns.specs.Turns.{tangent_at}
+use Rattle.plain_run.specs.Angles.{no_tangent}
 use Rattle.plain_run.proofs.angles.tangents_of.Statement.{statement}
 use Rattle.plain_run.proofs.angles.tangents_of.Tie as tie
 
 -- The tangents of the processors from k₀ to k are found. What falls is processors - k.
 abbrev invariant-loop : tie.invariant-loop
 invariant-loop n a lefts rights tangents₀ processors k₀ tangents k =
-    (k ≤ processors) × FilledFrom k₀ noTangent (λ i. tangentAt (get_or lefts i 0) (get_or rights i 0) (entry_of n a)) mostProcessors k tangents
+    (k ≤ processors) × FilledFrom k₀ no_tangent (λ i. tangent_at (get_or lefts i 0) (get_or rights i 0) (entry_of n a)) most_processors k tangents
 
 abbrev decreases-loop : tie.decreases-loop
 decreases-loop n a lefts rights tangents₀ processors k₀ tangents k = processors - k

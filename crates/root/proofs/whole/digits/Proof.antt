@@ -1,5 +1,5 @@
 use Rattle.std.proofs.Common.{◌-◌, ⊎_elim, arith}
-use Rattle.root.proofs.DigitLoop.{At, root-bound, start, taken, passed, done}
+use Rattle.root.proofs.DigitLoop.{At, root_bound, start, taken, passed, done}
 use Rattle.root.proofs.whole.digits.Statement.{statement}
 use Rattle.root.proofs.whole.digits.Tie as tie
 
@@ -17,25 +17,25 @@ loop-holds : tie.Need-loop-init invariant-loop decreases-loop
 loop-holds c = start c.args.k c.requires
 
 mul-rest : tie.Need-overflow-mul-rest invariant-loop decreases-loop
-mul-rest c = let b = root-bound c.before.loop.invariant in omega arith
+mul-rest c = let b = root_bound c.before.loop.invariant in omega arith
 
 add-rest : tie.Need-overflow-add-rest invariant-loop decreases-loop
-add-rest c = let b = root-bound c.before.loop.invariant in omega arith
+add-rest c = let b = root_bound c.before.loop.invariant in omega arith
 
 mul-left-2 : tie.Need-overflow-mul-left-2 invariant-loop decreases-loop
-mul-left-2 c = let b = root-bound c.before.loop.invariant in omega arith
+mul-left-2 c = let b = root_bound c.before.loop.invariant in omega arith
 
 mul-test : tie.Need-overflow-mul-test invariant-loop decreases-loop
-mul-test c = let b = root-bound c.before.loop.invariant in omega arith
+mul-test c = let b = root_bound c.before.loop.invariant in omega arith
 
 add-test : tie.Need-overflow-add-test invariant-loop decreases-loop
-add-test c = let b = root-bound c.before.loop.invariant in omega arith
+add-test c = let b = root_bound c.before.loop.invariant in omega arith
 
 mul-root : tie.Need-overflow-mul-root invariant-loop decreases-loop
-mul-root c = let b = root-bound c.before.loop.invariant in omega arith
+mul-root c = let b = root_bound c.before.loop.invariant in omega arith
 
 add-root : tie.Need-overflow-add-root invariant-loop decreases-loop
-add-root c = let b = root-bound c.before.before.loop.invariant in omega arith
+add-root c = let b = root_bound c.before.before.loop.invariant in omega arith
 
 add-i : tie.Need-overflow-add-i invariant-loop decreases-loop
 add-i c = omega arith

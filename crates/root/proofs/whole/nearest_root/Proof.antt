@@ -1,5 +1,5 @@
 use Rattle.std.proofs.Common.{arith, rules}
-use Rattle.root.proofs.Floors.{floor-lt, found-by-digits}
+use Rattle.root.proofs.Floors.{floor_lt, found_by_digits}
 use Rattle.root.proofs.whole.nearest_root.Statement.{statement}
 use Rattle.root.proofs.whole.nearest_root.Tie as tie
 
@@ -13,10 +13,10 @@ digits-requires : tie.Need-digits-requires
 digits-requires c κs = search rules
 
 add-result : tie.Need-overflow-add-result
-add-result c = let b = floor-lt _ _ c.before.before.before.requires.1 c.digits.ensures in omega arith
+add-result c = let b = floor_lt _ _ c.before.before.before.requires.1 c.digits.ensures in omega arith
 
 returns-2 : tie.Need-returns-2
-returns-2 c = let a = c.before.before.before in found-by-digits _ _ a.requires.0 a.requires.1 c.digits.ensures
+returns-2 c = let a = c.before.before.before in found_by_digits _ _ a.requires.0 a.requires.1 c.digits.ensures
 
 pub nearest-root-spec : {M : Type 1} → statement M
 nearest-root-spec =

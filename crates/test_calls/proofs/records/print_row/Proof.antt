@@ -1,15 +1,15 @@
 use Prim.Native.Nat.{◌-◌, ◌≤◌}
 use borrow.Author.Rules.{rules}
-use Rattle.sizes.specs.Sizes.{mostProcessors}
+use Rattle.sizes.specs.Sizes.{most_processors}
 use Rattle.test_calls.proofs.records.print_row.Statement.{statement}
 use Rattle.test_calls.proofs.records.print_row.Tie as tie
 
 -- The index stays within the row. What falls is the number of records left.
 abbrev invariant-loop : tie.invariant-loop
-invariant-loop row k₀ k = k ≤ mostProcessors
+invariant-loop row k₀ k = k ≤ most_processors
 
 abbrev decreases-loop : tie.decreases-loop
-decreases-loop row k₀ k = mostProcessors - k
+decreases-loop row k₀ k = most_processors - k
 
 loop-holds : tie.Need-loop-init invariant-loop decreases-loop
 loop-holds c = search rules

@@ -1,15 +1,15 @@
 use Prim.Native.Nat.{◌-◌, ◌*◌, ◌≤◌}
 use borrow.Author.Rules.{rules}
-use Rattle.sizes.specs.Sizes.{mostProcessors}
+use Rattle.sizes.specs.Sizes.{most_processors}
 use Rattle.test_runs.proofs.record.print_tiles.Statement.{statement}
 use Rattle.test_runs.proofs.record.print_tiles.Tie as tie
 
 -- The index stays within the tiles. What falls is the number of tiles left.
 abbrev invariant-loop : tie.invariant-loop
-invariant-loop array processors k₀ k = k ≤ mostProcessors * mostProcessors
+invariant-loop array processors k₀ k = k ≤ most_processors * most_processors
 
 abbrev decreases-loop : tie.decreases-loop
-decreases-loop array processors k₀ k = mostProcessors * mostProcessors - k
+decreases-loop array processors k₀ k = most_processors * most_processors - k
 
 processors-of-requires : tie.Need-processors-of-requires invariant-loop decreases-loop
 processors-of-requires c κs = search rules

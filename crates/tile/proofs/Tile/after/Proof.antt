@@ -1,6 +1,6 @@
 use mathlib.Core.Path.{ap, ◌∙◌}
-use Rattle.systolic.specs.Tiles.{phaseIn}
-use Rattle.tile.proofs.TileTick.{tile-settled}
+use Rattle.systolic.specs.Tiles.{phase_in}
+use Rattle.tile.proofs.TileTick.{tile_settled}
 use borrow.Author.Rules.{rules}
 use Rattle.tile.proofs.Tile.after.Statement.{statement}
 use Rattle.tile.proofs.Tile.after.Tie as tie
@@ -21,8 +21,8 @@ returns : tie.Need-returns
 returns c = λ s.
     let marked = c.before in
     let chosen = marked.before.before.before.before in
-    let phase = chosen.phase-in.ensures ∙ ap phaseIn chosen.before.action-at.ensures in
-    tile-settled s chosen.before.before.args.self _ _ _ _ phase marked.before.after.ensures marked.is-marked.ensures
+    let phase = chosen.phase-in.ensures ∙ ap phase_in chosen.before.action-at.ensures in
+    tile_settled s chosen.before.before.args.self _ _ _ _ phase marked.before.after.ensures marked.is-marked.ensures
 
 pub after-spec : {M : Type 1} → statement M
 after-spec =

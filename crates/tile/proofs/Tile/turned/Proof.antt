@@ -1,4 +1,4 @@
-use Rattle.tile.specs.Turned.{turnedOf}
+use Rattle.tile.specs.Turned.{turned_of}
 use borrow.Author.Rules.{rules}
 use Rattle.tile.proofs.Tile.turned.Statement.{statement}
 use Rattle.tile.proofs.Tile.turned.Tie as tie
@@ -13,7 +13,7 @@ worked-requires : tie.Need-worked-requires
 worked-requires c κs = search rules
 
 returns : tie.Need-returns
-unfolding turnedOf
+unfolding turned_of
 returns c =
     let work = c.before.before in
     let chosen = work.before.before.before.before.before in

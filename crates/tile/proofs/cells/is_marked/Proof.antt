@@ -1,5 +1,5 @@
 use mathlib.Core.Path.{sym, ◌∙◌}
-use Rattle.tile.specs.Turned.{partNotFinite}
+use Rattle.tile.specs.Turned.{part_not_finite}
 use borrow.Author.Rules.{rules}
 use Rattle.tile.proofs.cells.is_marked.Statement.{statement}
 use Rattle.tile.proofs.cells.is_marked.Tie as tie
@@ -11,14 +11,14 @@ not-finite-requires : tie.Need-not-finite-requires
 not-finite-requires c κs = search rules
 
 returns-2 : tie.Need-returns-2
-unfolding partNotFinite
+unfolding part_not_finite
 returns-2 c = let unmarked = c.before.before.before.before in rw (unmarked.if1.false, sym c.before.not_finite.ensures ∙ c.if2.true)
 
 not-finite-requires-2 : tie.Need-not-finite-requires-2
 not-finite-requires-2 c κs = search rules
 
 returns-3 : tie.Need-returns-3
-unfolding partNotFinite
+unfolding part_not_finite
 returns-3 c =
     let matrix = c.before in
     let unmarked = matrix.before.before.before.before in

@@ -1,4 +1,4 @@
-use Rattle.tile.specs.Turned.{offDiagonalOf}
+use Rattle.tile.specs.Turned.{off_diagonal_of}
 use borrow.Author.Rules.{rules}
 use Rattle.tile.proofs.cells.off_diagonal.Statement.{statement}
 use Rattle.tile.proofs.cells.off_diagonal.Tie as tie
@@ -16,7 +16,7 @@ turn-columns-requires : tie.Need-turn-columns-requires
 turn-columns-requires c κs = search rules
 
 returns : tie.Need-returns
-unfolding offDiagonalOf
+unfolding off_diagonal_of
 returns c =
     let b = c.before.before in
     rw (← b.before.of-angle.ensures, ← b.of-angle2.ensures, ← c.before.turn-both.ensures, ← c.turn-columns.ensures)

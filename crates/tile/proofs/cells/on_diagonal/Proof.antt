@@ -28,7 +28,7 @@ returns c =
     let sides = turned.before in
     let ruled = sides.before in
     worked _ _ _ _ ruled.before.of_pair.ensures ruled.ruled.ensures sides.diagonal.ensures turned.turn-columns.ensures
-    sent.sent.ensures c.counts-after.ensures
+    sent.sent.ensures c.counts_after.ensures
 
 pub on-diagonal-spec : {M : Type 1} → statement M
 on-diagonal-spec =

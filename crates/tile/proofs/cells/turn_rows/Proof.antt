@@ -1,4 +1,4 @@
-use Rattle.tile.specs.Turned.{rowsTurned}
+use Rattle.tile.specs.Turned.{rows_turned}
 use borrow.Author.Rules.{rules}
 use Rattle.tile.proofs.cells.turn_rows.Statement.{statement}
 use Rattle.tile.proofs.cells.turn_rows.Tie as tie
@@ -10,11 +10,11 @@ enum-known-parameters : tie.Need-enum-known-parameters
 enum-known-parameters c = search rules
 
 returns : tie.Need-returns
-unfolding rowsTurned
+unfolding rows_turned
 returns c = rw c.enum_told.given.1
 
 returns-2 : tie.Need-returns-2
-unfolding rowsTurned
+unfolding rows_turned
 returns-2 c = let turn = c.before.before.before.before.before.before.before.before.before in rw turn.parameters.given.1
 
 pub turn-rows-spec : {M : Type 1} → statement M

@@ -1,22 +1,22 @@
-use Rattle.tile_wires.specs.Wires.{setIn1}
+use Rattle.tile_wires.specs.Wires.{set_in1}
 use borrow.Author.Tests.{ne_eqb}
 use Rattle.tile_wires.proofs.phases.set_in_1.Statement.{statement}
 use Rattle.tile_wires.proofs.phases.set_in_1.Tie as tie
 
 returns : tie.Need-returns
-unfolding setIn1
+unfolding set_in1
 returns c = rw c.match.keys1
 
 returns-2 : tie.Need-returns-2
-unfolding setIn1
+unfolding set_in1
 returns-2 c = rw c.match.keys2
 
 returns-3 : tie.Need-returns-3
-unfolding setIn1
+unfolding set_in1
 returns-3 c = rw c.match.keys3
 
 returns-4 : tie.Need-returns-4
-unfolding setIn1
+unfolding set_in1
 returns-4 c = rw (ne_eqb _ _ c.match.rest.0.0.1, ne_eqb _ _ c.match.rest.0.1, ne_eqb _ _ c.match.rest.1)
 
 pub set-in-1-spec : {M : Type 1} → statement M
