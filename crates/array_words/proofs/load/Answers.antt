@@ -1,0 +1,21 @@
+use Prim.Native.Nat.{◌+◌, ◌-◌, ◌*◌, ◌≤◌}
+use mathlib.Core.Path.{refl}
+use native.Mathlib.Omega.{arith}
+use borrow.Author.Rules.{rules}
+use Rattle.lists.proofs.Filled.{Filled, filled_none, filled_next, filled_all}
+use Rattle.sizes.specs.Sizes.{most_processors}
+use Rattle.array.specs.Arrays.{no_tile}
+use Rattle.array_words.specs.Words.{tile_words, tile_in}
+use Rattle.array_words.proofs.ArrayRead.{loaded}
+use Rattle.array_words.proofs.load.Goals as goal
+
+pub loop-i-init : goal.loop-i-init
+loop-i-init c = (omega arith, filled_none _ refl)
+
+pub loop-i-preserved : goal.loop-i-preserved
+loop-i-preserved c = let k = c.loop-i in (omega arith, filled_next _ _ _ k.invariant.1 (omega arith) c.tile_in.ensures)
+
+pub returns : goal.returns
+returns c =
+    let tiles = filled_all _ _ c.loop-i.invariant.1 (omega arith) in
+    loaded _ c.word_at.ensures c.word_at-2.ensures c.word_at-3.ensures tiles

@@ -1,0 +1,7 @@
+use Rattle.array_words.specs.Words.{value_at}
+use borrow.Author.Rules.{rules}
+use Rattle.array_words.proofs.value_at.Goals as goal
+
+pub returns : goal.returns
+unfolding value_at
+returns c = rw (← c.word_at.ensures) c.from_bits.ensures

@@ -1,0 +1,11 @@
+use mathlib.Core.Path.{refl}
+use native.Mathlib.Omega.{arith}
+use lib.ListN.{length-set}
+use borrow.Author.Rules.{rules}
+use Rattle.capi.proofs.rows.put_record.Goals as goal
+
+pub bounds-values-at-2 : goal.bounds-values-at-2
+bounds-values-at-2 c = simp length-set (omega arith)
+
+pub bounds-values-at-3 : goal.bounds-values-at-3
+bounds-values-at-3 c = simp length-set (omega arith)

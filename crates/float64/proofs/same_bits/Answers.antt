@@ -1,0 +1,5 @@
+use borrow.Author.Rules.{rules}
+use Rattle.float64.proofs.same_bits.Goals as goal
+
+pub returns : goal.returns
+returns c = cc

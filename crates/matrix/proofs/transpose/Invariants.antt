@@ -1,0 +1,19 @@
+use Prim.Native.Nat.{◌-◌, ◌*◌, ◌≤◌}
+use mathlib.Core.Path.{◌≡◌, sym, ap, ◌∙◌}
+use native.Mathlib.Nat.{le_antisymm}
+use native.Mathlib.Omega.{arith}
+use borrow.Author.Rules.{rules}
+use borrow.Author.Tests.{eqb-true, not-true, not-false}
+use lib.ListN.{length}
+use Rattle.matrix.specs.Matrix.{at, flat}
+use Rattle.matrix.specs.Transposed.{across, up_to}
+use Rattle.matrix.proofs.Flat.{flat_length}
+use Rattle.matrix.proofs.Transposition.{left_as_it_was, begun, ended}
+use Rattle.matrix.proofs.transpose.Given as goal
+
+-- The first i rows and columns are exchanged. What falls is n - i.
+abbrev pub invariant-loop-i : goal.invariant-loop-i
+invariant-loop-i l = (l.i ≤ l.n) × (length l.initial.a ≡ l.n * l.n) × (l.a ≡ flat l.n (across (up_to l.i 0) (at l.n l.initial.a)))
+
+abbrev pub decreases-loop-i : goal.decreases-loop-i
+decreases-loop-i l = l.n - l.i

@@ -1,0 +1,5 @@
+use borrow.Author.Rules.{rules}
+use Rattle.rotation.proofs.Angle.of_tangent.Goals as goal
+
+pub returns : goal.returns
+returns c = rw c.cosine_of-cosine.ensures

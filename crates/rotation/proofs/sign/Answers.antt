@@ -1,0 +1,10 @@
+use Rattle.rotation.specs.Rotation.{signum}
+use Rattle.rotation.proofs.sign.Goals as goal
+
+pub returns-then-xi : goal.returns-then-xi
+unfolding signum
+returns-then-xi c = cc
+
+pub returns : goal.returns
+unfolding signum
+returns c = cc

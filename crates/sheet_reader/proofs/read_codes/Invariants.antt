@@ -1,0 +1,15 @@
+use Prim.Native.Nat.{◌-◌, ◌≤◌}
+use native.Mathlib.Omega.{arith}
+use Rattle.lists.proofs.Filled.{Filled, filled_none, filled_next}
+use Rattle.sheet.specs.Format.{code_in}
+use Rattle.sheet.proofs.Forms.{width_fits}
+use Rattle.sheet.proofs.Triangle.{code_ends}
+use Rattle.sheet_reader.proofs.SheetContents.{codes_read}
+use Rattle.sheet_reader.proofs.read_codes.Given as goal
+
+-- The first k codes are those of the sheet; n - k are left.
+abbrev pub invariant-loop-k : goal.invariant-loop-k
+invariant-loop-k l = (l.k ≤ l.n) × Filled 0 (code_in l.width l.sheet) l.n l.k l.codes
+
+abbrev pub decreases-loop-k : goal.decreases-loop-k
+decreases-loop-k l = l.n - l.k

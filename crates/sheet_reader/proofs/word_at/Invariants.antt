@@ -1,0 +1,15 @@
+use Prim.Native.Nat.{◌+◌, ◌-◌, ◌^◌, ◌<◌, ◌≤◌}
+use mathlib.Core.Path.{◌≡◌}
+use native.Mathlib.Omega.{arith}
+use lib.Dec.{lit<}
+use lib.ListN.{get_or}
+use Rattle.sheet.specs.Format.{word_from}
+use Rattle.sheet.proofs.Words.{word_none, word_next, word_grows, word_room}
+use Rattle.sheet_reader.proofs.word_at.Given as goal
+
+-- The word is that of the first k bytes, and below 256 ^ k; 8 - k bytes are left.
+abbrev pub invariant-loop-k : goal.invariant-loop-k
+invariant-loop-k l = (l.k ≤ 8) × (l.word < 256 ^ l.k) × (l.word ≡ word_from l.bytes l.at l.k)
+
+abbrev pub decreases-loop-k : goal.decreases-loop-k
+decreases-loop-k l = 8 - l.k

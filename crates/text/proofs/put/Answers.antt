@@ -1,0 +1,6 @@
+use Rattle.text.proofs.TextPieces.{put_one}
+use borrow.Author.Rules.{rules}
+use Rattle.text.proofs.put.Goals as goal
+
+pub returns : goal.returns
+returns c = put_one _ _ _ c.requires

@@ -1,0 +1,19 @@
+use Rattle.tile_wires.specs.Wires.{set_in1}
+use borrow.Author.Tests.{ne_eqb}
+use Rattle.tile_wires.proofs.phases.set_in_1.Goals as goal
+
+pub returns-in-0 : goal.returns-in-0
+unfolding set_in1
+returns-in-0 c = rw c.in-0.is
+
+pub returns-in-1 : goal.returns-in-1
+unfolding set_in1
+returns-in-1 c = rw c.in-1.is
+
+pub returns-in-2 : goal.returns-in-2
+unfolding set_in1
+returns-in-2 c = rw c.in-2.is
+
+pub returns-in_default : goal.returns-in_default
+unfolding set_in1
+returns-in_default c = rw (ne_eqb _ _ c.in_default.rest.0.0.1, ne_eqb _ _ c.in_default.rest.0.1, ne_eqb _ _ c.in_default.rest.1)
