@@ -25,7 +25,7 @@ unfolding to_bits
 bits_of_nan = refl
 
 pub nan_bits_lem : (x : Float) → ne x x ≡ true → 0x7ff8_0000_0000_0000 ≡ to_bits binary64 x
-nan_bits x h = rw (differs_from_itself x (subst T (sym h) tt), bits_of_nan)
+nan_bits_lem x h = rw (differs_from_itself x (subst T (sym h) tt), bits_of_nan)
 
 -- a pattern without its sign bit is a NaN's where it is above +infinity's
 pub no_nan_pattern : (b : ℕ) → b % 0x8000_0000_0000_0000 ≤ 0x7ff0_0000_0000_0000 → T (not (nan_bits binary64 b))

@@ -1,9 +1,9 @@
-use Rattle.float64.proofs.Nan.{nan_bits, no_nan}
+use Rattle.float64.proofs.Nan.{nan_bits_lem, no_nan}
 use borrow.Author.Rules.{rules}
 use Rattle.float64.proofs.to_bits.Goals as goal
 
 pub returns-then-x : goal.returns-then-x
-returns-then-x c = nan_bits _ c.if-x.true
+returns-then-x c = nan_bits_lem _ c.if-x.true
 
 pub float_to_bits-result : goal.float_to_bits-result
 float_to_bits-result c = no_nan _ c.if-x.false
