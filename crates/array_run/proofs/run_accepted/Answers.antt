@@ -32,4 +32,4 @@ hand_over-requires c =
     (rw e (order_is _ b.order).1, rw e b.result_long, rw e b.vectors_long)
 
 pub returns : goal.returns
-returns c = c.hand_over.ensures ∙ ap c.before.before.before.before_over (ended c.before.before.before.before.before.before.before)
+returns c = c.hand_over.ensures ∙ ap handed_over (ended c.before.before.before.before.before.before.before)

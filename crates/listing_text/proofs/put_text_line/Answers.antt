@@ -38,8 +38,8 @@ returns c =
           (c.entry.ensures ∙ entry_at _ _ _ _ (place_is _ _ _ _ (record {
             row_above = c.requires.0;
             row_within = c.requires.1;
-            c.before.before.before.before.before.before_above = c.requires.0;
-            c.before.before.before.before.before.before_within = c.requires.1;
+            column_above = c.requires.0;
+            column_within = c.requires.1;
             square = c.requires.2;
           }))),
       omega (

@@ -17,7 +17,7 @@ pub rows-init : goal.rows-init
 rows-init c = (search rules, refl, first_none _)
 
 pub loop-j-init : goal.loop-j-init
-loop-j-init c = let a = c.args in (omega arith, omega arith, search c.beforeules, not_compared a.n a.a.now c.rows.i)
+loop-j-init c = let a = c.args in (omega arith, omega arith, search rules, not_compared a.n a.a.now c.rows.i)
 
 pub loop-j-preserved : goal.loop-j-preserved
 loop-j-preserved c =

@@ -9,9 +9,9 @@ returns-then-not-is_line c = no_row _ _ _ _ (sym c.is_line.ensures ∙ c.if-not-
 
 pub returns-then-not-is_line-2 : goal.returns-then-not-is_line-2
 returns-then-not-is_line-2 c =
-    no_column _ _ _ _ (c.before.beforeym c.is_line.ensures ∙ c.if-not-is_line.false) (c.before.beforeym c.is_line-2.ensures ∙ c.if-not-is_line-2.true)
+    no_column _ _ _ _ (sym c.is_line.ensures ∙ c.if-not-is_line.false) (sym c.is_line-2.ensures ∙ c.if-not-is_line-2.true)
 
 pub returns : goal.returns
 returns c =
     c.is_square.ensures
-    ∙ by_length _ _ _ _ (c.before.before.beforeym c.is_line.ensures ∙ c.if-not-is_line.false) (c.before.before.beforeym c.is_line-2.ensures ∙ c.if-not-is_line-2.false)
+    ∙ by_length _ _ _ _ (sym c.is_line.ensures ∙ c.if-not-is_line.false) (sym c.is_line-2.ensures ∙ c.if-not-is_line-2.false)

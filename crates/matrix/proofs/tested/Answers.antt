@@ -13,7 +13,7 @@ first_not_finite-requires c = eqb-true _ _ (sym c.is_square.ensures ∙ c.if-not
 
 pub first_not_mirrored-requires : goal.first_not_mirrored-requires
 first_not_mirrored-requires c =
-    eqb-true _ _ (c.before.before.beforeym c.is_square.ensures ∙ c.if-not-is_square.false)
+    eqb-true _ _ (sym c.is_square.ensures ∙ c.if-not-is_square.false)
 
 pub returns-in-Accepted : goal.returns-in-Accepted
 returns-in-Accepted c =

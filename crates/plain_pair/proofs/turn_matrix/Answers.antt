@@ -8,7 +8,7 @@ use Rattle.plain_pair.proofs.turn_matrix.Goals.{After-turn_rows, Start}
 
 -- the start, from the place where the rows are turned
 abbrev start_of : After-turn_rows → Start
-start_of c = c.before.before.before.before.before
+start_of c = c.before.before.before.before
 
 pub set_pair-requires : goal.set_pair-requires
 set_pair-requires c =

@@ -42,7 +42,7 @@ returns-then-sweep-eq0 c =
     let at-loop = c.loop-m in
     let i = at-loop.invariant in
     let quiet = sweep_quiet _ i.1 _ at-loop.m _ _ i.2 c.make_sweep-sweep.ensures.0 (omega (arith, c.if-sweep-eq0.true)) in (
-      reported _ _ _ (c.before.before.before.before.before.before.before_is _ _ (when_quiet at-loop.m (omega (arith, c.loop-m-test.true)) i.3 quiet (add-one _)))
+      reported _ _ _ (made_is _ _ (when_quiet at-loop.m (omega (arith, c.loop-m-test.true)) i.3 quiet (add-one _)))
           (sweep_rounded _ i.1 _ at-loop.m _ _ i.2 i.4 c.make_sweep-sweep.ensures.1),
       sweep_next _ i.1 _ at-loop.m _ _ i.2 _ _ c.make_sweep-sweep.ensures.2,
     )

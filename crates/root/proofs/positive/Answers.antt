@@ -20,4 +20,4 @@ pub returns : goal.returns
 returns c =
     let b = c.args.b in
     c.scaled.ensures
-    ∙ root_at _ (b % 2 ^ 52 + 2 ^ 52) (b / 2 ^ 52 + 52) (field_units b (omega c.before.before.beforerith) c.requires.1) (omega c.before.before.beforerith) (omega c.before.before.beforerith) (omega c.before.before.beforerith)
+    ∙ root_at _ (b % 2 ^ 52 + 2 ^ 52) (b / 2 ^ 52 + 52) (field_units b (omega arith) c.requires.1) (omega arith) (omega arith) (omega arith)

@@ -24,5 +24,5 @@ pub returns : goal.returns
 returns c =
     let d = digits53 c.before in
     let e = c.nearest_root-q.ensures in
-    of_both (normal_pattern _ _ d.0 d.1 (omega c.before.beforerith) ∙ c.before.beforep (λ (q : ℕ). odd 53 false q (484 + c.args.h) 1074) e)
-    (c.is_exact-exact.ensures ∙ c.before.beforep (λ (q : ℕ). eqb (q * q) (c.args.k * 2 ^ 52)) e)
+    of_both (normal_pattern _ _ d.0 d.1 (omega arith) ∙ ap (λ (q : ℕ). odd 53 false q (484 + c.args.h) 1074) e)
+    (c.is_exact-exact.ensures ∙ ap (λ (q : ℕ). eqb (q * q) (c.args.k * 2 ^ 52)) e)

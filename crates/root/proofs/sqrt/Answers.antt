@@ -24,9 +24,9 @@ pub returns-then-b-lt9218868437227405312 : goal.returns-then-b-lt921886843722740
 returns-then-b-lt9218868437227405312 c =
     let x = c.args.x in
     let p = finite_pattern x (held c.before.before.before) c.if-x.true c.if-b-lt9218868437227405312.true in
-    c.before.before.beforep root_answered c.positive.ensures
-    ∙ c.before.before.beforep (λ (y : Float). given (root_units (units_of y), exact_units (units_of y))) (of_bits-to_bits binary64 x (held c.before.before.before))
-    ∙ c.before.before.beforenswer_positive x p
+    ap root_answered c.positive.ensures
+    ∙ ap (λ (y : Float). given (root_units (units_of y), exact_units (units_of y))) (of_bits-to_bits binary64 x (held c.before.before.before))
+    ∙ answer_positive x p
 
 pub returns-then-x : goal.returns-then-x
 returns-then-x c =

@@ -35,7 +35,7 @@ returns-in-Refused c =
 
 pub returns-in-Refused-tested : goal.returns-in-Refused-tested
 returns-in-Refused-tested c =
-    c.before.before.before_refused _ _ _ (first_good c.before.before.before.before) (ap answered (sym c.in-Refused-tested.is) ∙ c.tested-2.ensures)
+    second_refused _ _ _ (first_good c.before.before.before.before) (ap answered (sym c.in-Refused-tested.is) ∙ c.tested-2.ensures)
 
 pub shares_a_code-requires : goal.shares_a_code-requires
 shares_a_code-requires c = (sym (first_good (at_first c)), sym (second_good c))

@@ -40,7 +40,7 @@ loop-k-preserved c =
     let u = c.loop-k.invariant in (
       omega arith,
       bytes_long _ _ _ _ _ c.put_code.ensures ∙ u.1,
-      c.before.before.before.befores_next _ _ _ _ u.2 (rw c.joint_code.ensures at c.put_code.ensures),
+      codes_next _ _ _ _ u.2 (rw c.joint_code.ensures at c.put_code.ensures),
     )
 
 pub returns : goal.returns

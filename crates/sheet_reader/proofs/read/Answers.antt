@@ -10,7 +10,7 @@ read_accepted-requires c =
 
 pub returns-in-Accepted : goal.returns-in-Accepted
 returns-in-Accepted c =
-    c.before.before.before.before_accepted_as _ _ _ (ap answered (sym c.in-Accepted.is) ∙ c.verdict.ensures) c.read_accepted.ensures
+    read_accepted_as _ _ _ (ap answered (sym c.in-Accepted.is) ∙ c.verdict.ensures) c.read_accepted.ensures
 
 pub returns-in-Refused : goal.returns-in-Refused
 returns-in-Refused c =

@@ -7,7 +7,7 @@ use Rattle.sheet_reader.proofs.refuses_codes.Goals as goal
 use Rattle.sheet_reader.proofs.refuses_codes.Goals.{After-has_bad_code, After-read_codes, Else-width-eq1, Start}
 
 abbrev at_read : After-has_bad_code → After-read_codes
-at_read c = c.before.before.before.before
+at_read c = c.before.before.before
 
 abbrev at_start : After-has_bad_code → Start
 at_start c = (at_read c).before.before.before.before

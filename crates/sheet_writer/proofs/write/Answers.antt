@@ -10,7 +10,7 @@ write_accepted-requires c =
 
 pub returns-in-Accepted : goal.returns-in-Accepted
 returns-in-Accepted c =
-    write_accepted_as _ _ _ _ _ (ap answered (c.before.beforeym c.in-Accepted.is) ∙ c.verdict.ensures) c.write_accepted.ensures
+    write_accepted_as _ _ _ _ _ (ap answered (sym c.in-Accepted.is) ∙ c.verdict.ensures) c.write_accepted.ensures
 
 pub returns-in-Refused : goal.returns-in-Refused
 returns-in-Refused c =

@@ -17,4 +17,4 @@ put-requires c =
 
 pub returns : goal.returns
 returns c =
-    put_as c.put.ensures (ap (λ (x : ℕ). x ∷ []) c.code.ensures ∙ c.before.beforehown _ _ (omega arith))
+    put_as c.put.ensures (ap (λ (x : ℕ). x ∷ []) c.code.ensures ∙ shown _ _ (omega arith))

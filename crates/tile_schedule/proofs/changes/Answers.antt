@@ -6,4 +6,4 @@ returns-then-rotates c = rw (← c.action_at-action.ensures, ← c.rotates.ensur
 
 pub returns : goal.returns
 returns c =
-    c.before.beforew (← c.action_at-action.ensures, ← c.rotates.ensures, c.if-rotates.false) c.reads.ensures
+    rw (← c.action_at-action.ensures, ← c.rotates.ensures, c.if-rotates.false) c.reads.ensures

@@ -81,7 +81,7 @@ pub loop-tick-init : goal.loop-tick-init
 loop-tick-init c =
     let long = c.well_formed.0.1.1.1.1.1.0.1.0.1 in
     let known = known_alike (most_processors * most_processors) c.of_tangent-zero.ensures in
-    (omega arith, omega arith, refl, refl, c.before.before.beforeimp length-map at long, tiles_none _ _ _ _ _, known)
+    (omega arith, omega arith, refl, refl, simp length-map at long, tiles_none _ _ _ _ _, known)
 
 pub overflow_mul-k-end : goal.overflow_mul-k-end
 overflow_mul-k-end c = omega (arith, (few (at-processors c.before)).1)

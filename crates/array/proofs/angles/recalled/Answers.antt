@@ -6,5 +6,5 @@ use Rattle.array.proofs.angles.recalled.Goals as goal
 
 pub returns-then-same_bits : goal.returns-then-same_bits
 returns-then-same_bits c =
-    let c.before.beforeame = c.before.beforeym c.same_bits.ensures ∙ c.if-same_bits.true in
-    c.before.beforeame_angle _ _ (c.before.beforeubst T (c.before.beforeym c.well_formed.0.1) tt) (c.before.beforeubst T (c.before.beforeym c.well_formed.1.0.1.1.0.1) tt) c.before.beforeame c.requires
+    let same = sym c.same_bits.ensures ∙ c.if-same_bits.true in
+    same_angle _ _ (subst T (sym c.well_formed.0.1) tt) (subst T (sym c.well_formed.1.0.1.1.0.1) tt) same c.requires

@@ -79,7 +79,7 @@ returns-then-none_counted c =
     let p = c.requires in
     let steps = c.steps_of.ensures in
     let all = c.ticks_of-end.ensures in
-    c.before.before.before_quiet _ p.0 p.1 p.2 (omega arith) loop.invariant.1 (next_ticks _ steps c.after-array.ensures)
+    swept_quiet _ p.0 p.1 p.2 (omega arith) loop.invariant.1 (next_ticks _ steps c.after-array.ensures)
     (sym c.none_counted.ensures ∙ c.if-none_counted.true) (last_ticks _ steps all c.ticks.ensures)
 
 pub overflow_step-m : goal.overflow_step-m
@@ -91,7 +91,7 @@ loop-m-preserved c =
     let loop = c.loop-m in
     let p = c.requires in (
       omega arith,
-      c.before.before_more _ p.0 p.1 p.2 (omega arith) loop.invariant.1 (next_ticks _ c.steps_of.ensures c.after-array.ensures)
+      swept_more _ p.0 p.1 p.2 (omega arith) loop.invariant.1 (next_ticks _ c.steps_of.ensures c.after-array.ensures)
           (sym c.none_counted.ensures ∙ c.if-none_counted.false),
     )
 

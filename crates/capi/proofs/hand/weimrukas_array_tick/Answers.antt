@@ -7,7 +7,7 @@ use Rattle.capi.proofs.hand.weimrukas_array_tick.Goals.{After-tick-ticked, Else-
 
 -- the test that the words are an array's
 abbrev at_test : After-tick-ticked → Else-not-is_array
-at_test c = c.before.before.before
+at_test c = c.before.before
 
 pub returns-then-not-is_array : goal.returns-then-not-is_array
 returns-then-not-is_array c =

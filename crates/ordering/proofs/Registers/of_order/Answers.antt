@@ -25,4 +25,4 @@ start-requires c =
 
 pub returns : goal.returns
 returns c =
-    order_beside _ _ (ordered c.before.before.before) (c.beforeirst_at _ c.processors_of.ensures c.first_line.ensures c.start.ensures)
+    order_beside _ _ (ordered c.before.before.before) (first_at _ c.processors_of.ensures c.first_line.ensures c.start.ensures)

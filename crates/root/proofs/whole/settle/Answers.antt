@@ -14,4 +14,4 @@ overflow_add-result-4 c =
 
 pub returns : goal.returns
 returns c =
-    found _ _ c.requires.0 c.requires.1 (settled _ _ _ (c.remainder-left.ensures c.if-left-q.false) (omega c.before.beforerith) (omega c.before.beforerith) (omega c.before.beforerith))
+    found _ _ c.requires.0 c.requires.1 (settled _ _ _ (c.remainder-left.ensures c.if-left-q.false) (omega arith) (omega arith) (omega arith))

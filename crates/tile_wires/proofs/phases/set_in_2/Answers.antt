@@ -13,4 +13,4 @@ returns-in-1 c = rw (c.in-1.is, ← c.set_in_1-inner.ensures)
 
 pub returns-in_default : goal.returns-in_default
 unfolding set_in2
-returns-in_default c = rw (ne_eqb _ _ c.in_default.rest.0.1, ne_eqb _ _ c.in_default.rest.1, ← c.set_in_1-inner.ensures)
+returns-in_default c = rw (ne_eqb _ _ c.in_default.in_default-own.rest.0.1, ne_eqb _ _ c.in_default.in_default-own.rest.1, ← c.set_in_1-inner.ensures)
