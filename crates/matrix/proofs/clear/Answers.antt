@@ -1,10 +1,6 @@
-use Prim.Native.Nat.{◌-◌, ◌≤◌}
 use native.Mathlib.Omega.{arith}
 use mathlib.Core.Path.{refl}
-use lib.Ieee.{nan}
-use lib.ListN.{length}
-use Rattle.float64.specs.Values.{plus_zero}
-use Rattle.lists.proofs.Filled.{Filled, filled_none, filled_next, filled_all}
+use Rattle.lists.proofs.Filled.{filled_none, filled_next, filled_all}
 use Rattle.matrix.proofs.clear.Goals as goal
 
 pub loop-k-init : goal.loop-k-init

@@ -1,10 +1,8 @@
-use Prim.Native.Nat.{◌-◌, ◌≤◌}
-use native.Mathlib.Omega.{arith}
-use mathlib.Core.Path.{refl}
+use Prim.Native.Nat.{◌≤◌}
 use lib.Ieee.{nan}
 use lib.ListN.{length}
 use Rattle.float64.specs.Values.{plus_zero}
-use Rattle.lists.proofs.Filled.{Filled, filled_none, filled_next, filled_all}
+use Rattle.lists.proofs.Filled.{Filled}
 use Rattle.matrix.proofs.clear.Given as goal
 
 -- The first k values are +0. What falls is the number of values left.

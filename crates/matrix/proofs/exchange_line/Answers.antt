@@ -1,11 +1,7 @@
-use Prim.Native.Nat.{ℕ, ◌-◌, ◌*◌, ◌≤◌, ◌<◌}
-use mathlib.Core.Path.{◌≡◌, ap, ◌∙◌}
+use mathlib.Core.Path.{ap, ◌∙◌}
 use native.Mathlib.Nat.{le_antisymm}
 use native.Mathlib.Omega.{arith}
-use lib.Ieee.{Float}
 use lib.ListN.{length}
-use Rattle.matrix.specs.Matrix.{flat}
-use Rattle.matrix.specs.Transposed.{across, up_to}
 use Rattle.matrix.proofs.Transposition.{exchanged_length, first_within, second_within, exchange_next, line_next}
 use Rattle.matrix.proofs.exchange_line.Goals as goal
 
@@ -41,6 +37,6 @@ loop-j-preserved c =
     )
 
 pub returns : goal.returns
-returns c =
+returns c A e =
     let k = c.loop-j in
     rw (le_antisymm k.invariant.1 c.loop-j-test.false) at (k.invariant.4 A e) ∙ line_next _ A _

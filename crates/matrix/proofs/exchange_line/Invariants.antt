@@ -1,12 +1,9 @@
 use Prim.Native.Nat.{ℕ, ◌-◌, ◌*◌, ◌≤◌, ◌<◌}
-use mathlib.Core.Path.{◌≡◌, ap, ◌∙◌}
-use native.Mathlib.Nat.{le_antisymm}
-use native.Mathlib.Omega.{arith}
+use mathlib.Core.Path.{◌≡◌}
 use lib.Ieee.{Float}
 use lib.ListN.{length}
 use Rattle.matrix.specs.Matrix.{flat}
 use Rattle.matrix.specs.Transposed.{across, up_to}
-use Rattle.matrix.proofs.Transposition.{exchanged_length, first_within, second_within, exchange_next, line_next}
 use Rattle.matrix.proofs.exchange_line.Given as goal
 
 -- Where the lines before line i were exchanged at the start, the first j places of row i and column i are so too. What falls is i - j.

@@ -1,14 +1,9 @@
-use Prim.Native.Nat.{◌+◌, ◌-◌, ◌≤◌}
-use mathlib.Core.Path.{◌≡◌, refl, sym, ap, ◌∙◌}
+use mathlib.Core.Path.{refl, sym, ap, ◌∙◌}
 use native.Mathlib.Omega.{arith}
 use native.Mathlib.Nat.{le_antisymm}
 use borrow.Author.Rules.{rules}
-use borrow.Author.Tests.{not-true, not-false}
-use Rattle.refusal.specs.Answers.{given, answered, first}
+use Rattle.refusal.specs.Answers.{answered}
 use Rattle.float64.specs.Values.{finite}
-use Rattle.matrix.specs.Matrix.{at}
-use Rattle.matrix.specs.Entries.{not_finite_at}
-use Rattle.refusal.specs.declared.Answer.TheVariants.{Accepted}
 use Rattle.refusal.proofs.FirstRefusal.{first_none, first_more, first_found}
 use Rattle.matrix.proofs.EntryTests.{is_finite, is_not_finite}
 use Rattle.matrix.proofs.EntryPlaces.{entry_in}

@@ -1,17 +1,8 @@
 use Prim.Native.Nat.{◌+◌, ◌-◌, ◌≤◌}
-use mathlib.Core.Path.{◌≡◌, refl, sym, ap, ◌∙◌}
-use native.Mathlib.Omega.{arith}
-use native.Mathlib.Nat.{le_antisymm}
-use borrow.Author.Rules.{rules}
-use borrow.Author.Tests.{not-true, not-false}
-use Rattle.refusal.specs.Answers.{given, answered, first}
-use Rattle.float64.specs.Values.{finite}
-use Rattle.matrix.specs.Matrix.{at}
+use mathlib.Core.Path.{◌≡◌}
+use Rattle.refusal.specs.Answers.{given, first}
 use Rattle.matrix.specs.Entries.{not_finite_at}
 use Rattle.refusal.specs.declared.Answer.TheVariants.{Accepted}
-use Rattle.refusal.proofs.FirstRefusal.{first_none, first_more, first_found}
-use Rattle.matrix.proofs.EntryTests.{is_finite, is_not_finite}
-use Rattle.matrix.proofs.EntryPlaces.{entry_in}
 use Rattle.matrix.proofs.first_not_finite.Given as goal
 
 -- In the inner loop the first j entries of row i + 1 are finite and n - j are left, in the outer loop those of the first i rows are and

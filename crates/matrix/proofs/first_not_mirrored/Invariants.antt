@@ -1,16 +1,8 @@
 use Prim.Native.Nat.{◌+◌, ◌-◌, ◌<◌, ◌≤◌}
-use mathlib.Core.Path.{◌≡◌, refl, sym, ap, ◌∙◌}
-use native.Mathlib.Omega.{arith}
-use native.Mathlib.Nat.{le_antisymm}
-use borrow.Author.Rules.{rules}
-use borrow.Author.Tests.{not-true, not-false}
-use Rattle.refusal.specs.Answers.{given, answered, first}
-use Rattle.matrix.specs.Matrix.{at}
+use mathlib.Core.Path.{◌≡◌}
+use Rattle.refusal.specs.Answers.{given, first}
 use Rattle.matrix.specs.Entries.{not_mirrored_at}
 use Rattle.refusal.specs.declared.Answer.TheVariants.{Accepted}
-use Rattle.refusal.proofs.FirstRefusal.{first_none, first_more, first_found}
-use Rattle.matrix.proofs.EntryTests.{same, is_mirrored_lem, is_not_mirrored, not_compared}
-use Rattle.matrix.proofs.EntryPlaces.{entry_in}
 use Rattle.matrix.proofs.first_not_mirrored.Given as goal
 
 -- In the inner loop the entries of row i + 1 right of the diagonal in the first j columns have their bits again in the mirror and n - j

@@ -1,7 +1,5 @@
 use mathlib.Core.Path.{sym, ◌∙◌}
-use borrow.Author.Tests.{not-true, not-false}
 use Rattle.matrix.proofs.EntryPlaces.{no_row, no_column, by_length}
-use borrow.Author.Rules.{rules}
 use Rattle.matrix.proofs.is_place.Goals as goal
 
 pub returns-then-not-is_line : goal.returns-then-not-is_line

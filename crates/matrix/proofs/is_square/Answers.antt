@@ -1,5 +1,4 @@
 use native.Mathlib.Omega.{arith}
-use borrow.Author.Rules.{rules}
 use Rattle.matrix.proofs.EntryPlaces.{too_large, square_fits}
 use Rattle.matrix.proofs.is_square.Goals as goal
 

@@ -1,8 +1,7 @@
 use mathlib.Core.Path.{sym, ap, ◌∙◌}
-use borrow.Author.Tests.{eqb-true, not-true, not-false}
+use borrow.Author.Tests.{eqb-true}
 use Rattle.refusal.specs.Answers.{answered}
 use Rattle.matrix.proofs.Answers.{wrong_length, refused_5, refused_6}
-use borrow.Author.Rules.{rules}
 use Rattle.matrix.proofs.tested.Goals as goal
 
 pub returns-then-not-is_square : goal.returns-then-not-is_square

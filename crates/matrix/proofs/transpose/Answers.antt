@@ -1,12 +1,8 @@
-use Prim.Native.Nat.{◌-◌, ◌*◌, ◌≤◌}
-use mathlib.Core.Path.{◌≡◌, sym, ap, ◌∙◌}
+use mathlib.Core.Path.{sym, ap, ◌∙◌}
 use native.Mathlib.Nat.{le_antisymm}
 use native.Mathlib.Omega.{arith}
-use borrow.Author.Rules.{rules}
-use borrow.Author.Tests.{eqb-true, not-true, not-false}
+use borrow.Author.Tests.{eqb-true}
 use lib.ListN.{length}
-use Rattle.matrix.specs.Matrix.{at, flat}
-use Rattle.matrix.specs.Transposed.{across, up_to}
 use Rattle.matrix.proofs.Flat.{flat_length}
 use Rattle.matrix.proofs.Transposition.{left_as_it_was, begun, ended}
 use Rattle.matrix.proofs.transpose.Goals as goal
