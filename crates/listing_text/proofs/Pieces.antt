@@ -39,7 +39,8 @@ unfolding text_lines_of
 text_lines_none l from n codes A E = put_none l from
 
 pub head_put : (n sweeps ticks : ℕ) {l₀ l₁ l₂ l₃ l₄ l₅ l₆ : List ℕ} {a b c d e f g : ℕ} → Put l₀ a (decimal_of n) l₁ b → Put l₁ b space l₂ c
-    → Put l₂ c (decimal_of sweeps) l₃ d → Put l₃ d space l₄ e → Put l₄ e (decimal_of ticks) l₅ f → Put l₅ f newline l₆ g → Put l₀ a (head_of n sweeps ticks) l₆ g
+    → Put l₂ c (decimal_of sweeps) l₃ d → Put l₃ d space l₄ e → Put l₄ e (decimal_of ticks) l₅ f
+    → Put l₅ f newline l₆ g → Put l₀ a (head_of n sweeps ticks) l₆ g
 unfolding head_of
 head_put n sweeps ticks p q r s t u = put_then p (put_then q (put_then r (put_then s (put_then t u))))
 

@@ -73,7 +73,8 @@ module _ (b : List ℕ) where
   first_kept = go (ltb (get_or b 0 0) long_form) refl
     where
       go : (x : Bool) → ltb (get_or b 0 0) long_form ≡ x
-          → cond (eqb (cond x 1 2) 2) (cond x (get_or b 0 0) (get_or b 0 0 - long_form) + long_form) (cond x (get_or b 0 0) (get_or b 0 0 - long_form)) ≡ get_or b 0 0
+          → cond (eqb (cond x 1 2) 2) (cond x (get_or b 0 0) (get_or b 0 0 - long_form) + long_form) (cond x (get_or b 0 0) (get_or b 0 0 - long_form))
+          ≡ get_or b 0 0
       go true z = refl
       go false z = let h : long_form ≤ get_or b 0 0 = ltb-false _ _ z in omega arith
 

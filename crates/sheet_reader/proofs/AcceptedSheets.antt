@@ -62,7 +62,8 @@ module _ (b : List ℕ) (lc lm : ℕ) (r : Readable b lc lm) where
 
   stored_finite_lem : (i j : ℕ) → 1 ≤ j → j ≤ i → i ≤ n → finite (of_bits binary64 (pattern_in b i j)) ≡ true
   stored_finite_lem i j h k o =
-      test (each_given (not_finite_in b i) i (each_given (λ r. first r (not_finite_in b r)) n (unfold stored_row in r.entries_good) i (omega arith, o)) j (h, k))
+      test (each_given (not_finite_in b i) i (each_given (λ r. first r (not_finite_in b r)) n
+      (unfold stored_row in r.entries_good) i (omega arith, o)) j (h, k))
     where
       test : not_finite_in b i j ≡ given tt → finite (of_bits binary64 (pattern_in b i j)) ≡ true
       test e = unfold not_finite_in in (of_test (finite (of_bits binary64 (pattern_in b i j))) (refused_by (NotFinite i j)) (λ z. refused_given z) e)

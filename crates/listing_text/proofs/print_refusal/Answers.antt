@@ -4,7 +4,6 @@ use lib.ListN.{length}
 use Rattle.text.specs.Text.{decimal_of}
 use Rattle.text.proofs.Decimals.{at_most_four}
 use Rattle.listing_text.proofs.Pieces.{refusal_not_printed, refusal_printed_lem}
-use borrow.Author.Rules.{rules}
 use Rattle.listing_text.proofs.print_refusal.Goals as goal
 use Rattle.listing_text.proofs.print_refusal.Goals.{After-number}
 
@@ -16,11 +15,11 @@ pub returns-then-out-lt13 : goal.returns-then-out-lt13
 returns-then-out-lt13 c = refusal_not_printed _ _ (omega arith)
 
 pub put_decimal-number-requires : goal.put_decimal-number-requires
-put_decimal-number-requires c = omega (arith, number-few c.before)
+put_decimal-number-requires c = omega (arith, number-few (goal.at.put_decimal-number-requires c).After-number)
 
 pub put-requires : goal.put-requires
-put-requires c = omega (arith, number-few c.before.before.before.before.before)
+put-requires c = omega (arith, number-few (goal.at.put-requires c).After-number)
 
 pub returns : goal.returns
 returns c =
-    refusal_printed_lem _ _ (omega arith) c.number.ensures c.put_word-word.ensures.0 c.put_decimal-number.ensures c.put.ensures
+    refusal_printed_lem _ _ (omega arith) c.number.ensures c.put_word-word.ensures.put c.put_decimal-number.ensures c.put.ensures

@@ -1,17 +1,8 @@
-use Prim.Native.Nat.{◌+◌, ◌-◌, ◌*◌, ◌≤◌}
 use mathlib.Core.Path.{◌≡◌, ◌∙◌}
 use native.Mathlib.Omega.{arith}
-use lib.ListN.{length}
-use Rattle.matrix.specs.Matrix.{at}
-use Rattle.text.specs.Text.{Put}
-use Rattle.listing_text.specs.Printed.{text_lines_of, text_line_room}
 use Rattle.listing_text.proofs.Pieces.{text_lines_none, text_lines_next}
 use Rattle.listing_text.proofs.Room.{text_line_more, text_line_fits}
 use Rattle.listing_text.proofs.put_text_lines.Goals as goal
-use Rattle.listing_text.proofs.put_text_lines.Goals.{At-loop-k, Start}
-
-abbrev at_start : At-loop-k → Start
-at_start c = c.before.before.before.before.before
 
 pub loop-k-init : goal.loop-k-init
 loop-k-init c = (omega arith, omega arith, omega arith, text_lines_none _ _ _ _ _ _)
@@ -23,12 +14,12 @@ pub loop-k-preserved : goal.loop-k-preserved
 loop-k-preserved c =
     let inv = c.loop-k.invariant in (
       omega arith,
-      omega (arith, c.put_text_line-end.ensures.1, text_line_more c.loop-k.k (at_start c.before.before.before.before.before.before).args.n),
-      c.put_text_line-end.ensures.0.as_long ∙ inv.2,
-      text_lines_next _ _ _ _ _ inv.3 c.put_text_line-end.ensures.0,
+      omega (arith, c.put_text_line-end.ensures.upper_bound, text_line_more c.loop-k.k c.args.n),
+      c.put_text_line-end.ensures.put.as_long ∙ inv.2,
+      text_lines_next _ _ _ _ _ inv.3 c.put_text_line-end.ensures.put,
     )
 
 pub returns : goal.returns
 returns c =
-    let z : c.loop-k.k ≡ (at_start c.before).args.n = omega arith in
+    let z : c.loop-k.k ≡ c.args.n = omega arith in
     rw z at c.loop-k.invariant.3

@@ -1,12 +1,9 @@
 use Prim.Native.Nat.{◌+◌, ◌-◌, ◌*◌, ◌≤◌}
-use mathlib.Core.Path.{◌≡◌, ◌∙◌}
-use native.Mathlib.Omega.{arith}
+use mathlib.Core.Path.{◌≡◌}
 use lib.ListN.{length}
 use Rattle.matrix.specs.Matrix.{at}
 use Rattle.text.specs.Text.{Put}
 use Rattle.listing_text.specs.Printed.{text_lines_of, text_line_room}
-use Rattle.listing_text.proofs.Pieces.{text_lines_none, text_lines_next}
-use Rattle.listing_text.proofs.Room.{text_line_more, text_line_fits}
 use Rattle.listing_text.proofs.put_text_lines.Given as goal
 
 -- The first k text lines are put, within k times the room of one, and the bytes keep their length. What falls is the number of them left.

@@ -1,5 +1,4 @@
 use native.Mathlib.Omega.{arith}
-use borrow.Author.Rules.{rules}
 use Rattle.listing_text.proofs.Room.{text_lines_fit}
 use Rattle.listing_text.proofs.room_for.Goals as goal
 

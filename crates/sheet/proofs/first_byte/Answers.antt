@@ -1,5 +1,4 @@
 use native.Mathlib.Omega.{arith}
-use borrow.Author.Rules.{rules}
 use Rattle.sheet.proofs.Forms.{first_long, first_short}
 use Rattle.sheet.proofs.first_byte.Goals as goal
 

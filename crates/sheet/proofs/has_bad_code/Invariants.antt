@@ -1,12 +1,9 @@
-use Prim.Native.Nat.{◌-◌, ◌≤◌}
-use mathlib.Core.Path.{◌≡◌, sym, ◌∙◌}
+use Prim.Native.Nat.{◌≤◌}
+use mathlib.Core.Path.{◌≡◌}
 use mathlib.Core.Bool.{false}
-use native.Mathlib.Omega.{arith}
 use lib.ListN.{length}
 use Rattle.lists.specs.Bounded.{any}
-use Rattle.lists.proofs.Bounded.{any_none, any_more}
 use Rattle.sheet.specs.Codes.{bad_code}
-use Rattle.sheet.proofs.BadCodes.{one_bad, none_bad}
 use Rattle.sheet.proofs.has_bad_code.Given as goal
 
 -- None of the first k codes is bad; the other codes are left.

@@ -1,11 +1,8 @@
-use Prim.Native.Nat.{◌-◌, ◌≤◌}
+use Prim.Native.Nat.{◌≤◌}
 use mathlib.Core.Path.{◌≡◌}
 use mathlib.Core.Bool.{false}
-use native.Mathlib.Omega.{arith}
-use borrow.Author.Tests.{le-ltb}
 use lib.ListN.{length}
-use Rattle.lists.proofs.Bounded.{any_none, any_more}
-use Rattle.sheet.proofs.BadCodes.{long_before, one_long, none_long}
+use Rattle.sheet.proofs.BadCodes.{long_before}
 use Rattle.sheet.proofs.has_long_code.Given as goal
 
 -- None of the first k codes is above 255; the other codes are left.

@@ -1,10 +1,7 @@
-use Prim.Native.Nat.{◌-◌, ◌≤◌}
-use mathlib.Core.Path.{◌≡◌}
-use mathlib.Core.Bool.{false}
 use native.Mathlib.Omega.{arith}
 use borrow.Author.Tests.{ne_eqb}
 use Rattle.lists.proofs.Bounded.{any_none, any_more}
-use Rattle.sheet.proofs.BadCodes.{used_before, code_zero, code_used, code_new}
+use Rattle.sheet.proofs.BadCodes.{code_zero, code_used, code_new}
 use Rattle.sheet.proofs.is_bad.Goals as goal
 
 pub returns-then-code-eq0 : goal.returns-then-code-eq0

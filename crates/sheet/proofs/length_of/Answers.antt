@@ -1,4 +1,3 @@
-use borrow.Author.Rules.{rules}
 use native.Mathlib.Omega.{arith}
 use Rattle.sheet.proofs.Triangle.{few_entries, few_codes}
 use Rattle.sheet.proofs.length_of.Goals as goal

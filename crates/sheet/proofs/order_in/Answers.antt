@@ -1,4 +1,3 @@
-use borrow.Author.Rules.{rules}
 use native.Mathlib.Omega.{arith}
 use Rattle.sheet.proofs.Forms.{order_none, order_short, order_long}
 use Rattle.sheet.proofs.order_in.Goals as goal

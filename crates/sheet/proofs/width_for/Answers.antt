@@ -1,4 +1,3 @@
-use borrow.Author.Rules.{rules}
 use mathlib.Core.Path.{sym, ◌∙◌}
 use Rattle.sheet.proofs.Forms.{width_two, width_one}
 use Rattle.sheet.proofs.width_for.Goals as goal

@@ -1,4 +1,3 @@
-use borrow.Author.Rules.{rules}
 use native.Mathlib.Omega.{arith}
 use Rattle.sheet.proofs.Forms.{width_none, width_short, width_long}
 use Rattle.sheet.proofs.width_in.Goals as goal

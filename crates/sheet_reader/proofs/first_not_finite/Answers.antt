@@ -1,40 +1,32 @@
 use borrow.Author.Rules.{rules}
-use Prim.Native.Nat.{◌+◌, ◌-◌, ◌*◌, ◌≤◌}
+use Prim.Native.Nat.{◌+◌, ◌*◌, ◌≤◌}
 use mathlib.Core.Path.{◌≡◌, refl, ap, ◌∙◌}
 use native.Mathlib.Omega.{arith}
-use borrow.Author.Tests.{not-true, not-false}
 use lib.ListN.{length}
 use lib.Ieee.{binary64, of_bits}
 use Rattle.float64.specs.Values.{finite}
-use Rattle.refusal.specs.Answers.{given, answered, first}
-use Rattle.refusal.specs.declared.Answer.TheVariants.{Accepted}
+use Rattle.refusal.specs.Answers.{answered}
 use Rattle.refusal.proofs.FirstRefusal.{first_none, first_more}
 use Rattle.sheet.specs.Format.{entries_from, entries_to, pattern_in}
 use Rattle.sheet.proofs.Triangle.{offset_start, offset_row, entry_within}
-use Rattle.sheet_reader.specs.Reader.{not_finite_in}
 use Rattle.sheet_reader.proofs.SheetContents.{pattern_read, tested_as, is_finite, none_found, one_found}
 use Rattle.sheet_reader.proofs.first_not_finite.Goals as goal
-use Rattle.sheet_reader.proofs.first_not_finite.Goals.{After-is_finite_pattern, In-loop-j, Start}
-
-abbrev at_start : In-loop-j → Start
-at_start c = c.before.before.before.before.before
+use Rattle.sheet_reader.proofs.first_not_finite.Goals.{After-is_finite_pattern, In-loop-j}
 
 -- where this entry begins
-offset-is : (c : In-loop-j) → let at_rows = c.before.before.before in let a = (at_start c).args in
-    c.loop-j.offset ≡ entries_from a.width a.n + 8 * (entries_to at_rows.rows.i + c.loop-j.j)
-offset-is c = let at_rows = c.before.before.before in omega (arith, c.loop-j.invariant.2, at_rows.rows.invariant.2)
+offset_is : (c : In-loop-j) → let a = c.args in
+    c.loop-j.offset ≡ entries_from a.width a.n + 8 * (entries_to c.rows.i + c.loop-j.j)
+offset_is c = omega (arith, c.loop-j.invariant.2, c.rows.invariant.2)
 
 -- there is room for it
-room : (c : In-loop-j) → c.loop-j.offset + 8 ≤ length (at_start c).args.sheet.now
-room c = let w = entry_within _ _ _ _ (omega arith) c.rows-test.true (offset-is c) in omega (arith, w, (at_start c).requires.3)
+room : (c : In-loop-j) → c.loop-j.offset + 8 ≤ length c.args.sheet.now
+room c = let w = entry_within _ _ _ _ (omega arith) c.rows-test.true (offset_is c) in omega (arith, w, c.requires.3)
 
 -- the test of this entry
-tested : (c : After-is_finite_pattern) → let in-loop = c.before.before in let at_rows = in-loop.before.before.before in
-    let pattern = pattern_in (at_start in-loop).args.sheet.now (at_rows.rows.i + 1) (in-loop.before.loop.j + 1) in
+tested : (c : After-is_finite_pattern) → let pattern = pattern_in c.args.sheet.now (c.rows.i + 1) (c.loop-j.j + 1) in
     finite (of_bits binary64 pattern) ≡ c.is_finite_pattern.result
 tested c =
-    let in-loop = c.before.before in
-    tested_as _ _ _ (pattern_read _ _ _ (at_start in-loop).requires (offset-is in-loop) c.word_at.ensures) c.is_finite_pattern.ensures
+    tested_as _ _ _ (pattern_read _ _ _ c.requires (omega (arith, c.loop-j.invariant.2, c.rows.invariant.2)) c.word_at.ensures) c.is_finite_pattern.ensures
 
 pub overflow_mul-offset : goal.overflow_mul-offset
 overflow_mul-offset c = omega (arith, c.requires.3)
@@ -52,11 +44,16 @@ pub word_at-requires : goal.word_at-requires
 word_at-requires c = room c
 
 pub overflow_add-offset-in-loop-j : goal.overflow_add-offset-in-loop-j
-overflow_add-offset-in-loop-j c = omega (arith, room c.before.before.before)
+overflow_add-offset-in-loop-j c = omega (arith, room (goal.at.overflow_add-offset-in-loop-j c).In-loop-j)
 
 pub loop-j-preserved : goal.loop-j-preserved
-loop-j-preserved c =
-    (omega arith, search rules, omega arith, first_more _ _ c.loop-j.invariant.3 (is_finite _ _ _ (tested c.before ∙ c.if-not-is_finite_pattern.false)))
+loop-j-preserved c = (
+  omega arith,
+  search rules,
+  omega arith,
+  first_more _ _ c.loop-j.invariant.3
+      (is_finite _ _ _ (tested (goal.at.loop-j-preserved c).After-is_finite_pattern ∙ c.if-not-is_finite_pattern.false)),
+)
 
 pub rows-preserved : goal.rows-preserved
 rows-preserved c =
@@ -76,4 +73,4 @@ pub returns-then-not-is_finite_pattern : goal.returns-then-not-is_finite_pattern
 returns-then-not-is_finite_pattern c =
     let in_order = rw c.requires.1 at c.rows-test.true in
     one_found _ _ _ in_order c.rows.invariant.3 c.loop-j-test.true c.loop-j.invariant.3
-    (tested c.before ∙ c.if-not-is_finite_pattern.true)
+    (tested (goal.at.returns-then-not-is_finite_pattern c).After-is_finite_pattern ∙ c.if-not-is_finite_pattern.true)

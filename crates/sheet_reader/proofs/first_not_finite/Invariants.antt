@@ -1,18 +1,9 @@
-use borrow.Author.Rules.{rules}
 use Prim.Native.Nat.{◌+◌, ◌-◌, ◌*◌, ◌≤◌}
-use mathlib.Core.Path.{◌≡◌, refl, ap, ◌∙◌}
-use native.Mathlib.Omega.{arith}
-use borrow.Author.Tests.{not-true, not-false}
-use lib.ListN.{length}
-use lib.Ieee.{binary64, of_bits}
-use Rattle.float64.specs.Values.{finite}
-use Rattle.refusal.specs.Answers.{given, answered, first}
+use mathlib.Core.Path.{◌≡◌}
+use Rattle.refusal.specs.Answers.{given, first}
 use Rattle.refusal.specs.declared.Answer.TheVariants.{Accepted}
-use Rattle.refusal.proofs.FirstRefusal.{first_none, first_more}
-use Rattle.sheet.specs.Format.{entries_from, entries_to, pattern_in}
-use Rattle.sheet.proofs.Triangle.{offset_start, offset_row, entry_within}
+use Rattle.sheet.specs.Format.{entries_from, entries_to}
 use Rattle.sheet_reader.specs.Reader.{not_finite_in}
-use Rattle.sheet_reader.proofs.SheetContents.{pattern_read, tested_as, is_finite, none_found, one_found}
 use Rattle.sheet_reader.proofs.first_not_finite.Given as goal
 
 -- In the inner loop the first j entries of row i + 1 are finite and i + 1 - j are left, in the outer loop those of the first i rows are and
@@ -23,7 +14,8 @@ invariant-loop-j l =
 
 abbrev pub invariant-rows : goal.invariant-rows
 invariant-rows l =
-    (l.i ≤ l.n) × (l.found ≡ Accepted) × (l.offset ≡ entries_from l.width l.n + 8 * entries_to l.i) × (first l.i (λ r. first r (not_finite_in l.sheet r)) ≡ given tt)
+    (l.i ≤ l.n) × (l.found ≡ Accepted) × (l.offset ≡ entries_from l.width l.n + 8 * entries_to l.i)
+    × (first l.i (λ r. first r (not_finite_in l.sheet r)) ≡ given tt)
 
 abbrev pub decreases-rows : goal.decreases-rows
 decreases-rows l = l.n - l.i

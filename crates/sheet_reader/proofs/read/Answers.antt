@@ -1,7 +1,6 @@
 use mathlib.Core.Path.{sym, ap, ◌∙◌}
 use Rattle.refusal.specs.Answers.{answered}
 use Rattle.sheet_reader.proofs.SheetContents.{read_refused, read_accepted_as}
-use borrow.Author.Rules.{rules}
 use Rattle.sheet_reader.proofs.read.Goals as goal
 
 pub read_accepted-requires : goal.read_accepted-requires

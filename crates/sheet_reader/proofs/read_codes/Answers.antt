@@ -1,7 +1,5 @@
-use Prim.Native.Nat.{◌-◌, ◌≤◌}
 use native.Mathlib.Omega.{arith}
-use Rattle.lists.proofs.Filled.{Filled, filled_none, filled_next}
-use Rattle.sheet.specs.Format.{code_in}
+use Rattle.lists.proofs.Filled.{filled_none, filled_next}
 use Rattle.sheet.proofs.Forms.{width_fits}
 use Rattle.sheet.proofs.Triangle.{code_ends}
 use Rattle.sheet_reader.proofs.SheetContents.{codes_read}

@@ -1,10 +1,6 @@
 use Prim.Native.Nat.{◌-◌, ◌≤◌}
-use native.Mathlib.Omega.{arith}
-use Rattle.lists.proofs.Filled.{Filled, filled_none, filled_next}
+use Rattle.lists.proofs.Filled.{Filled}
 use Rattle.sheet.specs.Format.{code_in}
-use Rattle.sheet.proofs.Forms.{width_fits}
-use Rattle.sheet.proofs.Triangle.{code_ends}
-use Rattle.sheet_reader.proofs.SheetContents.{codes_read}
 use Rattle.sheet_reader.proofs.read_codes.Given as goal
 
 -- The first k codes are those of the sheet; n - k are left.

@@ -1,14 +1,7 @@
-use borrow.Author.Rules.{rules}
-use Prim.Native.Nat.{◌+◌, ◌-◌, ◌*◌, ◌<◌, ◌≤◌}
-use mathlib.Core.Path.{◌≡◌, ◌∙◌}
-use native.Mathlib.Omega.{arith}
-use lib.Arith.{digits_lt}
-use lib.ListN.{length, length-set}
-use Rattle.sizes.specs.Sizes.{largest_order}
+use Prim.Native.Nat.{◌+◌, ◌-◌, ◌*◌, ◌≤◌}
+use mathlib.Core.Path.{◌≡◌}
 use Rattle.sheet.specs.Format.{entries_from, entries_to, entry_in}
-use Rattle.sheet.proofs.Triangle.{few_entries, row_more, offset_start, offset_row, entry_within}
-use Rattle.sheet_reader.proofs.MirroredEntries.{Stored, stored_none, stored_next, stored_all}
-use Rattle.sheet_reader.proofs.SheetContents.{pattern_read, up_to_diagonal, mirror_read}
+use Rattle.sheet_reader.proofs.MirroredEntries.{Stored}
 use Rattle.sheet_reader.proofs.read_entries.Given as goal
 
 -- In the inner loop the first j entries of row i + 1 stand in both their places and i + 1 - j are left, in the outer loop those of the first i

@@ -1,4 +1,3 @@
-use borrow.Author.Rules.{rules}
 use Prim.Native.Nat.{◌≤◌}
 use mathlib.Core.Path.{◌≡◌, sym, ap, ◌∙◌}
 use mathlib.Core.Bool.{true}
@@ -12,28 +11,19 @@ use Rattle.sheet.proofs.Forms.{width_fits}
 use Rattle.sheet_reader.specs.Reader.{OfForm}
 use Rattle.sheet_reader.proofs.Tables.{head_short, sizes_refused, codes_length, matrix_length, sheet_length_lem, read_4, read_5}
 use Rattle.sheet_reader.proofs.verdict.Goals as goal
-use Rattle.sheet_reader.proofs.verdict.Goals.{After-order_in-n, After-width_in-width, Else-sheet-length_of, In-Accepted}
-
-abbrev at-found : In-Accepted → After-order_in-n
-at-found c = c.before.before.before.before
+use Rattle.sheet_reader.proofs.verdict.Goals.{Else-sheet-length_of, In-Accepted}
 
 -- past the test of the sizes
-sized : (c : In-Accepted) → let found = at-found c in
-    (is_order found.order_in.result ≡ true) × (sweeps_in found.before.before.before.args.sheet.now ≤ most_sweeps)
+sized : (c : In-Accepted) → (is_order c.order_in-n.result ≡ true) × (sweeps_in c.args.sheet.now ≤ most_sweeps)
 sized c = sizes_given _ _ (sym (ap answered (sym c.in-Accepted.is) ∙ c.tested.ensures))
 
-small : (c : In-Accepted) → (at-found c).order_in.result ≤ largest_order
+small : (c : In-Accepted) → c.order_in-n.result ≤ largest_order
 small c = (order_is _ (sized c).0).1
 
--- what is known of the sheet past the test of its length
-abbrev at-sizes : After-width_in-width → In-Accepted
-at-sizes c = c.before.before.before
-
-form : (c : Else-sheet-length_of) → let width = c.before.before in let found = at-found (at-sizes width) in
-    OfForm width.width-in.result found.order_in.result found.before.before.before.args.sheet.now
+form : (c : Else-sheet-length_of) → OfForm c.width_in-width.result c.order_in-n.result c.args.sheet.now
 form c =
-    let width = c.before.before in
-    (width.width-in.ensures, (at-found (at-sizes width)).order_in.ensures, small (at-sizes width), c.if-sheet-length_of.false ∙ c.length_of.ensures)
+    let s = sizes_given _ _ (sym (ap answered (sym c.in-Accepted.is) ∙ c.tested.ensures)) in
+    (c.width_in-width.ensures, c.order_in-n.ensures, (order_is _ s.0).1, c.if-sheet-length_of.false ∙ c.length_of.ensures)
 
 pub returns-then-sheet-lt2 : goal.returns-then-sheet-lt2
 returns-then-sheet-lt2 c = head_short _ _ _ (omega arith)
@@ -47,26 +37,26 @@ returns-in-Refused c =
 
 pub returns-then-codes-n : goal.returns-then-codes-n
 returns-then-codes-n c =
-    let s = sized c.before in
-    codes_length _ _ _ (omega arith) (at-found c.before).order_in.ensures s.0 s.1 c.if-codes-n.true
+    let s = sized (goal.at.returns-then-codes-n c).In-Accepted in
+    codes_length _ _ _ (omega arith) c.order_in-n.ensures s.0 s.1 c.if-codes-n.true
 
 pub overflow_mul-n : goal.overflow_mul-n
-overflow_mul-n c = omega (arith, (few_entries _ (small c.before)).0)
+overflow_mul-n c = omega (arith, (few_entries _ (small (goal.at.overflow_mul-n c).In-Accepted)).0)
 
 pub returns-then-matrix-n : goal.returns-then-matrix-n
 returns-then-matrix-n c =
-    let s = sized c.before.before in
-    matrix_length _ _ _ (omega arith) (at-found c.before.before).order_in.ensures s.0 s.1 c.if-codes-n.false c.if-matrix-n.true
+    let s = sized (goal.at.returns-then-matrix-n c).In-Accepted in
+    matrix_length _ _ _ (omega arith) c.order_in-n.ensures s.0 s.1 c.if-codes-n.false c.if-matrix-n.true
 
 pub length_of-requires : goal.length_of-requires
 length_of-requires c =
-    let width = width_fits (at-found (at-sizes c)).before.before.before.args.sheet.now in
-    (omega (arith, c.width_in-width.ensures, width.1), small (at-sizes c))
+    let width = width_fits c.args.sheet.now in
+    (omega (arith, c.width_in-width.ensures, width.1), small (goal.at.length_of-requires c).In-Accepted)
 
 pub returns-then-sheet-length_of : goal.returns-then-sheet-length_of
 returns-then-sheet-length_of c =
-    let s = sized (at-sizes c.before.before) in
-    sheet_length_lem _ _ _ (omega arith) (at-found (at-sizes c.before.before)).order_in.ensures s.0 s.1 c.if-codes-n.false c.if-matrix-n.false
+    let s = sized (goal.at.returns-then-sheet-length_of c).In-Accepted in
+    sheet_length_lem _ _ _ (omega arith) c.order_in-n.ensures s.0 s.1 c.if-codes-n.false c.if-matrix-n.false
     c.width_in-width.ensures (λ e. c.if-sheet-length_of.true (e ∙ sym c.length_of.ensures))
 
 pub has_refused_code-requires : goal.has_refused_code-requires
@@ -74,16 +64,16 @@ has_refused_code-requires c = form c
 
 pub returns-then-has_refused_code : goal.returns-then-has_refused_code
 returns-then-has_refused_code c =
-    let s = sized (at-sizes c.before.before.before.before) in
-    read_4 _ _ _ (omega arith) (at-found (at-sizes c.before.before.before.before)).order_in.ensures s.0 s.1 c.if-codes-n.false c.if-matrix-n.false
+    let s = sized (goal.at.returns-then-has_refused_code c).In-Accepted in
+    read_4 _ _ _ (omega arith) c.order_in-n.ensures s.0 s.1 c.if-codes-n.false c.if-matrix-n.false
     c.width_in-width.ensures (c.if-sheet-length_of.false ∙ c.length_of.ensures) (sym c.has_refused_code.ensures ∙ c.if-has_refused_code.true)
 
 pub first_not_finite-requires : goal.first_not_finite-requires
-first_not_finite-requires c = form c.before.before
+first_not_finite-requires c = form (goal.at.first_not_finite-requires c).Else-sheet-length_of
 
 pub returns : goal.returns
 returns c =
-    let s = sized (at-sizes c.before.before.before.before.before) in
-    read_5 _ _ _ (omega arith) (at-found (at-sizes c.before.before.before.before.before)).order_in.ensures s.0 s.1 c.if-codes-n.false c.if-matrix-n.false
+    let s = sized (goal.at.returns c).In-Accepted in
+    read_5 _ _ _ (omega arith) c.order_in-n.ensures s.0 s.1 c.if-codes-n.false c.if-matrix-n.false
     c.width_in-width.ensures (c.if-sheet-length_of.false ∙ c.length_of.ensures) (sym c.has_refused_code.ensures ∙ c.if-has_refused_code.false)
     c.first_not_finite.ensures

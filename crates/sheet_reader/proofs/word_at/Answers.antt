@@ -1,17 +1,9 @@
-use Prim.Native.Nat.{◌+◌, ◌-◌, ◌^◌, ◌<◌, ◌≤◌}
+use Prim.Native.Nat.{◌+◌}
 use mathlib.Core.Path.{◌≡◌}
 use native.Mathlib.Omega.{arith}
 use lib.Dec.{lit<}
-use lib.ListN.{get_or}
-use Rattle.sheet.specs.Format.{word_from}
 use Rattle.sheet.proofs.Words.{word_none, word_next, word_grows, word_room}
 use Rattle.sheet_reader.proofs.word_at.Goals as goal
-use Rattle.sheet_reader.proofs.word_at.Goals.{After-shared_slice_known-1}
-
--- the byte that comes next
-small : (c : After-shared_slice_known-1) → let at-loop = c.before.before in
-    get_or at-loop.before.args.bytes.now (at-loop.before.args.at + at-loop.loop.k) 0 < 256
-small c = let at-loop = c.before.before in omega (arith, c.type_inv.bytes (at-loop.before.args.at + at-loop.loop.k))
 
 pub loop-k-init : goal.loop-k-init
 loop-k-init c = (omega arith, lit< tt, word_none _ _)
@@ -21,15 +13,15 @@ overflow_mul-word c =
     omega (arith, word_room c.loop-k.word c.loop-k.k (omega arith) c.loop-k.invariant.1)
 
 pub overflow_cast-word : goal.overflow_cast-word
-overflow_cast-word c = omega (arith, small c)
+overflow_cast-word c = omega (arith, c.type_inv.bytes (c.args.at + c.loop-k.k))
 
 pub overflow_add-word-in-loop-k : goal.overflow_add-word-in-loop-k
 overflow_add-word-in-loop-k c =
-    omega (arith, small c, word_room c.loop-k.word c.loop-k.k (omega arith) c.loop-k.invariant.1)
+    omega (arith, c.type_inv.bytes (c.args.at + c.loop-k.k), word_room c.loop-k.word c.loop-k.k (omega arith) c.loop-k.invariant.1)
 
 pub loop-k-preserved : goal.loop-k-preserved
 loop-k-preserved c =
-    (omega arith, word_grows _ _ _ c.loop-k.invariant.1 (small c), word_next _ _ _ c.loop-k.invariant.2)
+    (omega arith, word_grows _ _ _ c.loop-k.invariant.1 (omega (arith, c.type_inv.bytes (c.args.at + c.loop-k.k))), word_next _ _ _ c.loop-k.invariant.2)
 
 pub returns : goal.returns
 returns c =

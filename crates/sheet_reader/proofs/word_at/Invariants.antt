@@ -1,10 +1,6 @@
-use Prim.Native.Nat.{◌+◌, ◌-◌, ◌^◌, ◌<◌, ◌≤◌}
+use Prim.Native.Nat.{◌-◌, ◌^◌, ◌<◌, ◌≤◌}
 use mathlib.Core.Path.{◌≡◌}
-use native.Mathlib.Omega.{arith}
-use lib.Dec.{lit<}
-use lib.ListN.{get_or}
 use Rattle.sheet.specs.Format.{word_from}
-use Rattle.sheet.proofs.Words.{word_none, word_next, word_grows, word_room}
 use Rattle.sheet_reader.proofs.word_at.Given as goal
 
 -- The word is that of the first k bytes, and below 256 ^ k; 8 - k bytes are left.

@@ -1,6 +1,5 @@
 use borrow.Author.Tests.{lt-ltb, le-ltb}
 use native.Mathlib.Omega.{arith}
-use borrow.Author.Rules.{rules}
 use Rattle.text.proofs.code.Goals as goal
 
 pub returns-then-digit-lt10 : goal.returns-then-digit-lt10

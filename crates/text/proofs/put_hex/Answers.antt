@@ -1,7 +1,7 @@
-use Prim.Native.Nat.{suc, ◌-◌, ◌≤◌}
+use Prim.Native.Nat.{suc, ◌-◌}
 use mathlib.Core.Path.{◌≡◌, refl}
 use native.Mathlib.Omega.{arith}
-use Rattle.text.proofs.TextPieces.{Digits, digits_none, digits_next, digits_all}
+use Rattle.text.proofs.TextPieces.{digits_none, digits_next, digits_all}
 use Rattle.text.proofs.put_hex.Goals as goal
 
 pub loop-k-init : goal.loop-k-init
@@ -17,4 +17,4 @@ pub returns : goal.returns
 returns c =
     let loop = c.loop-k in
     let z : loop.k ≡ 0 = omega arith in
-    (digits_all _ _ _ _ _ (rw z at loop.invariant.1), refl)
+    record { put = digits_all _ _ _ _ _ (rw z at loop.invariant.1); value = refl }

@@ -1,7 +1,5 @@
-use Prim.Native.Nat.{suc, ◌-◌, ◌≤◌}
-use mathlib.Core.Path.{◌≡◌, refl}
-use native.Mathlib.Omega.{arith}
-use Rattle.text.proofs.TextPieces.{Digits, digits_none, digits_next, digits_all}
+use Prim.Native.Nat.{◌≤◌}
+use Rattle.text.proofs.TextPieces.{Digits}
 use Rattle.text.proofs.put_hex.Given as goal
 
 -- The last 16 - k digits stand in their places, and the rest of the word has the k digits before them. What falls is k.

@@ -4,7 +4,6 @@ use Prim.Native.Nat.{ℕ}
 use native.Mathlib.Omega.{arith}
 use lib.ListN.{length}
 use Rattle.text.proofs.TextPieces.{put_none, put_as, shown_not, shown}
-use borrow.Author.Rules.{rules}
 use Rattle.text.proofs.put_shown.Goals as goal
 
 pub returns-then-n-unit : goal.returns-then-n-unit
