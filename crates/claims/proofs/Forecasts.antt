@@ -41,7 +41,7 @@ use Rattle.claims.specs.Forecasts.{RunsCounted, TicksOfWholeRun, Forecasted, For
 
 figures_computed : FiguresComputed
 unfolding forecast_of figures_of sizes_answer is_order
-figures_computed = record { two_lines = refl; eight_lines = refl; seven_lines = refl; three_lines = refl; thirty_two_lines = refl }
+figures_computed = record { two_lines_lem = refl; eight_lines = refl; seven_lines = refl; three_lines = refl; thirty_two_lines = refl }
 
 -- ---- what crosses the wires
 ticks_cross : TicksCross

@@ -94,7 +94,7 @@ accepted a =
             matrix_agrees = λ z. (e.finite_agrees z).matrix_agrees;
             vectors_agree = λ z. (e.finite_agrees z).vectors_agree;
             none_marked = λ z. (e.finite_agrees z).none_marked;
-            some_marked = e.spoiled_marked;
+            some_marked_lem = e.spoiled_marked;
           };
     }
 

@@ -64,9 +64,9 @@ left_as_written b d l c k n s count small small' o e =
     let accepted = (joint.joins b d l count o).0 in
     let x = reads (joint.joint_sheet b d) c k n s (rw (joint.joint_left b d l count o) at e) in
     let lent = readable _ _ _ x.0 in
-    let order = joint.joint_order b d small small' (length l) accepted in
+    let order = joint.joint_order_lem b d small small' (length l) accepted in
     let r = joint.joint_read b d small small' (length l) accepted c k (lent.codes_long ∙ order) (lent.matrix_long ∙ rw order) in
-    rw (joint.joint_left b d l count o, r, ← x.2, ← x.3, order, joint.joint_sweeps b d small small' (length l) accepted)
+    rw (joint.joint_left b d l count o, r, ← x.2, ← x.3, order, joint.joint_sweeps_lem b d small small' (length l) accepted)
     (joint.join_as_writing b d l count small small' o)
 
 form_as_demanded : FormAsDemanded

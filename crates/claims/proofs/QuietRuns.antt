@@ -131,7 +131,7 @@ at_the_end n sweeps l r v s rs reported fit h e =
     rw started
     (record {
       has_stopped = final_stopped n sweeps l b.order b.few long;
-      sweeps_made = ap (λ (d : WholeReport). d.report.sweeps) w.0;
+      sweeps_made_lem = ap (λ (d : WholeReport). d.report.sweeps) w.0;
       rounded_counted =
           ap (λ (d : WholeReport). d.report.rounded) w.0
           ∙ ap (λ (k : ℕ). rounded_pairs (processors_of k) x.tiles) order

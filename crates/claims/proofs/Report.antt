@@ -20,7 +20,7 @@ as_the_report =
             sign_of_zero = rotation.sign_of_zero;
             sign_above = rotation.sign_above;
             not_a_number = rotation.not_a_number;
-            nan_bits = bits_of_nan;
+            nan_bits_lem = bits_of_nan;
           };
       pairing_is_the_reports = moved;
     }

@@ -25,4 +25,4 @@ rounded x f t h =
 
 pub root_rounds : RootRoundsCorrectly
 unfolding sqrt_of exact_root of_bits
-root_rounds = record { plus_zero = refl; minus_zero = refl; infinity = refl; above_zero = rounded }
+root_rounds = record { plus_zero_lem = refl; minus_zero_lem = refl; infinity = refl; above_zero = rounded }

@@ -83,7 +83,7 @@ module _ (n last K T : ℕ) (A : ℕ → ℕ → OneTile) (i j : ℕ) where
   cells_ticked : CellsTicked n K T i j (A i j) new brought h v
   cells_ticked =
       record {
-        rotates = λ k l e. ticks.cells_rotated (operations s) last K T A i j k l e ∙ turned k _;
+        rotates = λ k l e. ticks.cells_rotated_lem (operations s) last K T A i j k l e ∙ turned k _;
         reads_last = ticks.cells_read_last (operations s) last K T A i j;
         else_stays = λ f. ticks.cells_kept (operations s) last K T A i j (λ k z. f k);
         no_step_stays = λ e. ticks.cells_kept (operations s) last K T A i j (λ k z. absurd (omega arith));

@@ -42,7 +42,7 @@ pub record FiguresAre (n sweeps : ℕ) (f : Figures) : Type 0 where
 
 -- Computed: n = 2, S = 0 and n = 8, S = 1, for which document 01 has the ticks, two odd orders, and n = 32, S = 16.
 pub record FiguresComputed : Type 0 where
-  pub two_lines : forecast_of 2 0 ≡ given (record { ticks = 1; values = 0; parameters = 0 })
+  pub two_lines_lem : forecast_of 2 0 ≡ given (record { ticks = 1; values = 0; parameters = 0 })
   pub eight_lines : forecast_of 8 1 ≡ given (record { ticks = 25; values = 896; parameters = 168 })
   pub seven_lines : forecast_of 7 1 ≡ given (record { ticks = 25; values = 896; parameters = 168 })
   pub three_lines : forecast_of 3 1 ≡ given (record { ticks = 11; values = 96; parameters = 12 })

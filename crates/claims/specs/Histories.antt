@@ -106,7 +106,7 @@ pub record AllMade (n sweeps : ℕ) (l : List Float) (x : Array) : Type 0 where
       → (r c : ℕ) → (1 ≤ r) × (r ≤ n) → (1 ≤ c) × (c ≤ n)
       → vectors_in n x.tiles r c ≡ (after n (steps_of n sweeps) (start_of n l)).vectors r c
   pub none_marked : spoiled n (steps_of n sweeps) (start_of n l) ≡ false → some_marked (processors_of n) x.tiles ≡ false
-  pub some_marked : spoiled n (steps_of n sweeps) (start_of n l) ≡ true → some_marked (processors_of n) x.tiles ≡ true
+  pub some_marked_lem : spoiled n (steps_of n sweeps) (start_of n l) ≡ true → some_marked (processors_of n) x.tiles ≡ true
 
 -- After an accepted start the first 3 K + N ticks are made and the rest are stopped.
 pub record AcceptedStart (n sweeps : ℕ) (l : List Float) (s : Started) (rs : List Ticked) : Type 0 where

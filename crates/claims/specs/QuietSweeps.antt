@@ -113,7 +113,7 @@ pub record AdvanceIs (x : Array) (r : Ticked) : Type 0 where
 -- `advanced_by k` makes k of them.
 pub record AtTheEnd (n : ℕ) (x : Array) (reported : WholeReport) (result vectors : List Float) : Type 0 where
   pub has_stopped : progress_of x.n x.sweeps x.tick ≡ given stopped
-  pub sweeps_made : reported.report.sweeps ≡ x.sweeps
+  pub sweeps_made_lem : reported.report.sweeps ≡ x.sweeps
   pub rounded_counted : reported.report.rounded ≡ total (processors_of n) (λ i. (tile_in x i i).kept.rounded)
   pub ticks_made : reported.ticks ≡ x.tick
   pub result_is : result ≡ flat n (matrix_in n x.tiles)

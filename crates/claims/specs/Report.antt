@@ -45,8 +45,8 @@ pub record CorrectlyRounded (x r : Float) : Type 0 where
 
 -- The zeros and +infinity give themselves, exactly; every other f64 that has a root gives the correctly rounded one.
 pub record RootRoundsCorrectly : Type 0 where
-  pub plus_zero : GivesItself plus_zero
-  pub minus_zero : GivesItself minus_zero
+  pub plus_zero_lem : GivesItself plus_zero
+  pub minus_zero_lem : GivesItself minus_zero
   pub infinity : GivesItself (inf false)
   pub above_zero : (x : Float) → T (finite x) → T (fits binary64 x) → lt plus_zero x ≡ true
       → (r : Float) × CorrectlyRounded x r
@@ -122,7 +122,7 @@ pub record RotationIsTheReports : Type 0 where
   pub not_a_number : (a d b : Float) → is_zero b ≡ false
       → div binary64 (sub binary64 (div binary64 d two) (div binary64 a two)) b ≡ nan
       → of_pair a d b ≡ Turn nan nan nan
-  pub nan_bits : to_bits binary64 nan ≡ 0x7ff8_0000_0000_0000
+  pub nan_bits_lem : to_bits binary64 nan ≡ 0x7ff8_0000_0000_0000
 
 -- ---- pairs
 -- The line in the left and in the right register of processor k, from 1, in a list.

@@ -1,10 +1,8 @@
 -- Document 01, "The printed sheet": how much the program reads, and what it prints. Definitions only.
-use Rattle.std.specs.Prelude.{ℕ, ◌≤◌, List}
+use Rattle.std.specs.Prelude.{◌≡◌, ℕ, ◌≤◌, List, length, take, IfOk, Result}
 use Rattle.refusal.specs.Answers.{Answered, given, refused}
 use Rattle.listing_text.specs.Printed.{Printing, printing, refusal_of}
 use Rattle.listing.specs.Listing.{ListingOutcome, list_of}
-use Rattle.list_sheet.specs.declared.Input.{Input}
-use Rattle.list_sheet.specs.declared.Input.TheVariants.{Read, Failed}
 
 abbrev pub prints_by : Answered Unit → ListingOutcome → Printing
 prints_by (given x) o = printing o.count o.bytes
@@ -14,7 +12,10 @@ prints_by (refused k values) o = refusal_of k o.bytes
 unfoldable pub prints_of : List ℕ → List ℕ → Printing
 prints_of b t = let o = list_of b t in prints_by o.answer o
 
+-- There are n first bytes.
+abbrev pub IsPrefixLen : ℕ → List ℕ → Type 0
+IsPrefixLen n bytes = (n ≤ length bytes) × (n ≡ length (take n bytes))
+
 -- No more bytes are read than there is room for.
-abbrev pub ReadWithin : ℕ → Input → Type 0
-ReadWithin most (Read bytes) = bytes ≤ most
-ReadWithin most Failed = Unit {0}
+abbrev pub ReadWithin : {E : Type 0} → ℕ → Result ℕ E → Type 0
+ReadWithin most r = IfOk r (λ bytes. bytes ≤ most)

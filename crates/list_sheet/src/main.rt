@@ -1,13 +1,13 @@
 #![tactic(auto)]
-// Reads a sheet on standard input, runs the array, and prints it (document 01, "The printed sheet"). A program can set no exit status: where a
-// read or a write fails, a line on standard error says so, and after a failed read nothing is printed.
+// Reads a sheet on standard input, runs the array, and prints it (document 01, "The printed sheet"). Where a read or a write fails, a line on
+// standard error says so, and after a failed read nothing is printed. The exit status is 0 even then.
 ghost use Rattle.std.specs.Prelude.{◌≡◌, length};
-ghost use Rattle.io.specs.Counts.{IsPrefixLen};
 ghost use Rattle.listing_text.specs.Printed.{printing};
-ghost use Rattle.list_sheet.specs.Program.{prints_of, ReadWithin};
+ghost use Rattle.list_sheet.specs.Program.{prints_of, IsPrefixLen, ReadWithin};
 
-use libc::{STDERR_FILENO, STDIN_FILENO, STDOUT_FILENO};
 use refusal::Answer;
+use std::env::{Env, FillError};
+use std::io::{self, Eprint, Print, Read};
 
 // One byte more than the longest sheet has shows that the input is longer.
 const INPUT: usize = sheet::LONGEST + 1;
@@ -15,30 +15,7 @@ const INPUT: usize = sheet::LONGEST + 1;
 // The room for the listing of a sheet of the largest order.
 const TEXT: usize = listing_text::LONGEST;
 
-// How many bytes are read, or that a read failed.
-#[derive(Clone, Copy)]
-enum Input {
-    Read(usize),
-    Failed,
-}
-
-fn main() {
-    if os::arg_count() > 1 {
-        explain();
-        return;
-    }
-    let mut sheet = [0u8; INPUT];
-    match read(&mut sheet) {
-        Input::Read(bytes) => list(&sheet[..bytes]),
-        Input::Failed => os::fail(b"list_sheet: standard input"),
-    }
-}
-
-// Says what the program reads and prints: on standard output if that is asked for, on standard error for any other argument.
-fn explain() {
-    let mut argument = [0u8; 8];
-    let bytes = os::arg(1, &mut argument);
-    let text = b"list_sheet < SHEET
+const HELP: &str = "list_sheet < SHEET
 
 Reads a sheet on standard input: the order n and the sweeps, a byte each, then n codes, a byte
 each, and then the lower triangle of a symmetric matrix row by row, each entry a float64, the
@@ -49,55 +26,64 @@ diagonal entry and its eigenvector, as the hexadecimal digits of their bits. A s
 that is refused prints the word refused and the number of the refusal.
 A read or a write that fails is told on standard error; the exit status is 0 even then.
 ";
-    if is_help(&argument[..bytes]) {
-        write(text);
-    } else {
-        io::write_all(STDERR_FILENO, text);
+
+fn main(rt: HostRuntime) -> io::Result<()> {
+    let mut argument = [0u8; 8];
+    match rt.arg(1, &mut argument) {
+        Ok(bytes) => explain(&rt, is_help(&argument[..bytes])),
+        Err(FillError::TooLong) => explain(&rt, false),
+        Err(FillError::NotPresent) => list_input(&rt, &mut rt.stdin()),
     }
 }
 
+// Says what the program reads and prints: on standard output if that is asked for, on standard error for any other argument.
+fn explain<P: Print + Eprint>(rt: &P, asked_for: bool) -> io::Result<()> {
+    if asked_for {
+        return write(rt, HELP.as_bytes());
+    }
+    rt.eprint(HELP)
+}
+
 fn is_help(argument: &[u8]) -> bool {
-    check::same(argument, b"-h") || check::same(argument, b"--help")
+    argument == b"-h".as_slice() || argument == b"--help".as_slice()
+}
+
+// Reads a sheet and lists it. If the read fails, a line on standard error says so.
+fn list_input<P: Print + Eprint, R: Read>(rt: &P, input: &mut R) -> io::Result<()> {
+    let mut sheet = [0u8; INPUT];
+    match read(input, &mut sheet) {
+        Ok(bytes) => list(rt, &sheet[..bytes]),
+        Err(error) => eprintln!(rt; "list_sheet: standard input: {error}"),
+    }
 }
 
 // Reads until the buffer is full or the input ends.
-fn read(buffer: &mut [u8]) -> Input
+fn read<R: Read>(input: &mut R, buffer: &mut [u8]) -> io::Result<usize>
     ensures { ReadWithin (length buffer.new) result }
 {
     let mut bytes = 0;
     while bytes < buffer.len() {
-        let got = read_once(&mut buffer[bytes..]);
-        match got {
-            Input::Failed => {
-                return Input::Failed;
-            }
-            Input::Read(more) => {
-                if more == 0 {
-                    return Input::Read(bytes);
-                }
-                bytes += more;
-            }
+        let more = read_once(input, &mut buffer[bytes..])?;
+        if more == 0 {
+            return Ok(bytes);
         }
+        bytes += more;
     }
-    Input::Read(bytes)
+    Ok(bytes)
 }
 
 // One read; 0 bytes are the end of the input.
-fn read_once(buffer: &mut [u8]) -> Input
+fn read_once<R: Read>(input: &mut R, buffer: &mut [u8]) -> io::Result<usize>
     ensures { ReadWithin (length buffer.new) result }
 {
-    let got = libc::read(STDIN_FILENO, buffer);
-    if got < 0 {
-        return Input::Failed;
-    }
-    Input::Read(io::count(got, buffer))
+    input.read(buffer)
 }
 
 // Lists a sheet on standard output.
-fn list(sheet: &[u8]) {
+fn list<P: Print + Eprint>(rt: &P, sheet: &[u8]) -> io::Result<()> {
     let mut text = [0u8; TEXT];
     let bytes = print(sheet, &mut text);
-    write(&text[..bytes]);
+    write(rt, &text[..bytes])
 }
 
 // Prints a sheet, or the text line of its refusal, into lent bytes, and answers how many they are.
@@ -114,8 +100,9 @@ fn print(sheet: &[u8], text: &mut [u8]) -> usize
 }
 
 // Writes to standard output. If that fails, a line on standard error says so.
-fn write(text: &[u8]) {
-    if !io::write_all(STDOUT_FILENO, text) {
-        os::fail(b"list_sheet: standard output");
+fn write<P: Print + Eprint>(rt: &P, text: &[u8]) -> io::Result<()> {
+    match rt.write_all(text) {
+        Ok(()) => Ok(()),
+        Err(error) => eprintln!(rt; "list_sheet: standard output: {error}"),
     }
 }

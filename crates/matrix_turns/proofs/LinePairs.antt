@@ -60,8 +60,8 @@ module _ (n p q d : ℕ) where
         square = t.long;
       }))
 
-pub two_lines : (n p q d : ℕ) → (1 ≤ p) × (p ≤ n) × (1 ≤ q) × (q ≤ n) × (¬ (p ≡ q)) → d ≡ n * n → two_lines n p q d ≡ true
-two_lines n p q d h long =
+pub two_lines_lem : (n p q d : ℕ) → (1 ≤ p) × (p ≤ n) × (1 ≤ q) × (q ≤ n) × (¬ (p ≡ q)) → d ≡ n * n → two_lines n p q d ≡ true
+two_lines_lem n p q d h long =
     two_are n p q d
     (record { first_above = h.0; first_within = h.1; second_above = h.2; second_within = h.3; apart = h.4; long = long })
 

@@ -12,7 +12,7 @@ use Rattle.sizes.specs.Sizes.{is_order, processors_of, still_of}
 use Rattle.ordering.specs.Pairs.{registers_at}
 use Rattle.ordering.proofs.RegisterLines.{pair_real, pair_still}
 use Rattle.matrix_turns.specs.Turns.{two_lines}
-use Rattle.matrix_turns.proofs.LinePairs.{are_two, two_lines, first_line, second_line}
+use Rattle.matrix_turns.proofs.LinePairs.{are_two, two_lines_lem, first_line, second_line}
 use Rattle.runs.specs.State.{State}
 use Rattle.runs.proofs.LineZero.{always_still}
 use Rattle.plain_pair.specs.Pair.{pair_rotated}
@@ -32,7 +32,7 @@ registers_paired n order s k below = go (ltb k (still_of n)) refl
   where
     go : (b : Bool) → ltb k (still_of n) ≡ b → ProcessorPair n k (get_or (registers_at n s).left k 0) (get_or (registers_at n s).right k 0)
     go true e = let h = ltb-true _ _ e in let t = pair_still n order s k below h in line_0 h t.0 t.1
-    go false e = let h = ltb-false _ _ e in real_lines h (two_lines n _ _ (n * n) (pair_real n order s k below h) refl)
+    go false e = let h = ltb-false _ _ e in real_lines h (two_lines_lem n _ _ (n * n) (pair_real n order s k below h) refl)
 
 module _ (n i p q : ℕ) where
   pub differ : ProcessorPair n i p q → p ≢ q

@@ -58,6 +58,16 @@ module _ (S : Setting) (k i p q : ℕ) (pq : p ≢ q) (X : State) where
   unfolding rules
   row_turned_lem s x y e f = rw (received_ruled S.order i (A p p) (A q q) (A p q))
 
+  in_row : (s : Side) (c : ℕ) → c ≢ p → c ≢ q
+      → theory.pair_step (rules S) k i p q (cell_of X) (end s p q) c ≡ (rules S).row_turn (sent P) s (cell_of X p c) (cell_of X q c)
+  unfolding rules pair_block cell_of
+  in_row s c a b = pair_row (rules S) k i p q pq (cell_of X) s (end s p q) c refl a b
+
+  in_column_lem : (s : Side) (r : ℕ) → r ≢ p → r ≢ q
+      → theory.pair_step (rules S) k i p q (cell_of X) r (end s p q) ≡ (rules S).column_turn (sent P) s (cell_of X r p) (cell_of X r q)
+  unfolding rules pair_block cell_of
+  in_column_lem s r a b = pair_column (rules S) k i p q pq (cell_of X) s r (end s p q) refl a b
+
   pub pair_cellwise : (r c : ℕ) → theory.pair_step (rules S) k i p q (cell_of X) r c ≡ cell_of (pair_rotated S.order i p q X) r c
   pair_cellwise r c = go (spot p q r) (spot p q c)
     where
@@ -74,20 +84,12 @@ module _ (S : Setting) (k i p q : ℕ) (pq : p ≢ q) (X : State) where
       inside right right =
           unfold cell block_turned matrix_block columns_block pair_block cell_of in (seen q q (at_second_second P p q A pq) (all_second P p q E q pq))
 
-      in_row : (s : Side) (c : ℕ) → c ≢ p → c ≢ q
-          → theory.pair_step (rules S) k i p q (cell_of X) (end s p q) c ≡ (rules S).row_turn (sent P) s (cell_of X p c) (cell_of X q c)
-      in_row s c a b = unfold rules pair_block cell_of in (pair_row (rules S) k i p q pq (cell_of X) s (end s p q) c refl a b)
-
       row_seen : (s : Side) (c : ℕ) → c ≢ p → c ≢ q
           → (rules S).row_turn (sent P) s (cell_of X p c) (cell_of X q c) ≡ cell_of (pair_rotated S.order i p q X) (end s p q) c
       row_seen left c a b =
           unfold cell_of in (row_turned_lem left (A p c) (A q c) (E p c) (E q c)) ∙ seen p c (at_first_other P p q A pq c a b) (all_other P p q E p c a b)
       row_seen right c a b =
           unfold cell_of in (row_turned_lem right (A p c) (A q c) (E p c) (E q c)) ∙ seen q c (at_second_other P p q A pq c a b) (all_other P p q E q c a b)
-
-      in_column_lem : (s : Side) (r : ℕ) → r ≢ p → r ≢ q
-          → theory.pair_step (rules S) k i p q (cell_of X) r (end s p q) ≡ (rules S).column_turn (sent P) s (cell_of X r p) (cell_of X r q)
-      in_column_lem s r a b = unfold rules pair_block cell_of in (pair_column (rules S) k i p q pq (cell_of X) s r (end s p q) refl a b)
 
       column_seen : (s : Side) (r : ℕ) → r ≢ p → r ≢ q
           → (rules S).column_turn (sent P) s (cell_of X r p) (cell_of X r q) ≡ cell_of (pair_rotated S.order i p q X) r (end s p q)

@@ -7,7 +7,6 @@ use Rattle.float64.specs.Units.{units_of}
 use Rattle.float64.proofs.Patterns.{odd_units}
 use Rattle.root.specs.Sqrt.{nearest_root, root_units}
 use Rattle.root.specs.Exact.{exact_units}
-use Rattle.root.specs.declared.Root.{Root}
 use Rattle.root.specs.declared.Root.TheVariants.{Of}
 use Rattle.root.proofs.Squares.{twice_square, twice_next_square}
 use Rattle.root.proofs.Floors.{found}

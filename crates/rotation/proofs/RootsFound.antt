@@ -72,9 +72,9 @@ zero_cosine t h =
     let z = zero_under t (sym (equal_zero t) ∙ h) in
     rw (z, by_one, one_exact)
 
-plus_zero : is_zero plus_zero ≡ true
+plus_zero_lem : is_zero plus_zero ≡ true
 unfolding of_bits
-plus_zero = refl
+plus_zero_lem = refl
 
 -- ---- a value that isn't a number has no root
 pub nan_rounded : (t : Float) → is_nan t ≡ true → exact_root (under_root t) ≡ false
@@ -119,7 +119,7 @@ module _ (a d b : Float) where
     where
       go : (z : Bool) → is_zero b ≡ z
           → cond z true (exact_root (under_root (quotient a d b))) && exact_root (under_root (cond z plus_zero (tangent_of (quotient a d b)))) ≡ exact_pair a d b
-      go true e = zero_exact plus_zero plus_zero ∙ zero_pair_exact (equal_zero b ∙ e)
+      go true e = zero_exact plus_zero plus_zero_lem ∙ zero_pair_exact (equal_zero b ∙ e)
       go false e = other_pair_exact (equal_zero b ∙ e)
 
   -- ---- with the parameters

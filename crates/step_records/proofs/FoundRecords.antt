@@ -21,7 +21,7 @@ use Rattle.matrix.specs.Entries.{is_square, entries_of, finite_row, mirror_row}
 use Rattle.runs.specs.Blocks.{ruled_found}
 use Rattle.runs.proofs.LineZero.{always_found}
 use Rattle.matrix_turns.specs.Turns.{found_at, two_lines}
-use Rattle.matrix_turns.proofs.LinePairs.{two_lines, pair_entries, from_three}
+use Rattle.matrix_turns.proofs.LinePairs.{two_lines_lem, pair_entries, from_three}
 use Rattle.step_records.specs.declared.Record.{Record}
 use Rattle.step_records.proofs.RecordRefusals.{by_parts}
 use Rattle.step_records.proofs.LeftRows.{records_answer}
@@ -82,4 +82,4 @@ module _ (n : ℕ) (l : List Float) (step : ℕ) (ys : List Record) (other : Rec
       let w = accepted_call n l (length ys) before in
       rw before
       (get_d_over (processors_of n) _ ys k other below (omega (arith, w.enough))
-      ∙ ap record_of (found_read n k _ _ l (λ h. two_lines n _ _ (length l) (pair_real n w.order step k below h) w.long)))
+      ∙ ap record_of (found_read n k _ _ l (λ h. two_lines_lem n _ _ (length l) (pair_real n w.order step k below h) w.long)))

@@ -4,27 +4,32 @@ ghost use Rattle.std.specs.Prelude.{◌^◌, ◌<◌, ◌≤◌};
 
 use ordering::Registers;
 use sizes::MOST_PROCESSORS;
+use std::io::{self, Read, Write};
 use test_io::{TextLine, refusals};
 
-pub fn answer_list() -> bool {
-    let TextLine::Word(n) = test_io::read_word() else {
-        return false;
+pub fn answer_list<R: Read, W: Write>(input: &mut R, output: &mut W) -> io::Result<bool> {
+    let TextLine::Word(n) = test_io::read_word(input)? else {
+        return Ok(false);
     };
-    let TextLine::Word(step) = test_io::read_word() else {
-        return false;
+    let TextLine::Word(step) = test_io::read_word(input)? else {
+        return Ok(false);
     };
     let listed = ordering::pairs(n as usize, step as usize);
     let answer = listed.answer;
     let registers = listed.registers;
-    refusals::print_answer(answer) && print_registers(registers)
+    refusals::print_answer(output, answer)?;
+    print_registers(output, registers)?;
+    Ok(true)
 }
 
-fn print_registers(registers: Registers) -> bool {
-    print_row(&registers.left) && print_row(&registers.right)
+fn print_registers<W: Write>(output: &mut W, registers: Registers) -> io::Result<()> {
+    print_row(output, &registers.left)?;
+    print_row(output, &registers.right)
 }
 
-fn print_row(row: &[usize; MOST_PROCESSORS]) -> bool {
-    test_io::print_word(eight(row, 0)) && test_io::print_word(eight(row, 8))
+fn print_row<W: Write>(output: &mut W, row: &[usize; MOST_PROCESSORS]) -> io::Result<()> {
+    test_io::print_word(output, eight(row, 0))?;
+    test_io::print_word(output, eight(row, 8))
 }
 
 // The eight registers of a row from the index first on, the first of them in the highest byte.

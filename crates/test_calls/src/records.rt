@@ -2,30 +2,33 @@
 // it is filled as exact and else 0, and the matrix. The answer is the refusal of a row of that length, if it is refused, the refusal of a row
 // for the most processors, and of each of its records the words and whether its roots were exact.
 use sizes::MOST_PROCESSORS;
+use std::io::{self, Read, Write};
 use step_records::Record;
 use test_io::runs::LIMIT;
 use test_io::{TextLine, refusals, values};
 
-pub fn answer_step() -> bool {
-    let TextLine::Word(n) = test_io::read_word() else {
-        return false;
+pub fn answer_step<R: Read, W: Write>(input: &mut R, output: &mut W) -> io::Result<bool> {
+    let TextLine::Word(n) = test_io::read_word(input)? else {
+        return Ok(false);
     };
-    let TextLine::Word(entries) = test_io::read_word() else {
-        return false;
+    let TextLine::Word(entries) = test_io::read_word(input)? else {
+        return Ok(false);
     };
-    let TextLine::Word(step) = test_io::read_word() else {
-        return false;
+    let TextLine::Word(step) = test_io::read_word(input)? else {
+        return Ok(false);
     };
-    let TextLine::Word(room) = test_io::read_word() else {
-        return false;
+    let TextLine::Word(room) = test_io::read_word(input)? else {
+        return Ok(false);
     };
-    let TextLine::Word(fill) = test_io::read_word() else {
-        return false;
+    let TextLine::Word(fill) = test_io::read_word(input)? else {
+        return Ok(false);
     };
-    let TextLine::Word(flag) = test_io::read_word() else {
-        return false;
+    let TextLine::Word(flag) = test_io::read_word(input)? else {
+        return Ok(false);
     };
     lend(
+        input,
+        output,
         n as usize,
         entries as usize,
         step as usize,
@@ -45,39 +48,53 @@ fn filled_with(fill: f64, exact: bool) -> Record {
 }
 
 // Lends a call a part of its own buffer. A length above LIMIT ends the program.
-fn lend(n: usize, entries: usize, step: usize, room: usize, filled: Record) -> bool {
+fn lend<R: Read, W: Write>(
+    input: &mut R,
+    output: &mut W,
+    n: usize,
+    entries: usize,
+    step: usize,
+    room: usize,
+    filled: Record,
+) -> io::Result<bool> {
     if entries > LIMIT {
-        return false;
+        return Ok(false);
     }
     let mut matrix = [0.0; LIMIT];
-    answer(n, step, room, filled, &mut matrix[..entries])
+    answer(input, output, n, step, room, filled, &mut matrix[..entries])
 }
 
 // Reads the matrix, asks for the records and writes them.
-fn answer(n: usize, step: usize, room: usize, filled: Record, matrix: &mut [f64]) -> bool {
-    if !values::read_values(matrix) {
-        return false;
+fn answer<R: Read, W: Write>(
+    input: &mut R,
+    output: &mut W,
+    n: usize,
+    step: usize,
+    room: usize,
+    filled: Record,
+    matrix: &mut [f64],
+) -> io::Result<bool> {
+    if !values::read_values(input, matrix)? {
+        return Ok(false);
     }
     let verdict = step_records::verdict(n, matrix, room);
     let recorded = step_records::in_row(n, matrix, step, [filled; MOST_PROCESSORS]);
-    let answered = recorded.answer;
-    let row = recorded.row;
-    refusals::print_answer(verdict) && refusals::print_answer(answered) && print_row(row)
+    refusals::print_answer(output, verdict)?;
+    refusals::print_answer(output, recorded.answer)?;
+    print_row(output, &recorded.row)?;
+    Ok(true)
 }
 
-fn print_row(row: [Record; MOST_PROCESSORS]) -> bool {
-    for k in 0..MOST_PROCESSORS {
-        let record = row[k];
-        if !print_record(record) {
-            return false;
-        }
+fn print_row<W: Write>(output: &mut W, row: &[Record; MOST_PROCESSORS]) -> io::Result<()> {
+    for record in row {
+        print_record(output, *record)?;
     }
-    true
+    Ok(())
 }
 
-fn print_record(record: Record) -> bool {
-    values::print_value(record.t)
-        && values::print_value(record.c)
-        && values::print_value(record.s)
-        && values::print_exactness(record.exact)
+fn print_record<W: Write>(output: &mut W, record: Record) -> io::Result<()> {
+    values::print_value(output, record.t)?;
+    values::print_value(output, record.c)?;
+    values::print_value(output, record.s)?;
+    values::print_exactness(output, record.exact)
 }

@@ -1,7 +1,7 @@
 -- The text lines that the crate reads and writes, as lists of ASCII codes. Definitions only.
 use Rattle.std.specs.Prelude.{◌≡◌, cond, List, [], ◌∷◌, ◌++◌, ℕ, zero, suc, ◌+◌, ◌-◌, ◌*◌, ltb, leb, eqb, length, take, get_or}
 use Rattle.text.specs.Text.{hex_of, newline}
-use Rattle.io.specs.Digits.{last_digits, IsDigitCount}
+use Rattle.test_io.specs.Digits.{last_digits, IsDigitCount}
 use Rattle.test_io.specs.declared.TextLine.{TextLine}
 use Rattle.test_io.specs.declared.TextLine.TheVariants.{Word, End}
 

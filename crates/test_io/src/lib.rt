@@ -1,14 +1,15 @@
 #![tactic(auto)]
 // Lines of text for test programs: u64 words as 16 hexadecimal digits in capital letters, read from
-// standard input and written to standard output, and decimal numbers after a word. The modules have
-// what such programs read and write in these lines: values, whether roots were exact, refusals, and the
-// heads of runs.
-ghost use Rattle.std.specs.Prelude.{◌≡◌, ◌+◌, ◌<◌, ◌≤◌, length, take};
-ghost use Rattle.io.specs.Counts.{IsPrefixLen};
+// an input and written to an output, and decimal numbers after a word. The modules have what such
+// programs read and write in these lines: values, whether roots were exact, refusals, and the heads
+// of runs.
+ghost use Rattle.std.specs.Prelude.{◌≡◌, ◌+◌, ◌<◌, ◌≤◌, length, take, IfOk};
+ghost use Rattle.test_io.specs.Counts.{IsPrefixLen};
 ghost use Rattle.test_io.specs.TextLines.{digit_of, word_text_line, word_of, Extended, Numbered};
 
-use libc::{STDIN_FILENO, STDOUT_FILENO};
+use std::io::{self, ErrorKind, Read, Write};
 
+mod decimal;
 pub mod refusals;
 pub mod runs;
 pub mod values;
@@ -19,31 +20,46 @@ pub enum TextLine {
     End,
 }
 
-// Reads a line of standard input. Its end, and a line that is not 16 digits and a newline, are End.
-pub fn read_word() -> TextLine {
+// Reads a line of the input. Its end, and a line that is not 16 digits and a newline, are End.
+pub fn read_word<R: Read>(input: &mut R) -> io::Result<TextLine> {
     let mut text = [0u8; 17];
-    let n = io::read_full(STDIN_FILENO, &mut text);
+    let n = read_full(input, &mut text)?;
     if n < 17 {
-        return TextLine::End;
+        return Ok(TextLine::End);
     }
-    parse(&text)
+    Ok(parse(&text))
 }
 
-// Writes n as a line of 16 digits, and answers as io::write_all does.
-pub fn print_word(n: u64) -> bool {
+// Reads until the buffer is full or the input ends, and answers how many bytes it holds then.
+fn read_full<R: Read>(input: &mut R, buffer: &mut [u8]) -> io::Result<usize>
+    ensures { IfOk result (λ n. IsPrefixLen n buffer.new) }
+{
+    let mut done = 0;
+    while done < buffer.len() {
+        let n = input.read(&mut buffer[done..])?;
+        if n == 0 {
+            break;
+        }
+        done += n;
+    }
+    Ok(done)
+}
+
+// Writes n as a line of 16 digits.
+pub fn print_word<W: Write>(output: &mut W, n: u64) -> io::Result<()> {
     let text = spell(n);
-    io::write_all(STDOUT_FILENO, &text)
+    output.write_all(&text)
 }
 
-// Writes word, a space, n in decimal and a newline, and answers as io::write_all does. A word of
-// more than 32 bytes is not written, and the answer is false.
-pub fn print_number(word: &[u8], n: u64) -> bool {
+// Writes word, a space, n in decimal and a newline. A word of more than 32 bytes is not written, and
+// the answer is InvalidInput.
+pub fn print_number<W: Write>(output: &mut W, word: &[u8], n: u64) -> io::Result<()> {
     if word.len() > 32 {
-        return false;
+        return Err(io::Error::from(ErrorKind::InvalidInput));
     }
     let mut text = [0u8; 54];
     let k = number(word, n, &mut text);
-    io::write_all(STDOUT_FILENO, &text[..k])
+    output.write_all(&text[..k])
 }
 
 // What stands in a text line, which is a word or else End.
@@ -82,7 +98,7 @@ fn number(word: &[u8], n: u64, out: &mut [u8]) -> usize
     ensures numbered { Numbered word.now n (take result out.new) }
 {
     let mut digits = [0u8; 20];
-    let k = io::decimal(n, &mut digits);
+    let k = decimal::put_decimal(n, &mut digits);
     let mut at = put(out, 0, word);
     at = put(out, at, b" ");
     at = put(out, at, &digits[..k]);
@@ -94,7 +110,9 @@ fn put(out: &mut [u8], at: usize, text: &[u8]) -> usize
     requires { at + length text.now ≤ length out.old }
     ensures { Extended out.old at text.now out.new result }
 {
-    at + bytes::copy(text, &mut out[at..])
+    let end = at + text.len();
+    out[at..end].copy_from_slice(text);
+    end
 }
 
 // The digit that b is the code of, and 16 where it is none's.

@@ -1,26 +1,29 @@
 // Refusals: the word refused and the number, then the row and the column where the refusal has them, each in a line of its own.
 use refusal::{Answer, Place, Refusal};
+use std::io::{self, Write};
 
 // Writes a refusal, and nothing for a call that is accepted.
-pub fn print_answer(answer: Answer) -> bool {
+pub fn print_answer<W: Write>(output: &mut W, answer: Answer) -> io::Result<()> {
     match answer {
-        Answer::Accepted => true,
-        Answer::Refused(refused) => print_refusal(refused),
+        Answer::Accepted => Ok(()),
+        Answer::Refused(refused) => print_refusal(output, refused),
     }
 }
 
-pub fn print_refusal(refused: Refusal) -> bool {
-    crate::print_number(b"refused", refusal::number(refused) as u64) && print_place(refused)
+pub fn print_refusal<W: Write>(output: &mut W, refused: Refusal) -> io::Result<()> {
+    crate::print_number(output, b"refused", refusal::number(refused) as u64)?;
+    print_place(output, refused)
 }
 
 // Writes the row and the column of a refusal that has them.
-fn print_place(refused: Refusal) -> bool {
+fn print_place<W: Write>(output: &mut W, refused: Refusal) -> io::Result<()> {
     match refusal::place_of(refused) {
-        Place::At(row, column) => print_row_and_column(row, column),
-        Place::Nowhere => true,
+        Place::At(row, column) => print_row_and_column(output, row, column),
+        Place::Nowhere => Ok(()),
     }
 }
 
-fn print_row_and_column(row: usize, column: usize) -> bool {
-    crate::print_number(b"row", row as u64) && crate::print_number(b"column", column as u64)
+fn print_row_and_column<W: Write>(output: &mut W, row: usize, column: usize) -> io::Result<()> {
+    crate::print_number(output, b"row", row as u64)?;
+    crate::print_number(output, b"column", column as u64)
 }

@@ -1,9 +1,11 @@
 // What stands before the matrix of a run, one word to a line: the order, the sweeps, the lengths of the matrix, of the result and of the
 // vectors, and the word that both results are filled with.
+ghost use Rattle.std.specs.Prelude.{IfOk};
 ghost use Rattle.test_io.specs.Runs.{Lendable};
 
 use crate::TextLine;
 use sizes::LARGEST_ORDER;
+use std::io::{self, Read};
 
 // The first even order that is refused for its size. Inputs ask for a run of it, so a buffer has to hold its matrix.
 const ORDER_PAST: usize = LARGEST_ORDER + 2;
@@ -29,35 +31,35 @@ pub enum Head {
 }
 
 // Reads the head of a run. The end of the input is End, and so is a length above LIMIT.
-pub fn read_head() -> Head
-    ensures { Lendable result }
+pub fn read_head<R: Read>(input: &mut R) -> io::Result<Head>
+    ensures { IfOk result Lendable }
 {
-    let TextLine::Word(n) = crate::read_word() else {
-        return Head::End;
+    let TextLine::Word(n) = crate::read_word(input)? else {
+        return Ok(Head::End);
     };
-    let TextLine::Word(sweeps) = crate::read_word() else {
-        return Head::End;
+    let TextLine::Word(sweeps) = crate::read_word(input)? else {
+        return Ok(Head::End);
     };
-    let TextLine::Word(matrix) = crate::read_word() else {
-        return Head::End;
+    let TextLine::Word(matrix) = crate::read_word(input)? else {
+        return Ok(Head::End);
     };
-    let TextLine::Word(result) = crate::read_word() else {
-        return Head::End;
+    let TextLine::Word(result) = crate::read_word(input)? else {
+        return Ok(Head::End);
     };
-    let TextLine::Word(vectors) = crate::read_word() else {
-        return Head::End;
+    let TextLine::Word(vectors) = crate::read_word(input)? else {
+        return Ok(Head::End);
     };
-    let TextLine::Word(fill) = crate::read_word() else {
-        return Head::End;
+    let TextLine::Word(fill) = crate::read_word(input)? else {
+        return Ok(Head::End);
     };
-    checked(Run {
+    Ok(checked(Run {
         n: n as usize,
         sweeps: sweeps as usize,
         matrix: matrix as usize,
         result: result as usize,
         vectors: vectors as usize,
         fill: float64::from_bits(fill),
-    })
+    }))
 }
 
 // The run, if every length is within LIMIT.

@@ -1,36 +1,34 @@
 // Values as words, by their bits: a NaN is written as 7FF8000000000000, and every pattern of a NaN is read as one. And whether roots were
 // exact, as a word.
 use crate::TextLine;
-use libc::STDOUT_FILENO;
+use std::io::{self, Read, Write};
 
 // Reads the values of a, and says whether they were all there.
-pub fn read_values(a: &mut [f64]) -> bool {
+pub fn read_values<R: Read>(input: &mut R, a: &mut [f64]) -> io::Result<bool> {
     for k in 0..a.len() {
-        let TextLine::Word(word) = crate::read_word() else {
-            return false;
+        let TextLine::Word(word) = crate::read_word(input)? else {
+            return Ok(false);
         };
         a[k] = float64::from_bits(word);
     }
-    true
+    Ok(true)
 }
 
-// Writes the values of a, one to a line, and says whether they were all written.
-pub fn print_values(a: &[f64]) -> bool {
-    for k in 0..a.len() {
-        if !print_value(a[k]) {
-            return false;
-        }
+// Writes the values of a, one to a line.
+pub fn print_values<W: Write>(output: &mut W, a: &[f64]) -> io::Result<()> {
+    for x in a {
+        print_value(output, *x)?;
     }
-    true
+    Ok(())
 }
 
-pub fn print_value(x: f64) -> bool {
-    crate::print_word(float64::to_bits(x))
+pub fn print_value<W: Write>(output: &mut W, x: f64) -> io::Result<()> {
+    crate::print_word(output, float64::to_bits(x))
 }
 
-pub fn print_exactness(exact: bool) -> bool {
+pub fn print_exactness<W: Write>(output: &mut W, exact: bool) -> io::Result<()> {
     if exact {
-        return io::write_all(STDOUT_FILENO, b"exact\n");
+        return output.write_all(b"exact\n");
     }
-    io::write_all(STDOUT_FILENO, b"rounded\n")
+    output.write_all(b"rounded\n")
 }

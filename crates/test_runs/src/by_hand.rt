@@ -2,50 +2,63 @@
 // is the refusal of the start, if it is refused, what the last tick answered, and the last record.
 use crate::record;
 use array::Array;
+use std::io::{self, Read, Write};
 use test_io::runs::LIMIT;
 use test_io::{TextLine, refusals, values};
 
 // What stands for the answer of the last tick where there was none.
 const NONE: u64 = 3;
 
-pub fn answer_run() -> bool {
-    let TextLine::Word(n) = test_io::read_word() else {
-        return false;
+pub fn answer_run<R: Read, W: Write>(input: &mut R, output: &mut W) -> io::Result<bool> {
+    let TextLine::Word(n) = test_io::read_word(input)? else {
+        return Ok(false);
     };
-    let TextLine::Word(sweeps) = test_io::read_word() else {
-        return false;
+    let TextLine::Word(sweeps) = test_io::read_word(input)? else {
+        return Ok(false);
     };
-    let TextLine::Word(entries) = test_io::read_word() else {
-        return false;
+    let TextLine::Word(entries) = test_io::read_word(input)? else {
+        return Ok(false);
     };
-    lend(n as usize, sweeps as usize, entries as usize)
+    lend(input, output, n as usize, sweeps as usize, entries as usize)
 }
 
 // Lends a run a part of its own buffer. A length above LIMIT ends the program.
-fn lend(n: usize, sweeps: usize, entries: usize) -> bool {
+fn lend<R: Read, W: Write>(
+    input: &mut R,
+    output: &mut W,
+    n: usize,
+    sweeps: usize,
+    entries: usize,
+) -> io::Result<bool> {
     if entries > LIMIT {
-        return false;
+        return Ok(false);
     }
     let mut matrix = [0.0; LIMIT];
-    start(n, sweeps, &mut matrix[..entries])
+    start(input, output, n, sweeps, &mut matrix[..entries])
 }
 
 // Reads the matrix and the number of ticks, makes the start and writes its answer.
-fn start(n: usize, sweeps: usize, matrix: &mut [f64]) -> bool {
-    if !values::read_values(matrix) {
-        return false;
+fn start<R: Read, W: Write>(
+    input: &mut R,
+    output: &mut W,
+    n: usize,
+    sweeps: usize,
+    matrix: &mut [f64],
+) -> io::Result<bool> {
+    if !values::read_values(input, matrix)? {
+        return Ok(false);
     }
-    let TextLine::Word(ticks) = test_io::read_word() else {
-        return false;
+    let TextLine::Word(ticks) = test_io::read_word(input)? else {
+        return Ok(false);
     };
     let started = Array::start(n, sweeps, matrix);
-    let answer = started.answer;
-    let array = started.array;
-    refusals::print_answer(answer) && make_ticks(array, ticks)
+    refusals::print_answer(output, started.answer)?;
+    make_ticks(output, started.array, ticks)?;
+    Ok(true)
 }
 
 // Makes the ticks, each on the record that the call before it gave.
-fn make_ticks(first: Array, ticks: u64) -> bool {
+fn make_ticks<W: Write>(output: &mut W, first: Array, ticks: u64) -> io::Result<()> {
     let mut told = NONE;
     let mut array = first;
     for _ in 0..ticks {
@@ -55,5 +68,6 @@ fn make_ticks(first: Array, ticks: u64) -> bool {
         told = record::number_of(progress);
         array = next;
     }
-    test_io::print_word(told) && record::print_in_use(array)
+    test_io::print_word(output, told)?;
+    record::print_in_use(output, array)
 }

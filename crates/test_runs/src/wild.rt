@@ -5,40 +5,42 @@ use crate::record;
 use array::Array;
 use runs::Counts;
 use sizes::{MOST_COUNTED, MOST_TILES};
+use std::io::{self, Read, Write};
 use test_io::TextLine;
 use tile::Tile;
 use tile_schedule::Progress;
 use tile_wires::{Part, Quad};
 
 // Reads a record and answers its tick. A count above the most that a tile counts to ends the program.
-pub fn answer_tick() -> bool {
-    let TextLine::Word(n) = test_io::read_word() else {
-        return false;
+pub fn answer_tick<R: Read, W: Write>(input: &mut R, output: &mut W) -> io::Result<bool> {
+    let TextLine::Word(n) = test_io::read_word(input)? else {
+        return Ok(false);
     };
-    let TextLine::Word(sweeps) = test_io::read_word() else {
-        return false;
+    let TextLine::Word(sweeps) = test_io::read_word(input)? else {
+        return Ok(false);
     };
-    let TextLine::Word(tick) = test_io::read_word() else {
-        return false;
+    let TextLine::Word(tick) = test_io::read_word(input)? else {
+        return Ok(false);
     };
-    let TextLine::Word(word) = test_io::read_word() else {
-        return false;
+    let TextLine::Word(word) = test_io::read_word(input)? else {
+        return Ok(false);
     };
-    let TextLine::Word(turns) = test_io::read_word() else {
-        return false;
+    let TextLine::Word(turns) = test_io::read_word(input)? else {
+        return Ok(false);
     };
-    let TextLine::Word(rounded) = test_io::read_word() else {
-        return false;
+    let TextLine::Word(rounded) = test_io::read_word(input)? else {
+        return Ok(false);
     };
     if turns > MOST_COUNTED as u64 {
-        return false;
+        return Ok(false);
     }
     if rounded > MOST_COUNTED as u64 {
-        return false;
+        return Ok(false);
     }
     let value = float64::from_bits(word);
     let tile = filled(value, turns as u16, rounded as u16);
-    answer(n as usize, sweeps as usize, tick as usize, tile)
+    answer(output, n as usize, sweeps as usize, tick as usize, tile)?;
+    Ok(true)
 }
 
 // The tile with one value in every cell and line and these counts, not marked.
@@ -68,7 +70,13 @@ fn filled(value: f64, turns: u16, rounded: u16) -> Tile {
 }
 
 // Makes a tick of the record with these sizes and one tile in every place, and writes what it answers and gives back.
-fn answer(n: usize, sweeps: usize, tick: usize, tile: Tile) -> bool {
+fn answer<W: Write>(
+    output: &mut W,
+    n: usize,
+    sweeps: usize,
+    tick: usize,
+    tile: Tile,
+) -> io::Result<()> {
     let array = Array {
         n: n,
         sweeps: sweeps,
@@ -76,18 +84,15 @@ fn answer(n: usize, sweeps: usize, tick: usize, tile: Tile) -> bool {
         tiles: [tile; MOST_TILES],
     };
     let ticked = array.tick();
-    let progress = ticked.answer;
-    let next = ticked.array;
-    print_progress(progress) && record::print_sample(next)
+    print_progress(output, ticked.answer)?;
+    record::print_sample(output, ticked.array)
 }
 
 // Writes what a tick answered and, if it is refused, the number of the refusal.
-fn print_progress(progress: Progress) -> bool {
-    if !test_io::print_word(record::number_of(progress)) {
-        return false;
-    }
+fn print_progress<W: Write>(output: &mut W, progress: Progress) -> io::Result<()> {
+    test_io::print_word(output, record::number_of(progress))?;
     match progress {
-        Progress::Refused(refused) => test_io::print_word(refusal::number(refused) as u64),
-        _ => true,
+        Progress::Refused(refused) => test_io::print_word(output, refusal::number(refused) as u64),
+        _ => Ok(()),
     }
 }

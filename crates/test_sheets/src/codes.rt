@@ -1,29 +1,28 @@
 // Codes as words, one to a word, in its lowest 16 bits.
+use std::io::{self, Read, Write};
 use test_io::TextLine;
 
 // Reads the codes, and says whether they were all there.
-pub fn read_codes(codes: &mut [u16]) -> bool {
+pub fn read_codes<R: Read>(input: &mut R, codes: &mut [u16]) -> io::Result<bool> {
     for k in 0..codes.len() {
-        let TextLine::Word(word) = test_io::read_word() else {
-            return false;
+        let TextLine::Word(word) = test_io::read_word(input)? else {
+            return Ok(false);
         };
         codes[k] = code_in(word);
     }
-    true
+    Ok(true)
 }
 
-// Writes the codes, and says whether they were all written.
-pub fn print_codes(codes: &[u16]) -> bool {
-    for k in 0..codes.len() {
-        if !print_code(codes[k]) {
-            return false;
-        }
+// Writes the codes.
+pub fn print_codes<W: Write>(output: &mut W, codes: &[u16]) -> io::Result<()> {
+    for code in codes {
+        print_code(output, *code)?;
     }
-    true
+    Ok(())
 }
 
-fn print_code(code: u16) -> bool {
-    test_io::print_word(code as u64)
+fn print_code<W: Write>(output: &mut W, code: u16) -> io::Result<()> {
+    test_io::print_word(output, code as u64)
 }
 
 // The code in a word.

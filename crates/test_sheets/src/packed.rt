@@ -1,33 +1,34 @@
 // Bytes as words, eight to a word, the first in the highest byte. The last word is filled up with zero bytes.
+use std::io::{self, Read, Write};
 use test_io::TextLine;
 
 // What the highest byte of a word counts.
 const HIGHEST: u64 = 0x100_0000_0000_0000;
 
 // Reads the bytes, and says whether they were all there.
-pub fn read_bytes(bytes: &mut [u8]) -> bool {
+pub fn read_bytes<R: Read>(input: &mut R, bytes: &mut [u8]) -> io::Result<bool> {
     let mut word = 0;
     for k in 0..bytes.len() {
         if k % 8 == 0 {
-            let TextLine::Word(next) = test_io::read_word() else {
-                return false;
+            let TextLine::Word(next) = test_io::read_word(input)? else {
+                return Ok(false);
             };
             word = next;
         }
         bytes[k] = (word / HIGHEST) as u8;
         word = word % HIGHEST * 256;
     }
-    true
+    Ok(true)
 }
 
-// Writes the bytes, and says whether they were all written.
-pub fn print_bytes(bytes: &[u8]) -> bool {
+// Writes the bytes.
+pub fn print_bytes<W: Write>(output: &mut W, bytes: &[u8]) -> io::Result<()> {
     for k in 0..bytes.len() {
-        if k % 8 == 0 && !test_io::print_word(first_word(&bytes[k..])) {
-            return false;
+        if k % 8 == 0 {
+            test_io::print_word(output, first_word(&bytes[k..]))?;
         }
     }
-    true
+    Ok(())
 }
 
 // The word of the first eight bytes.

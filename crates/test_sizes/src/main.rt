@@ -3,26 +3,30 @@
 // to the largest order the length of its sheet in the short and in the long form and the room for its listing. tools/compare_header writes
 // the expected output, from the header.
 use sizes::{LARGEST_ORDER, MOST_PROCESSORS, MOST_SWEEPS};
+use std::io::{self, BufWriter, Write};
 
-fn main() {
-    print_limits();
-    print_lengths();
+fn main(rt: HostRuntime) -> io::Result<()> {
+    let mut output = BufWriter::new(rt.alloc(), rt.stdout())?;
+    print_limits(&mut output)?;
+    print_lengths(&mut output)?;
+    output.flush()
 }
 
-fn print_limits() -> bool {
-    test_io::print_number(b"lines", LARGEST_ORDER as u64)
-        && test_io::print_number(b"sweeps", MOST_SWEEPS as u64)
-        && test_io::print_number(b"processors", MOST_PROCESSORS as u64)
-        && test_io::print_number(b"words", array_words::ARRAY as u64)
-        && test_io::print_number(b"tile", array_words::TILE as u64)
-        && test_io::print_number(b"longest sheet", sheet::LONGEST as u64)
-        && test_io::print_number(b"longest text", listing_text::LONGEST as u64)
+fn print_limits<W: Write>(output: &mut W) -> io::Result<()> {
+    test_io::print_number(output, b"lines", LARGEST_ORDER as u64)?;
+    test_io::print_number(output, b"sweeps", MOST_SWEEPS as u64)?;
+    test_io::print_number(output, b"processors", MOST_PROCESSORS as u64)?;
+    test_io::print_number(output, b"words", array_words::ARRAY as u64)?;
+    test_io::print_number(output, b"tile", array_words::TILE as u64)?;
+    test_io::print_number(output, b"longest sheet", sheet::LONGEST as u64)?;
+    test_io::print_number(output, b"longest text", listing_text::LONGEST as u64)
 }
 
-fn print_lengths() {
+fn print_lengths<W: Write>(output: &mut W) -> io::Result<()> {
     for k in 0..LARGEST_ORDER {
-        test_io::print_number(b"sheet", sheet::length_of(1, k + 1) as u64);
-        test_io::print_number(b"long sheet", sheet::length_of(2, k + 1) as u64);
-        test_io::print_number(b"text", listing_text::room_for(k + 1) as u64);
+        test_io::print_number(output, b"sheet", sheet::length_of(1, k + 1) as u64)?;
+        test_io::print_number(output, b"long sheet", sheet::length_of(2, k + 1) as u64)?;
+        test_io::print_number(output, b"text", listing_text::room_for(k + 1) as u64)?;
     }
+    Ok(())
 }

@@ -1,5 +1,4 @@
 use native.Mathlib.Omega.{arith}
-use borrow.Author.Rules.{rules}
 use Rattle.forecast.proofs.Answers.{Few, few_of, rotations_are, figures_are}
 use Rattle.forecast.proofs.figures_of.Goals as goal
 use Rattle.forecast.proofs.figures_of.Goals.{After-steps_of-steps}

@@ -1,7 +1,6 @@
 use mathlib.Core.Path.{◌∙◌}
 use native.Mathlib.Omega.{arith}
 use Rattle.matrix_turns.proofs.LinePairs.{one_line, by_place}
-use borrow.Author.Rules.{rules}
 use Rattle.matrix_turns.proofs.are_lines.Goals as goal
 
 pub returns-then-p-q : goal.returns-then-p-q

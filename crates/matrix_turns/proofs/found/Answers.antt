@@ -1,5 +1,4 @@
 use mathlib.Core.Path.{◌∙◌}
-use borrow.Author.Rules.{rules}
 use Rattle.rotation.specs.Exact.{found_of}
 use Rattle.matrix_turns.proofs.LinePairs.{from_three}
 use Rattle.matrix_turns.proofs.found.Goals as goal

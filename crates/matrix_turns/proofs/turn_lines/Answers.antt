@@ -1,31 +1,24 @@
-use Prim.Native.Nat.{◌+◌, ◌-◌, ◌*◌, ◌≤◌}
 use mathlib.Core.Path.{◌≡◌, ap, ◌∙◌}
 use native.Mathlib.Omega.{arith}
 use native.Mathlib.Nat.{le_antisymm}
 use lib.ListN.{length}
-use Rattle.matrix_turns.specs.Turns.{turn_lines}
 use Rattle.matrix_turns.proofs.TurnedLines.{no_lines, next_line, turned_length}
 use Rattle.matrix_turns.proofs.turn_lines.Goals as goal
-use Rattle.matrix_turns.proofs.turn_lines.Goals.{In-loop-r, Start}
-
--- the start, from a turn of the loop
-abbrev start_of : In-loop-r → Start
-start_of c = c.before.before.before
 
 pub loop-r-init : goal.loop-r-init
 loop-r-init c = (omega arith, no_lines _ _ _ _)
 
 pub overflow_mul-r : goal.overflow_mul-r
-overflow_mul-r c = let b = (start_of c).requires c.loop-r.r (omega arith) in omega arith
+overflow_mul-r c = let b = c.requires c.loop-r.r (omega arith) in omega arith
 
 pub overflow_add-i : goal.overflow_add-i
-overflow_add-i c = let b = (start_of c).requires c.loop-r.r (omega arith) in omega arith
+overflow_add-i c = let b = c.requires c.loop-r.r (omega arith) in omega arith
 
 pub overflow_mul-r-in-loop-r : goal.overflow_mul-r-in-loop-r
-overflow_mul-r-in-loop-r c = let b = (start_of c).requires c.loop-r.r (omega arith) in omega arith
+overflow_mul-r-in-loop-r c = let b = c.requires c.loop-r.r (omega arith) in omega arith
 
 pub overflow_add-j : goal.overflow_add-j
-overflow_add-j c = let b = (start_of c).requires c.loop-r.r (omega arith) in omega arith
+overflow_add-j c = let b = c.requires c.loop-r.r (omega arith) in omega arith
 
 pub turn_places-requires : goal.turn_places-requires
 turn_places-requires c =

@@ -1,5 +1,4 @@
 use Rattle.matrix_turns.proofs.TurnedLines.{places_are}
-use borrow.Author.Rules.{rules}
 use Rattle.matrix_turns.proofs.turn_places.Goals as goal
 
 pub returns : goal.returns

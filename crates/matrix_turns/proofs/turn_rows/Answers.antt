@@ -1,7 +1,5 @@
 use mathlib.Core.Path.{sym, ◌∙◌}
 use native.Mathlib.Omega.{arith}
-use borrow.Author.Rules.{rules}
-use borrow.Author.Tests.{not-true, not-false}
 use lib.ListN.{length}
 use Rattle.matrix_turns.proofs.LinePairs.{Two, are_two, left_alone}
 use Rattle.matrix_turns.proofs.TurnedLists.{in_columns, rows_turned_lem, offsets_within}
@@ -34,8 +32,8 @@ overflow_mul-q c =
 pub turn_lines-requires : goal.turn_lines-requires
 turn_lines-requires c =
     let given = c.args in
-    in_columns given.parameters _ _ _ given.a.now (there c.before)
+    in_columns given.parameters _ _ _ given.a.now (are_two _ _ _ _ (sym c.are_lines.ensures ∙ c.if-not-are_lines.false))
 
 pub returns : goal.returns
 returns c =
-    c.turn_lines.ensures ∙ rows_turned_lem _ _ _ _ c.args.a.now (there c.before.before.before.before)
+    c.turn_lines.ensures ∙ rows_turned_lem _ _ _ _ c.args.a.now (are_two _ _ _ _ (sym c.are_lines.ensures ∙ c.if-not-are_lines.false))

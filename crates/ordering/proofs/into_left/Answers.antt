@@ -1,5 +1,4 @@
 use Rattle.ordering.proofs.Movement.{left_first, left_second, left_other}
-use borrow.Author.Rules.{rules}
 use Rattle.ordering.proofs.into_left.Goals as goal
 
 pub returns-then-k-eq0 : goal.returns-then-k-eq0

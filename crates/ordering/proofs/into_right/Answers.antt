@@ -1,6 +1,5 @@
 use native.Mathlib.Omega.{arith}
 use Rattle.ordering.proofs.Movement.{right_other, right_only, right_last}
-use borrow.Author.Rules.{rules}
 use Rattle.ordering.proofs.into_right.Goals as goal
 
 pub returns-then-k-last : goal.returns-then-k-last

@@ -1,6 +1,5 @@
 use mathlib.Core.Path.{ap, ◌∙◌}
 use native.Mathlib.Omega.{arith}
-use borrow.Author.Rules.{rules}
 use lib.ListN.{length}
 use Rattle.matrix.proofs.Flat.{flat_length}
 use Rattle.matrix_turns.proofs.LinePairs.{are_two}

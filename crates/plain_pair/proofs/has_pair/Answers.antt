@@ -1,6 +1,5 @@
 use mathlib.Core.Path.{◌∙◌}
 use native.Mathlib.Omega.{arith}
-use borrow.Author.Rules.{rules}
 use Rattle.plain_pair.proofs.PairLines.{other_length, by_lines}
 use Rattle.plain_pair.proofs.has_pair.Goals as goal
 

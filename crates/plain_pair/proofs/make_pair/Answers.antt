@@ -1,6 +1,5 @@
 use mathlib.Core.Path.{sym}
 use Rattle.plain_pair.proofs.TurnedStates.{still_held, turn_held}
-use borrow.Author.Rules.{rules}
 use Rattle.plain_pair.proofs.make_pair.Goals as goal
 
 pub returns-in-Still : goal.returns-in-Still

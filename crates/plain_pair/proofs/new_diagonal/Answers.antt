@@ -1,5 +1,4 @@
 use mathlib.Core.Path.{◌∙◌}
-use borrow.Author.Rules.{rules}
 use Rattle.rotation.specs.declared.Parameters.TheVariants.{Turn}
 use Rattle.rotation.specs.Rotation.{diagonal_of}
 use Rattle.matrix_turns.proofs.LinePairs.{from_three}

@@ -1,5 +1,4 @@
 use native.Mathlib.Omega.{arith}
-use borrow.Author.Rules.{rules}
 use Rattle.plain_pair.proofs.EntrySet.{place_within, place_set}
 use Rattle.plain_pair.proofs.set_entry.Goals as goal
 

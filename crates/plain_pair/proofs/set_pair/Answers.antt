@@ -1,13 +1,8 @@
 use native.Mathlib.Omega.{arith}
-use borrow.Author.Rules.{rules}
 use Rattle.matrix_turns.proofs.LinePairs.{are_two, two_as}
 use Rattle.plain_pair.proofs.TurnedStates.{pair_set}
 use Rattle.plain_pair.proofs.set_pair.Goals as goal
-use Rattle.plain_pair.proofs.set_pair.Goals.{After-set_entry-arg-2-1, Start}
-
--- the start, from the place where the second entry is set
-abbrev start_of : After-set_entry-arg-2-1 → Start
-start_of c = c.before.before.before.before.before.before
+use Rattle.plain_pair.proofs.set_pair.Goals.{After-set_entry-arg-2-1}
 
 pub set_entry-requires : goal.set_entry-requires
 set_entry-requires c =
@@ -16,11 +11,11 @@ set_entry-requires c =
 
 pub set_entry-requires-2 : goal.set_entry-requires-2
 set_entry-requires-2 c =
-    let t = are_two _ _ _ _ (start_of c).requires in
+    let t = are_two _ _ _ _ c.requires in
     (omega (arith, t.long), t.second_above, t.second_within, t.second_above, t.second_within)
 
 pub clear_pair-requires : goal.clear_pair-requires
-clear_pair-requires c = two_as _ _ _ (start_of c.before.before.before.before).requires (omega arith)
+clear_pair-requires c = two_as _ _ _ c.requires (omega arith)
 
 pub returns : goal.returns
 returns c =

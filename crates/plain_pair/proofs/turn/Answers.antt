@@ -1,6 +1,4 @@
 use mathlib.Core.Path.{sym, ◌∙◌}
-use borrow.Author.Rules.{rules}
-use borrow.Author.Tests.{not-true, not-false}
 use Rattle.plain_pair.proofs.PairLines.{pair_there, nothing_done, pair_done}
 use Rattle.plain_pair.proofs.turn.Goals as goal
 

@@ -8,15 +8,11 @@ use Rattle.runs.proofs.Verdicts.{Begins, begins}
 use Rattle.plain_pair.proofs.AlikeStates.{held_long}
 use Rattle.plain_run.proofs.Outcomes.{run_made}
 use Rattle.plain_run.proofs.run_accepted.Goals as goal
-use Rattle.plain_run.proofs.run_accepted.Goals.{After-set_identity-arg-1, Start}
+use Rattle.plain_run.proofs.run_accepted.Goals.{After-set_identity-arg-1}
 
 -- what is known where nothing is refused
 begun : (s : Start) → Begins s.args.n s.args.sweeps s.args.matrix.now (length s.args.res.now) (length s.args.vectors.now)
 begun s = begins _ _ _ _ _ s.requires
-
--- the start of the run, from the place where the eigenvectors are begun
-abbrev start_of : After-set_identity-arg-1 → Start
-start_of c = c.before.before.before.before.before.before.before.before
 
 pub copy-requires : goal.copy-requires
 copy-requires c =

@@ -1,4 +1,4 @@
-use Rattle.std.proofs.Common.{arith, rules}
+use Rattle.std.proofs.Common.{arith}
 use Rattle.float64.proofs.Nan.{no_nan, no_nan_below}
 use Rattle.root.proofs.guess.Goals as goal
 

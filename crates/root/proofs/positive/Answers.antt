@@ -1,4 +1,4 @@
-use Rattle.std.proofs.Common.{ℕ, ◌+◌, ◌/◌, ◌%◌, ◌^◌, sym, ap, ◌∙◌, arith, rules}
+use Rattle.std.proofs.Common.{ℕ, ◌+◌, ◌/◌, ◌%◌, ◌^◌, sym, ap, ◌∙◌, arith}
 use Rattle.float64.proofs.Patterns.{field_units, subnormal_units}
 use Rattle.root.specs.Sqrt.{root_units}
 use Rattle.root.specs.Exact.{exact_units}

@@ -1,5 +1,5 @@
-use Rattle.std.proofs.Common.{◌<◌, ◌∙◌, arith}
-use Rattle.root.proofs.Scales.{wide, Raising, raising_start, raising_next}
+use Rattle.std.proofs.Common.{◌∙◌, arith}
+use Rattle.root.proofs.Scales.{wide, raising_start, raising_next}
 use Rattle.root.proofs.ExactDigits.{root_at}
 use Rattle.root.proofs.subnormal.Goals as goal
 

@@ -1,6 +1,5 @@
-use Rattle.std.proofs.Common.{◌<◌, ◌∙◌, arith}
-use Rattle.root.proofs.Scales.{wide, Raising, raising_start, raising_next}
-use Rattle.root.proofs.ExactDigits.{root_at}
+use Rattle.std.proofs.Common.{◌<◌}
+use Rattle.root.proofs.Scales.{Raising}
 use Rattle.root.proofs.subnormal.Given as goal
 
 -- b * 2 ^ 53 is m * 2 ^ z, and m is below 2 ^ 53. What falls is z.

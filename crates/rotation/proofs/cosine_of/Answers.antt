@@ -1,6 +1,5 @@
 use Rattle.rotation.specs.Rotation.{cosine_of}
 use Rattle.rotation.proofs.RootsFound.{zero_cosine}
-use borrow.Author.Rules.{rules}
 use Rattle.rotation.proofs.cosine_of.Goals as goal
 
 pub returns-then-t : goal.returns-then-t

@@ -1,4 +1,3 @@
-use borrow.Author.Rules.{rules}
 use Rattle.rotation.specs.Rotation.{quotient}
 use Rattle.rotation.proofs.RootsFound.{zero_pair_found, still_found, turn_found}
 use Rattle.rotation.proofs.of_pair.Goals as goal

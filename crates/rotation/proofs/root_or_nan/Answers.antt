@@ -1,7 +1,6 @@
 use mathlib.Core.Path.{sym, ap, ◌∙◌}
 use Rattle.root.specs.Exact.{root_answered}
 use Rattle.rotation.proofs.RootsFound.{rooted_by, rooted_answer}
-use borrow.Author.Rules.{rules}
 use Rattle.rotation.proofs.root_or_nan.Goals as goal
 
 pub returns-in-Of : goal.returns-in-Of

@@ -1,5 +1,4 @@
 use Rattle.rotation.specs.Rotation.{tangent_of}
-use borrow.Author.Rules.{rules}
 use Rattle.rotation.proofs.tangent_of.Goals as goal
 
 pub returns : goal.returns

@@ -1,4 +1,3 @@
-use borrow.Author.Rules.{rules}
 use Rattle.rotation.specs.Rotation.{quotient}
 use Rattle.rotation.proofs.RootsFound.{zero_found, other_found}
 use Rattle.rotation.proofs.tangent_of_pair.Goals as goal

@@ -1,5 +1,4 @@
 use native.Mathlib.Omega.{arith}
-use borrow.Author.Rules.{rules}
 use Rattle.runs.proofs.ProcessorCounts.{begins_none, begins_by}
 use Rattle.runs.proofs.begins_sweep.Goals as goal
 

@@ -1,6 +1,4 @@
 use native.Mathlib.Omega.{arith}
-use borrow.Author.Rules.{rules}
-use borrow.Author.Tests.{not-true, not-false}
 use Rattle.runs.proofs.ProcessorCounts.{counts_none, counts_more, counts_most}
 use Rattle.runs.proofs.counted.Goals as goal
 

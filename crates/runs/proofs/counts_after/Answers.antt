@@ -1,4 +1,3 @@
-use borrow.Author.Rules.{rules}
 use Rattle.runs.specs.Counts.{rounded_after}
 use Rattle.runs.proofs.counts_after.Goals as goal
 

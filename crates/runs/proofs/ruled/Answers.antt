@@ -1,4 +1,3 @@
-use borrow.Author.Rules.{rules}
 use native.Mathlib.Omega.{arith}
 use Rattle.runs.proofs.LineZero.{always_found, own_found}
 use Rattle.runs.proofs.ruled.Goals as goal

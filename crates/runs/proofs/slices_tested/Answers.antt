@@ -1,6 +1,4 @@
 use mathlib.Core.Path.{sym, ◌∙◌}
-use borrow.Author.Rules.{rules}
-use borrow.Author.Tests.{not-true, not-false}
 use Rattle.runs.proofs.Verdicts.{refused_3, refused_3_too, by_entries}
 use Rattle.runs.proofs.slices_tested.Goals as goal
 

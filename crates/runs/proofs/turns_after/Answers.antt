@@ -1,6 +1,5 @@
 use mathlib.Core.Path.{sym, ap, ◌∙◌}
 use mathlib.Core.Bool.{Bool}
-use borrow.Author.Rules.{rules}
 use Rattle.runs.specs.Counts.{counted}
 use Rattle.runs.proofs.ProcessorCounts.{counts_anew, counts_on}
 use Rattle.runs.proofs.turns_after.Goals as goal

@@ -1,5 +1,4 @@
 use mathlib.Core.Path.{sym, ap, ◌∙◌}
-use borrow.Author.Rules.{rules}
 use Rattle.refusal.specs.Answers.{answered}
 use Rattle.runs.proofs.Verdicts.{sizes_refused, by_slices}
 use Rattle.runs.proofs.verdict.Goals as goal

@@ -1,5 +1,4 @@
 use Rattle.tile_schedule.proofs.Schedules.{before_start, from_start, same_distance}
-use borrow.Author.Rules.{rules}
 use Rattle.tile_schedule.proofs.action_at.Goals as goal
 
 pub returns-then-tick-away : goal.returns-then-tick-away

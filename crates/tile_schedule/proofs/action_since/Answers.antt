@@ -1,6 +1,5 @@
 use native.Mathlib.Omega.{arith}
 use Rattle.tile_schedule.proofs.Schedules.{before_end, between, past_end, no_steps, at_end}
-use borrow.Author.Rules.{rules}
 use Rattle.tile_schedule.proofs.action_since.Goals as goal
 
 pub returns-then-since-steps : goal.returns-then-since-steps

@@ -2,7 +2,6 @@ use mathlib.Core.Path.{◌≡◌, sym, ap, ◌∙◌}
 use mathlib.Core.Bool.{true}
 use native.Mathlib.Omega.{arith}
 use Prim.Native.Nat.{◌≤◌}
-use borrow.Author.Rules.{rules}
 use Rattle.refusal.specs.Answers.{answered}
 use Rattle.sizes.specs.Sizes.{is_order, most_sweeps}
 use Rattle.sizes.proofs.Orders.{sizes_given}

@@ -1,5 +1,4 @@
 use Rattle.systolic.specs.Tiles.{phase_in}
-use borrow.Author.Rules.{rules}
 use Rattle.tile_schedule.proofs.phase_in.Goals as goal
 
 pub returns-in-Idle : goal.returns-in-Idle

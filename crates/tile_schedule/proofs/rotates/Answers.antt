@@ -1,4 +1,3 @@
-use borrow.Author.Rules.{rules}
 use Rattle.tile_schedule.proofs.rotates.Goals as goal
 
 pub returns-in-Idle : goal.returns-in-Idle

@@ -1,6 +1,5 @@
 use mathlib.Core.Path.{◌≡◌, sym, ap, ◌∙◌}
 use native.Mathlib.Omega.{arith}
-use borrow.Author.Rules.{rules}
 use Rattle.refusal.specs.Answers.{given}
 use Rattle.tile_schedule.specs.Answers.{progress_answered, made, progress_of}
 use Rattle.tile_schedule.proofs.Answers.{Means, made_means, left_made, left_stopped, left_refused}

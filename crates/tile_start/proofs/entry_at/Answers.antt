@@ -1,7 +1,6 @@
 use mathlib.Core.Path.{sym, ◌∙◌}
 use native.Mathlib.Omega.{arith}
 use Rattle.runs.proofs.LineZero.{bordered_real, row_0, column_0}
-use borrow.Author.Rules.{rules}
 use Rattle.tile_start.proofs.entry_at.Goals as goal
 
 pub returns-then-r-eq0 : goal.returns-then-r-eq0

@@ -1,5 +1,4 @@
 use Rattle.tile_start.proofs.StartTiles.{corners}
-use borrow.Author.Rules.{rules}
 use Rattle.tile_start.proofs.identity_at.Goals as goal
 
 pub returns : goal.returns

@@ -1,7 +1,6 @@
 use mathlib.Core.Path.{◌∙◌}
 use native.Mathlib.Omega.{arith}
 use Rattle.tile_start.proofs.StartTiles.{row_unused, column_unused, in_use}
-use borrow.Author.Rules.{rules}
 use Rattle.tile_start.proofs.tile_at.Goals as goal
 
 pub returns-then-i-processors : goal.returns-then-i-processors

@@ -1,5 +1,4 @@
 use Rattle.tile_start.specs.Beginning.{starting_tile}
-use borrow.Author.Rules.{rules}
 use Rattle.tile_start.proofs.tile_with.Goals as goal
 
 pub returns : goal.returns

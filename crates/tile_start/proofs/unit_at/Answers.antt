@@ -2,7 +2,6 @@ use mathlib.Core.Path.{◌∙◌}
 use native.Mathlib.Omega.{arith}
 use Rattle.runs.proofs.LineZero.{row_0}
 use Rattle.tile_start.proofs.StartTiles.{unit_read}
-use borrow.Author.Rules.{rules}
 use Rattle.tile_start.proofs.unit_at.Goals as goal
 
 pub returns-then-r-eq0 : goal.returns-then-r-eq0

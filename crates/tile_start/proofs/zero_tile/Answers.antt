@@ -1,6 +1,5 @@
 use mathlib.Core.Path.{ap, ◌∙◌}
 use Rattle.tile_start.specs.Beginning.{starting_tile}
-use borrow.Author.Rules.{rules}
 use Rattle.tile_start.proofs.zero_tile.Goals as goal
 
 pub returns : goal.returns

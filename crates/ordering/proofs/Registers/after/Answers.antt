@@ -1,9 +1,5 @@
-use Prim.Native.Nat.{◌-◌, ◌≤◌}
-use mathlib.Core.Path.{◌≡◌, ◌∙◌}
+use mathlib.Core.Path.{◌∙◌}
 use native.Mathlib.Omega.{arith}
-use Rattle.systolic.specs.Slots.{ordered_line, line_at}
-use Rattle.ordering.specs.Registers.{registers_of}
-use Rattle.sizes.specs.Sizes.{most_processors}
 use Rattle.ordering.proofs.Movement.{at_start, next_step, same_step}
 use Rattle.ordering.proofs.Registers.after.Goals as goal
 

@@ -1,8 +1,6 @@
 use native.Mathlib.Omega.{arith}
 use mathlib.Core.Path.{◌≡◌, sym, ◌∙◌}
 use mathlib.Core.Bool.{true}
-use borrow.Author.Rules.{rules}
-use borrow.Author.Tests.{not-true, not-false}
 use Rattle.sizes.specs.Sizes.{is_order}
 use Rattle.sizes.proofs.Orders.{order_half}
 use Rattle.ordering.proofs.OrderRegisters.{none_beside, order_beside, after_at}

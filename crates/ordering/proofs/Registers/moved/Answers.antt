@@ -1,9 +1,7 @@
-use Prim.Native.Nat.{◌-◌, ◌≤◌}
-use mathlib.Core.Path.{◌≡◌}
 use native.Mathlib.Omega.{arith}
 use Rattle.lists.specs.Tabulate.{tabulate}
-use Rattle.systolic.specs.Slots.{left, right, slot, prior}
-use Rattle.ordering.specs.Registers.{column, coming_into, in_slot}
+use Rattle.systolic.specs.Slots.{slot, prior}
+use Rattle.ordering.specs.Registers.{coming_into, in_slot}
 use Rattle.ordering.proofs.Columns.{column_none, column_next, registers_are}
 use Rattle.ordering.proofs.Registers.moved.Goals as goal
 

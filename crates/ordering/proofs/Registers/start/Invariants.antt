@@ -1,11 +1,7 @@
-use Rattle.lists.specs.Tabulate.{tabulate}
 use Prim.Native.Nat.{◌-◌, ◌≤◌}
 use mathlib.Core.Path.{◌≡◌}
-use native.Mathlib.Omega.{arith}
 use Rattle.systolic.specs.Slots.{left, right, slot, ordered_line}
 use Rattle.ordering.specs.Registers.{column}
-use Rattle.ordering.proofs.Columns.{column_none, column_next, registers_are}
-use Rattle.ordering.proofs.Movement.{start_left, start_right}
 use Rattle.ordering.proofs.Registers.start.Given as goal
 
 -- The first k registers of both sides hold their lines. What falls is processors - k.

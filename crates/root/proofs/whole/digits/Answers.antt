@@ -1,6 +1,7 @@
-use Rattle.std.proofs.Common.{◌-◌, ⊎_elim, arith}
-use Rattle.root.proofs.DigitLoop.{At, root_bound, start, taken, passed, done}
+use Rattle.std.proofs.Common.{arith}
+use Rattle.root.proofs.DigitLoop.{root_bound, start, taken, passed, done}
 use Rattle.root.proofs.whole.digits.Goals as goal
+use Rattle.root.proofs.whole.digits.Goals.{then-test-rest, else-test-rest}
 
 pub loop-i-init : goal.loop-i-init
 loop-i-init c = start c.args.k c.requires
@@ -27,10 +28,10 @@ pub overflow_add-root : goal.overflow_add-root
 overflow_add-root c = let b = root_bound c.loop-i.invariant in omega arith
 
 pub loop-i-preserved : goal.loop-i-preserved
-loop-i-preserved c =
-    ⊎_elim (λ w. taken _ _ _ _ _ c.loop-i.invariant c.loop-i-test.true _ _ w.0.taken w.1 w.2)
-    (λ w. passed _ _ _ _ _ c.loop-i.invariant c.loop-i-test.true _ _ w.0.left w.1 w.2)
-    c.if-test-rest.branch
+loop-i-preserved c = elim c.if-test-rest.branch [
+  | then-test-rest w ↦ taken _ _ _ _ _ c.loop-i.invariant c.loop-i-test.true _ _ w.if-test-rest.true w.rest-is w.root-is
+  | else-test-rest w ↦ passed _ _ _ _ _ c.loop-i.invariant c.loop-i-test.true _ _ w.if-test-rest.false w.rest-is w.root-is
+]
 
 pub returns : goal.returns
 returns c = done c.loop-i.invariant c.loop-i-test.false

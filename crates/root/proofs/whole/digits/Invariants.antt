@@ -1,5 +1,5 @@
-use Rattle.std.proofs.Common.{◌-◌, ⊎_elim, arith}
-use Rattle.root.proofs.DigitLoop.{At, root_bound, start, taken, passed, done}
+use Rattle.std.proofs.Common.{◌-◌}
+use Rattle.root.proofs.DigitLoop.{At}
 use Rattle.root.proofs.whole.digits.Given as goal
 
 -- root has at most i binary digits, and its square and the rest are the number of the digits taken so far. What falls is 54 - i.

@@ -1,4 +1,4 @@
-use Rattle.std.proofs.Common.{arith, rules}
+use Rattle.std.proofs.Common.{arith}
 use Rattle.root.proofs.Floors.{floor_lt, found_by_digits}
 use Rattle.root.proofs.whole.nearest_root.Goals as goal
 

@@ -1,4 +1,4 @@
-use Rattle.std.proofs.Common.{◌+◌, ◌*◌, ltb, arith, rules}
+use Rattle.std.proofs.Common.{◌+◌, ◌*◌, ltb, arith}
 use Rattle.root.proofs.Floors.{found}
 use Rattle.root.proofs.Remainders.{bit_le, settled}
 use Rattle.root.proofs.whole.settle.Goals as goal
@@ -13,5 +13,5 @@ overflow_add-result-4 c =
     omega (arith, bit_le (ltb (q * 2) (left + 3)), bit_le (ltb (q * 4) (left + 3)))
 
 pub returns : goal.returns
-returns c =
+returns c r =
     found _ _ c.requires.0 c.requires.1 (settled _ _ _ (c.remainder-left.ensures c.if-left-q.false) (omega arith) (omega arith) (omega arith))

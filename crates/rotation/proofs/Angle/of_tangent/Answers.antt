@@ -1,4 +1,3 @@
-use borrow.Author.Rules.{rules}
 use Rattle.rotation.proofs.Angle.of_tangent.Goals as goal
 
 pub returns : goal.returns

@@ -1,7 +1,6 @@
 use mathlib.Core.Path.{ap, ◌∙◌}
 use Rattle.systolic.specs.Tiles.{phase_in}
 use Rattle.tile.proofs.TileTick.{tile_settled}
-use borrow.Author.Rules.{rules}
 use Rattle.tile.proofs.Tile.after.Goals as goal
 
 pub returns : goal.returns

@@ -1,5 +1,4 @@
 use Rattle.tile.specs.Turned.{turned_of}
-use borrow.Author.Rules.{rules}
 use Rattle.tile.proofs.Tile.turned.Goals as goal
 
 pub returns : goal.returns

@@ -1,6 +1,5 @@
 use mathlib.Core.Path.{sym, ◌∙◌}
 use Rattle.tile.specs.Turned.{part_not_finite}
-use borrow.Author.Rules.{rules}
 use Rattle.tile.proofs.cells.is_marked.Goals as goal
 
 pub returns-then-not_finite : goal.returns-then-not_finite

@@ -1,5 +1,4 @@
 use Rattle.tile.specs.Turned.{off_diagonal_of}
-use borrow.Author.Rules.{rules}
 use Rattle.tile.proofs.cells.off_diagonal.Goals as goal
 
 pub returns : goal.returns

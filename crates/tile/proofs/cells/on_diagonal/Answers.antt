@@ -1,5 +1,4 @@
 use Rattle.tile.proofs.DiagonalWork.{worked}
-use borrow.Author.Rules.{rules}
 use Rattle.tile.proofs.cells.on_diagonal.Goals as goal
 
 pub returns : goal.returns

@@ -1,7 +1,6 @@
 use Rattle.tile.specs.Turned.{rotated_of}
 use Rattle.tile.proofs.TileWork.{rotated_on}
 use borrow.Author.Tests.{ne_eqb}
-use borrow.Author.Rules.{rules}
 use Rattle.tile.proofs.cells.rotated.Goals as goal
 
 pub returns-then-i-j : goal.returns-then-i-j

@@ -1,5 +1,4 @@
 use Rattle.tile.specs.Turned.{both_turned}
-use borrow.Author.Rules.{rules}
 use Rattle.tile.proofs.cells.turn_both.Goals as goal
 
 pub returns-then-above : goal.returns-then-above

@@ -1,6 +1,5 @@
 use Rattle.runs.specs.Blocks.{columns_block}
 use Rattle.tile.specs.Turned.{columns_turned}
-use borrow.Author.Rules.{rules}
 use Rattle.tile.proofs.cells.turn_columns.Goals as goal
 
 pub returns-in-Still : goal.returns-in-Still

@@ -1,5 +1,4 @@
 use Rattle.tile.specs.Turned.{rows_turned}
-use borrow.Author.Rules.{rules}
 use Rattle.tile.proofs.cells.turn_rows.Goals as goal
 
 pub returns-in-Still : goal.returns-in-Still

@@ -1,4 +1,3 @@
-use borrow.Author.Rules.{rules}
 use Rattle.tile.proofs.cells.worked.Goals as goal
 
 pub returns-then-rotates : goal.returns-then-rotates
