@@ -2,7 +2,6 @@ use native.Mathlib.Omega.{arith}
 use Rattle.matrix_turns.proofs.LinePairs.{are_two, two_as}
 use Rattle.plain_pair.proofs.TurnedStates.{pair_set}
 use Rattle.plain_pair.proofs.set_pair.Goals as goal
-use Rattle.plain_pair.proofs.set_pair.Goals.{After-set_entry-arg-2-1}
 
 pub set_entry-requires : goal.set_entry-requires
 set_entry-requires c =

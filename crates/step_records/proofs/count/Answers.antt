@@ -1,4 +1,3 @@
-use borrow.Author.Rules.{rules}
 use Rattle.step_records.proofs.count.Goals as goal
 
 pub returns-in-Accepted : goal.returns-in-Accepted

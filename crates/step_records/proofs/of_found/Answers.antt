@@ -1,4 +1,3 @@
-use borrow.Author.Rules.{rules}
 use Rattle.step_records.proofs.of_found.Goals as goal
 
 pub returns-in-Still : goal.returns-in-Still

@@ -1,9 +1,8 @@
+use native.Mathlib.Omega.{arith}
 use mathlib.Core.Path.{ap, ◌∙◌}
-use lib.ListN.{length-map}
 use Rattle.runs.specs.Blocks.{ruled_found}
 use Rattle.step_records.proofs.AbsentProcessor.{no_processor}
 use Rattle.step_records.specs.Records.{record_of, record_at}
-use borrow.Author.Rules.{rules}
 use Rattle.step_records.proofs.of_processor.Goals as goal
 
 pub returns-then-k-lt-MOST_PROCESSORS : goal.returns-then-k-lt-MOST_PROCESSORS
@@ -13,6 +12,5 @@ returns-then-k-lt-MOST_PROCESSORS c =
 
 pub returns : goal.returns
 returns c =
-    let g = c.well_formed.1.1.0.1.1 in
     c.of_found-2.ensures ∙ ap record_of c.found.ensures
-    ∙ no_processor _ _ c.args.registers _ (simp length-map at g.0.1.0.1) (simp length-map at g.1.0.1.0.1) c.if-k-lt-MOST_PROCESSORS.false
+    ∙ no_processor _ _ c.args.registers _ (omega arith) (omega arith) c.if-k-lt-MOST_PROCESSORS.false
