@@ -1,22 +1,16 @@
--- The loop over ticks keeps the order, the sweeps and the number of tiles; the tiles are those after the ticks made so far. Its measure is how
--- many ticks are left. Of the two loops in it the first has turned the tiles before k, the second has set their wires; the measure of each is
--- how many places are left. All known cosines stay those of their tangents.
-use borrow.Author.Rules.{rules}
-use Prim.Native.Nat.{◌+◌, ◌-◌, ◌*◌, ◌≤◌, ◌<◌}
-use mathlib.Core.Path.{◌≡◌, refl, sym, ◌∙◌}
-use native.Mathlib.Omega.{arith}
-use borrow.Author.Tests.{not-true, not-false}
-use lib.ListN.{length, length-map}
-use Rattle.lists.proofs.Replaced.{Replaced, replaced_none, replaced_next, replaced_skip}
-use Rattle.sizes.specs.Sizes.{most_processors, largest_order, most_sweeps}
-use Rattle.sizes.proofs.Orders.{order_half, steps_few}
+-- The loop over ticks keeps the order, the sweeps and the number of tiles; the tiles are those after the ticks made so far.
+-- Of the two loops in it the first has turned the tiles before k, the second has set their wires. All known cosines stay those
+-- of their tangents.
+use Prim.Native.Nat.{◌+◌, ◌-◌, ◌*◌, ◌≤◌}
+use mathlib.Core.Path.{◌≡◌}
+use lib.ListN.{length}
+use Rattle.lists.proofs.Replaced.{Replaced}
+use Rattle.sizes.specs.Sizes.{most_processors}
 use Rattle.runs.specs.Cells.{setting}
 use Rattle.array.specs.Angles.{Known}
-use Rattle.array.specs.Arrays.{no_quad, no_part, no_tile, Inside}
-use Rattle.array.proofs.TickedTiles.{Spot, spot_inside, in_use, column_unused, turned_at, turned_unused, not_turned, turned_in}
-use Rattle.array.proofs.TickedTiles.{settled_at, settled_in, settled_unused, tick_made}
-use Rattle.array.proofs.AngleTable.{known_alike}
-use Rattle.array.proofs.TicksInARow.{tiles_from, tiles_none, tiles_next, after_is}
+use Rattle.array.specs.Arrays.{no_tile}
+use Rattle.array.proofs.TickedTiles.{turned_at, settled_at}
+use Rattle.array.proofs.TicksInARow.{tiles_from}
 use Rattle.array.proofs.Array.after.Given as goal
 
 abbrev pub invariant-loop-k : goal.invariant-loop-k

@@ -1,6 +1,5 @@
 use Rattle.lists.specs.Tabulate.{tabulate}
 use Rattle.array.proofs.ArrayStart.{all_alike, none_is}
-use borrow.Author.Rules.{rules}
 use Rattle.array.proofs.Array.none.Goals as goal
 
 pub returns : goal.returns

@@ -1,11 +1,6 @@
-use borrow.Author.Rules.{rules}
-use Prim.Native.Nat.{◌-◌, ◌*◌, ◌/◌, ◌%◌, ◌≤◌}
 use mathlib.Core.Path.{refl}
 use native.Mathlib.Omega.{arith}
-use Rattle.lists.proofs.Filled.{Filled, filled_none, filled_next, filled_all}
-use Rattle.sizes.specs.Sizes.{most_processors}
-use Rattle.tile_start.specs.Beginning.{start_tile}
-use Rattle.array.specs.Arrays.{no_tile}
+use Rattle.lists.proofs.Filled.{filled_none, filled_next, filled_all}
 use Rattle.array.proofs.ArrayStart.{start_is}
 use Rattle.array.proofs.Array.of_matrix.Goals as goal
 

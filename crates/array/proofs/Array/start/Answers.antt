@@ -1,7 +1,6 @@
 use mathlib.Core.Path.{sym, ap, ◌∙◌}
 use Rattle.refusal.specs.Answers.{answered}
 use Rattle.array.proofs.TicksInARow.{starts_accepted, starts_refused}
-use borrow.Author.Rules.{rules}
 use Rattle.array.proofs.Array.start.Goals as goal
 
 pub returns-in-Accepted : goal.returns-in-Accepted

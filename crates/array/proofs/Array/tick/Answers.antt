@@ -1,7 +1,6 @@
 use mathlib.Core.Path.{sym, ap, ◌∙◌}
 use Rattle.tile_schedule.specs.Answers.{progress_answered}
 use Rattle.array.proofs.TickedArray.{stopped_stays, refused_stays, made_moves, one_more}
-use borrow.Author.Rules.{rules}
 use Rattle.array.proofs.Array.tick.Goals as goal
 
 pub returns-in-Stopped : goal.returns-in-Stopped

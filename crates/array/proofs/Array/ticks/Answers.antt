@@ -1,6 +1,5 @@
 use native.Mathlib.Omega.{arith}
 use Rattle.array.proofs.ArrayEnd.{none_made, goes_on, all_left}
-use borrow.Author.Rules.{rules}
 use Rattle.array.proofs.Array.ticks.Goals as goal
 
 pub returns-then-left-eq0 : goal.returns-then-left-eq0

@@ -1,5 +1,4 @@
 use Rattle.array.proofs.AngleTable.{known_at, known_next}
-use borrow.Author.Rules.{rules}
 use Rattle.array.proofs.angles.known.Goals as goal
 
 pub returns-then-along-other : goal.returns-then-along-other

@@ -1,7 +1,6 @@
 use mathlib.Core.Path.{sym, subst, ◌∙◌}
 use lib.Dec.{T}
 use Rattle.array.proofs.AngleTable.{same_angle}
-use borrow.Author.Rules.{rules}
 use Rattle.array.proofs.angles.recalled.Goals as goal
 
 pub returns-then-same_bits : goal.returns-then-same_bits

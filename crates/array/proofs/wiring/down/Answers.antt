@@ -1,5 +1,4 @@
 use Rattle.array.proofs.TileNeighbours.{down_last, down_other}
-use borrow.Author.Rules.{rules}
 use Rattle.array.proofs.wiring.down.Goals as goal
 
 pub returns-then-i-last : goal.returns-then-i-last

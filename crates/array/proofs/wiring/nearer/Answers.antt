@@ -1,5 +1,4 @@
 use Rattle.array.proofs.TileNeighbours.{nearer_back, nearer_on, nearer_here}
-use borrow.Author.Rules.{rules}
 use Rattle.array.proofs.wiring.nearer.Goals as goal
 
 pub returns-then-i-j : goal.returns-then-i-j

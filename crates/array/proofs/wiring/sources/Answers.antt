@@ -1,6 +1,5 @@
 use native.Mathlib.Omega.{arith}
 use Rattle.array.proofs.TileNeighbours.{down_le, nearer_le, near_is}
-use borrow.Author.Rules.{rules}
 use Rattle.array.proofs.wiring.sources.Goals as goal
 
 pub overflow_add-result-2 : goal.overflow_add-result-2
