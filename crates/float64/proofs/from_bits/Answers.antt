@@ -1,6 +1,5 @@
 use mathlib.Core.Path.{◌∙◌}
 use Rattle.float64.proofs.Nan.{nan_pattern, no_nan_pattern}
-use borrow.Author.Rules.{rules}
 use Rattle.float64.proofs.from_bits.Goals as goal
 
 pub returns-then-b-gt9218868437227405312 : goal.returns-then-b-gt9218868437227405312

@@ -1,4 +1,3 @@
-use borrow.Author.Rules.{rules}
 use Rattle.float64.proofs.same_bits.Goals as goal
 
 pub returns : goal.returns

@@ -1,5 +1,4 @@
 use Rattle.float64.proofs.Nan.{nan_bits_lem, no_nan}
-use borrow.Author.Rules.{rules}
 use Rattle.float64.proofs.to_bits.Goals as goal
 
 pub returns-then-x : goal.returns-then-x

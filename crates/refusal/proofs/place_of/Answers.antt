@@ -1,4 +1,3 @@
-use borrow.Author.Rules.{rules}
 use Rattle.refusal.proofs.place_of.Goals as goal
 
 pub returns-in-NotFinite : goal.returns-in-NotFinite

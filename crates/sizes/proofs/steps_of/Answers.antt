@@ -1,6 +1,5 @@
 use mathlib.Core.Path.{ap}
 use Prim.Native.Nat.{◌*◌}
-use borrow.Author.Rules.{rules}
 use Rattle.sizes.proofs.Orders.{steps_fit}
 use Rattle.sizes.proofs.steps_of.Goals as goal
 

@@ -1,7 +1,5 @@
 use mathlib.Core.Path.{sym, ◌∙◌}
 use native.Mathlib.Omega.{arith}
-use borrow.Author.Rules.{rules}
-use borrow.Author.Tests.{not-true, not-false}
 use Rattle.sizes.proofs.Orders.{refused_1, refused_2, sizes_fine}
 use Rattle.sizes.proofs.tested.Goals as goal
 

@@ -1,5 +1,4 @@
 use native.Mathlib.Omega.{arith}
-use borrow.Author.Rules.{rules}
 use Rattle.sizes.proofs.Orders.{steps_few, order_half}
 use Rattle.sizes.proofs.ticks_of.Goals as goal
 

@@ -1,5 +1,4 @@
 use Rattle.tile_wires.specs.Wires.{part_wires}
-use borrow.Author.Rules.{rules}
 use Rattle.tile_wires.proofs.after.Goals as goal
 
 pub returns : goal.returns

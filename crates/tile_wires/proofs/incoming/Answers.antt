@@ -1,5 +1,4 @@
 use Rattle.tile_wires.specs.Wires.{incoming_part}
-use borrow.Author.Rules.{rules}
 use Rattle.tile_wires.proofs.incoming.Goals as goal
 
 pub returns : goal.returns

@@ -1,5 +1,4 @@
 use Rattle.tile_wires.specs.Wires.{incoming_quad}
-use borrow.Author.Rules.{rules}
 use Rattle.tile_wires.proofs.incoming_quad.Goals as goal
 
 pub returns : goal.returns

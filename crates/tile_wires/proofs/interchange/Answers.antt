@@ -1,6 +1,5 @@
 use Rattle.tile_wires.specs.Wires.{interchanged}
 use borrow.Author.Tests.{eq-eqb, ne_eqb}
-use borrow.Author.Rules.{rules}
 use Rattle.tile_wires.proofs.interchange.Goals as goal
 
 pub returns-then-i-eq0 : goal.returns-then-i-eq0

@@ -1,5 +1,4 @@
 use Rattle.tile_wires.specs.Wires.{wires_of}
-use borrow.Author.Rules.{rules}
 use Rattle.tile_wires.proofs.quad_after.Goals as goal
 
 pub returns : goal.returns

@@ -1,6 +1,5 @@
 use mathlib.Core.Path.{sym, ◌∙◌}
 use Rattle.tile_wires.specs.Wires.{edge_of}
-use borrow.Author.Rules.{rules}
 use Rattle.tile_wires.proofs.phases.edge.Goals as goal
 
 pub returns-then-is_either-2 : goal.returns-then-is_either-2

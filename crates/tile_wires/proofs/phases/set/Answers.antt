@@ -1,6 +1,5 @@
 use Rattle.tile_wires.specs.Wires.{set_of}
 use borrow.Author.Tests.{ne_eqb}
-use borrow.Author.Rules.{rules}
 use Rattle.tile_wires.proofs.phases.set.Goals as goal
 
 pub returns-in-0 : goal.returns-in-0
