@@ -151,7 +151,8 @@ entries_back n sweeps codes l lb fitting e =
 -- What a writer accepts is read back as the same codes, sweeps and entries.
 pub read_back : (n sweeps : ℕ) (codes : List ℕ) (l : List Float) (lb : ℕ) → Codes16 codes → ((k : ℕ) → T (fits binary64 (get_or l k nan)))
     → write_answer n sweeps codes l lb ≡ given tt
-    → (c : List ℕ) (m : List Float) → length c ≡ n → length m ≡ n * n → read_of (sheet_of n sweeps codes (at n l)) c m ≡ read_outcome (given (n, sweeps)) codes l
+    → (c : List ℕ) (m : List Float) → length c ≡ n → length m ≡ n * n
+    → read_of (sheet_of n sweeps codes (at n l)) c m ≡ read_outcome (given (n, sweeps)) codes l
 read_back n sweeps codes l lb fit fitting e c m lc lm = sym (read_accepted_as b c m (sym accepted) (sym content))
   where
     b : List ℕ
@@ -278,13 +279,15 @@ write_back b small lc lm e lent o =
     long r = ap (λ (v : ℕ). sheet_length v (order_in b)) (width_kept b lc lm r small) ∙ sym r.sheet_long
 
     written : (r : Readable b lc lm)
-        → written_of (order_in b) (sweeps_in b) (codes_in b) (flat (order_in b) (entry_in b)) lent ≡ write_outcome (given (length b)) (b ++ drop (length b) lent)
+        → written_of (order_in b) (sweeps_in b) (codes_in b) (flat (order_in b) (entry_in b)) lent
+        ≡ write_outcome (given (length b)) (b ++ drop (length b) lent)
     written r = unfold overwritten in (rw (long r, sheet_again b small lc lm r _ (stored_value b small lc lm r)))
 
 -- ---- the same of what the two calls leave
 -- the answer of a writing is that of its tests
 pub writes : (n sweeps : ℕ) (codes : List ℕ) (l : List Float) (b : List ℕ) (count : ℕ) → (write_of n sweeps codes l b).answer ≡ given count
-    → (write_answer n sweeps codes l (length b) ≡ given tt) × ((write_of n sweeps codes l b).bytes ≡ overwritten n sweeps codes l b) × (count ≡ length_for n codes)
+    → (write_answer n sweeps codes l (length b) ≡ given tt) × ((write_of n sweeps codes l b).bytes ≡ overwritten n sweeps codes l b)
+    × (count ≡ length_for n codes)
 unfolding write_of
 writes n sweeps codes l b count = go (write_answer n sweeps codes l (length b)) (overwritten n sweeps codes l b) (length_for n codes)
   where

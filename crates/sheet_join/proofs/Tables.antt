@@ -53,9 +53,9 @@ pub record Joinable (b d : List ℕ) (lb : ℕ) : Type 0 where
   pub order : is_order (joint_order b d) ≡ true
   pub room : joint_length b d ≤ lb
 
-is_order : (x : Bool) → row (not x) Order ≡ given tt → x ≡ true
-is_order true e = refl
-is_order false e = refused_given e
+row_is_order : (x : Bool) → row (not x) Order ≡ given tt → x ≡ true
+row_is_order true e = refl
+row_is_order false e = refused_given e
 
 pub joinable : (b d : List ℕ) (lb : ℕ) → join_answer b d lb ≡ given tt → Joinable b d lb
 unfolding join_answer
@@ -69,7 +69,7 @@ joinable b d lb e =
       first_good = first.0;
       second_good = second.0;
       apart = row_given _ SharedCode codes.0;
-      order = is_order _ order.0;
+      order = row_is_order _ order.0;
       room = ltb-false _ _ (row_given _ TooShort room.0);
     }
 

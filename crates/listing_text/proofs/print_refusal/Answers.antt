@@ -8,17 +8,17 @@ use Rattle.listing_text.proofs.print_refusal.Goals as goal
 use Rattle.listing_text.proofs.print_refusal.Goals.{After-number}
 
 -- the number of a refusal has at most 4 digits
-number-few : (c : After-number) → length (decimal_of c.number.result) ≤ 4
-number-few c = at_most_four _ (omega arith)
+number_few : (c : After-number) → length (decimal_of c.number.result) ≤ 4
+number_few c = at_most_four _ (omega arith)
 
 pub returns-then-out-lt13 : goal.returns-then-out-lt13
 returns-then-out-lt13 c = refusal_not_printed _ _ (omega arith)
 
 pub put_decimal-number-requires : goal.put_decimal-number-requires
-put_decimal-number-requires c = omega (arith, number-few (goal.at.put_decimal-number-requires c).After-number)
+put_decimal-number-requires c = omega (arith, number_few (goal.at.put_decimal-number-requires c).After-number)
 
 pub put-requires : goal.put-requires
-put-requires c = omega (arith, number-few (goal.at.put-requires c).After-number)
+put-requires c = omega (arith, number_few (goal.at.put-requires c).After-number)
 
 pub returns : goal.returns
 returns c =

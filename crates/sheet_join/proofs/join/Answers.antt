@@ -1,4 +1,3 @@
-use borrow.Author.Rules.{rules}
 use mathlib.Core.Path.{sym, ap, ◌∙◌}
 use Rattle.refusal.specs.Answers.{answered}
 use Rattle.sheet_join.proofs.JoinOutcomes.{join_refused, join_accepted_as}

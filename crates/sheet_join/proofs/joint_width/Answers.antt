@@ -1,4 +1,3 @@
-use borrow.Author.Rules.{rules}
 use mathlib.Core.Path.{sym, ◌∙◌}
 use Rattle.sheet_join.proofs.JointContents.{long_with_first, as_second}
 use Rattle.sheet_join.proofs.joint_width.Goals as goal

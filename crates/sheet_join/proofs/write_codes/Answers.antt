@@ -1,39 +1,32 @@
-use Prim.Native.Nat.{◌-◌, ◌*◌, ◌≤◌}
+use Prim.Native.Nat.{◌*◌, ◌≤◌}
 use mathlib.Core.Path.{◌≡◌, refl, ◌∙◌}
 use native.Mathlib.Omega.{arith}
-use lib.ListN.{length}
 use Rattle.sizes.specs.Sizes.{largest_order}
 use Rattle.sheet.proofs.Triangle.{few_codes, code_ends}
-use Rattle.sheet_writer.specs.Steps.{with_codes}
 use Rattle.sheet_writer.proofs.SheetBytes.{bytes_long, codes_none, codes_next}
-use Rattle.sheet_join.specs.Join.{joint_codes}
 use Rattle.sheet_join.proofs.write_codes.Goals as goal
-use Rattle.sheet_join.proofs.write_codes.Goals.{At-loop-k, In-loop-k, Start}
-
-abbrev at_start : At-loop-k → Start
-at_start c = c.before.before.before.before
+use Rattle.sheet_join.proofs.write_codes.Goals.{In-loop-k}
 
 -- the bytes before the code are few
-few : (c : In-loop-k) → (at_start c.before).args.width * c.loop-k.k ≤ 2 * largest_order
-few c = let pre = (at_start c.before).pre in few_codes _ _ pre.4 (omega (arith, pre.2))
+few : (c : In-loop-k) → c.args.width * c.loop-k.k ≤ 2 * largest_order
+few c = let pre = c.requires in few_codes _ _ pre.4 (omega (arith, pre.2))
 
 pub loop-k-init : goal.loop-k-init
 loop-k-init c = (omega arith, refl, codes_none _ _ _)
 
 pub joint_code-requires : goal.joint_code-requires
-joint_code-requires c = let pre = (at_start c.before).pre in (pre.0, omega (arith, pre.1))
+joint_code-requires c = let pre = c.requires in (pre.0, omega (arith, pre.1))
 
 pub overflow_mul-width : goal.overflow_mul-width
-overflow_mul-width c = omega (arith, few c.before)
+overflow_mul-width c = omega (arith, few (goal.at.overflow_mul-width c).In-loop-k)
 
 pub overflow_add-width : goal.overflow_add-width
-overflow_add-width c = omega (arith, few c.before)
+overflow_add-width c = omega (arith, few (goal.at.overflow_add-width c).In-loop-k)
 
 pub put_code-requires : goal.put_code-requires
 put_code-requires c =
-    let start = at_start c.before.before.before in
-    let ends = code_ends start.args.width start.args.n c.loop-k.k (omega arith) in
-    (start.pre.3, start.pre.4, omega (arith, ends, start.pre.5, c.loop-k.invariant.1))
+    let ends = code_ends c.args.width c.args.n c.loop-k.k (omega arith) in
+    (c.requires.3, c.requires.4, omega (arith, ends, c.requires.5, c.loop-k.invariant.1))
 
 pub loop-k-preserved : goal.loop-k-preserved
 loop-k-preserved c =
@@ -45,5 +38,5 @@ loop-k-preserved c =
 
 pub returns : goal.returns
 returns c =
-    let all : c.loop-k.k ≡ (at_start c.before).args.n = omega arith in
+    let all : c.loop-k.k ≡ c.args.n = omega arith in
     rw all at c.loop-k.invariant.2

@@ -1,15 +1,10 @@
 use Prim.Native.Nat.{ℕ, ◌+◌, ◌-◌, ◌*◌, ◌≤◌}
-use mathlib.Core.Path.{◌≡◌, refl, ◌∙◌}
+use mathlib.Core.Path.{◌≡◌}
 use mathlib.Core.List.{List}
-use native.Mathlib.Omega.{arith}
 use lib.ListN.{length}
-use lib.Ieee.{Float, binary64, to_bits}
-use Rattle.sizes.specs.Sizes.{largest_order}
 use Rattle.matrix.specs.Matrix.{at}
-use Rattle.sheet.specs.Format.{sheet_length, entries_from, entries_to}
-use Rattle.sheet.proofs.Triangle.{entry_within, few_codes, few_entries, offset_start, offset_row}
+use Rattle.sheet.specs.Format.{entries_from, entries_to}
 use Rattle.sheet_writer.specs.Steps.{with_entries}
-use Rattle.sheet_writer.proofs.SheetBytes.{entries_none, entries_next, row_none, row_all, bytes_long}
 use Rattle.sheet_join.specs.Join.{joint_matrix}
 use Rattle.sheet_join.proofs.write_entries.Given as goal
 

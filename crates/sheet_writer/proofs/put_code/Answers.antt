@@ -1,7 +1,6 @@
 use native.Mathlib.Omega.{arith}
 use lib.ListN.{length-set}
 use Rattle.sheet_writer.proofs.SheetBytes.{short_put, long_put}
-use borrow.Author.Rules.{rules}
 use Rattle.sheet_writer.proofs.put_code.Goals as goal
 
 pub returns-then-width-eq1 : goal.returns-then-width-eq1

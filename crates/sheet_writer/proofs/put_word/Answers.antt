@@ -1,7 +1,6 @@
 use native.Mathlib.Omega.{arith}
 use lib.ListN.{length-set}
 use Rattle.sheet_writer.proofs.SheetBytes.{word_put}
-use borrow.Author.Rules.{rules}
 use Rattle.sheet_writer.proofs.put_word.Goals as goal
 
 pub bounds-bytes-at-2 : goal.bounds-bytes-at-2

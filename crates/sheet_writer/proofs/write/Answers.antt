@@ -1,7 +1,6 @@
 use mathlib.Core.Path.{sym, ap, ◌∙◌}
 use Rattle.refusal.specs.Answers.{answered}
 use Rattle.sheet_writer.proofs.SheetBytes.{write_refused, write_accepted_as}
-use borrow.Author.Rules.{rules}
 use Rattle.sheet_writer.proofs.write.Goals as goal
 
 pub write_accepted-requires : goal.write_accepted-requires

@@ -1,10 +1,9 @@
-use Prim.Native.Nat.{◌-◌, ◌*◌, ◌≤◌}
+use Prim.Native.Nat.{◌*◌, ◌≤◌}
 use mathlib.Core.Path.{◌≡◌, refl, ◌∙◌}
 use native.Mathlib.Omega.{arith}
 use lib.ListN.{length}
 use Rattle.sizes.specs.Sizes.{largest_order}
 use Rattle.sheet.proofs.Triangle.{few_codes}
-use Rattle.sheet_writer.specs.Steps.{with_codes}
 use Rattle.sheet.proofs.Triangle.{code_ends}
 use Rattle.sheet_writer.proofs.SheetBytes.{bytes_long, codes_none, codes_next}
 use Rattle.sheet_writer.proofs.write_codes.Goals as goal
@@ -18,10 +17,10 @@ pub loop-k-init : goal.loop-k-init
 loop-k-init c = (omega arith, refl, codes_none _ _ _)
 
 pub overflow_mul-width : goal.overflow_mul-width
-overflow_mul-width c = omega (arith, few c.before)
+overflow_mul-width c = omega (arith, few (goal.at.overflow_mul-width c).In-loop-k)
 
 pub overflow_add-width : goal.overflow_add-width
-overflow_add-width c = omega (arith, few c.before)
+overflow_add-width c = omega (arith, few (goal.at.overflow_add-width c).In-loop-k)
 
 pub put_code-requires : goal.put_code-requires
 put_code-requires c =

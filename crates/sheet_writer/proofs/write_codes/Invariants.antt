@@ -1,12 +1,7 @@
-use Prim.Native.Nat.{◌-◌, ◌*◌, ◌≤◌}
-use mathlib.Core.Path.{◌≡◌, refl, ◌∙◌}
-use native.Mathlib.Omega.{arith}
+use Prim.Native.Nat.{◌≤◌}
+use mathlib.Core.Path.{◌≡◌}
 use lib.ListN.{length}
-use Rattle.sizes.specs.Sizes.{largest_order}
-use Rattle.sheet.proofs.Triangle.{few_codes}
 use Rattle.sheet_writer.specs.Steps.{with_codes}
-use Rattle.sheet.proofs.Triangle.{code_ends}
-use Rattle.sheet_writer.proofs.SheetBytes.{bytes_long, codes_none, codes_next}
 use Rattle.sheet_writer.proofs.write_codes.Given as goal
 
 -- The first k codes are written, and nothing else has changed; the other codes are left.

@@ -1,39 +1,24 @@
-use borrow.Author.Rules.{rules}
-use Prim.Native.Nat.{ℕ, ◌+◌, ◌-◌, ◌*◌, ◌≤◌}
+use Prim.Native.Nat.{◌+◌, ◌≤◌}
 use mathlib.Core.Path.{◌≡◌, refl, ◌∙◌}
-use mathlib.Core.List.{List}
 use native.Mathlib.Omega.{arith}
-use lib.ListN.{length}
-use Rattle.sizes.specs.Sizes.{largest_order}
-use Rattle.matrix.specs.Matrix.{at}
 use Rattle.matrix.proofs.EntryPlaces.{entry_in}
-use Rattle.sheet.specs.Format.{sheet_length, entries_from, entries_to}
+use Rattle.sheet.specs.Format.{sheet_length}
 use Rattle.sheet.proofs.Triangle.{entry_within, few_codes, few_entries, offset_start, offset_row}
-use Rattle.sheet_writer.specs.Steps.{with_entries}
 use Rattle.sheet_writer.proofs.SheetBytes.{entries_none, entries_next, row_none, row_all, bytes_long}
 use Rattle.sheet_writer.proofs.write_entries.Goals as goal
-use Rattle.sheet_writer.proofs.write_entries.Goals.{In-loop-j, Start}
-
-abbrev at_start : In-loop-j → Start
-at_start c = c.before.before.before.before.before.before
+use Rattle.sheet_writer.proofs.write_entries.Goals.{In-loop-j}
 
 -- there is room for the entry
-room : (c : In-loop-j) → c.loop-j.offset + 8 ≤ sheet_length (at_start c).args.width (at_start c).args.n
+room : (c : In-loop-j) → c.loop-j.offset + 8 ≤ sheet_length c.args.width c.args.n
 room c =
     let u = c.loop-j.invariant in
-    let at-loop = c.before.before.before in
-    entry_within _ _ at-loop.loop.i c.loop-j.j (omega arith) (omega arith) (omega (arith, u.2, at-loop.loop.invariant.2))
-
--- the bytes of a sheet are few
-few_bytes : (c : Start) → let a = c.args in
-    (a.width * a.n ≤ 2 * largest_order) × (4 * a.n * (a.n + 1) ≤ 4 * largest_order * (largest_order + 1))
-few_bytes c = (few_codes _ _ c.requires.0 c.requires.1, (few_entries _ c.requires.1).1)
+    entry_within _ _ c.loop-i.i c.loop-j.j (omega arith) (omega arith) (omega (arith, u.2, c.loop-i.invariant.2))
 
 pub overflow_mul-offset : goal.overflow_mul-offset
-overflow_mul-offset c = omega (arith, (few_bytes c.before.before).0)
+overflow_mul-offset c = omega (arith, few_codes _ _ c.requires.0 c.requires.1)
 
 pub overflow_add-offset : goal.overflow_add-offset
-overflow_add-offset c = omega (arith, (few_bytes c.before.before).0)
+overflow_add-offset c = omega (arith, few_codes _ _ c.requires.0 c.requires.1)
 
 pub loop-i-init : goal.loop-i-init
 loop-i-init c = (omega arith, refl, offset_start _ _, entries_none _ _ _ _)
@@ -43,19 +28,16 @@ loop-j-init c = (omega arith, refl, omega arith, λ b e. row_none _ _ _ b _ e)
 
 pub put_word-requires : goal.put_word-requires
 put_word-requires c =
-    let u = c.loop-j.invariant in
-    let v = c.loop-i.invariant in
-    omega (arith, room c.before.before.before)
+    omega (arith, room (goal.at.put_word-requires c).In-loop-j)
 
 pub overflow_add-offset-in-loop-j : goal.overflow_add-offset-in-loop-j
 overflow_add-offset-in-loop-j c =
-    let few = few_bytes (at_start c.before.before.before.before.before.before) in
-    omega (arith, room c.before.before.before.before.before.before, few.0, few.1)
+    omega (arith, room (goal.at.overflow_add-offset-in-loop-j c).In-loop-j, few_codes _ _ c.requires.0 c.requires.1, (few_entries _ c.requires.1).1)
 
 pub loop-j-preserved : goal.loop-j-preserved
 loop-j-preserved c =
     let u = c.loop-j.invariant in
-    let entry = c.entry.ensures ∙ entry_in _ _ _ _ (at_start c.before.before.before.before.before.before).requires.2 (omega arith) (omega arith) in (
+    let entry = c.entry.ensures ∙ entry_in _ _ _ _ c.requires.2 (omega arith) (omega arith) in (
       omega arith,
       bytes_long _ _ _ _ _ c.put_word.ensures ∙ u.1,
       omega arith,

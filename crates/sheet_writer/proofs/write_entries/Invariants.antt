@@ -1,16 +1,10 @@
-use borrow.Author.Rules.{rules}
 use Prim.Native.Nat.{ℕ, ◌+◌, ◌-◌, ◌*◌, ◌≤◌}
-use mathlib.Core.Path.{◌≡◌, refl, ◌∙◌}
+use mathlib.Core.Path.{◌≡◌}
 use mathlib.Core.List.{List}
-use native.Mathlib.Omega.{arith}
 use lib.ListN.{length}
-use Rattle.sizes.specs.Sizes.{largest_order}
 use Rattle.matrix.specs.Matrix.{at}
-use Rattle.matrix.proofs.EntryPlaces.{entry_in}
-use Rattle.sheet.specs.Format.{sheet_length, entries_from, entries_to}
-use Rattle.sheet.proofs.Triangle.{entry_within, few_codes, few_entries, offset_start, offset_row}
+use Rattle.sheet.specs.Format.{entries_from, entries_to}
 use Rattle.sheet_writer.specs.Steps.{with_entries}
-use Rattle.sheet_writer.proofs.SheetBytes.{entries_none, entries_next, row_none, row_all, bytes_long}
 use Rattle.sheet_writer.proofs.write_entries.Given as goal
 
 -- In the inner loop the first j entries of row i + 1 are written and i + 1 - j are left, in the outer loop those of the first i rows are and
@@ -18,7 +12,8 @@ use Rattle.sheet_writer.proofs.write_entries.Given as goal
 abbrev pub invariant-loop-j : goal.invariant-loop-j
 invariant-loop-j l =
     (l.j ≤ l.i + 1) × (length l.sheet ≡ length l.initial.sheet) × (l.offset ≡ l.initial.offset + 8 * l.j)
-    × ((b : List ℕ) → l.initial.sheet ≡ with_entries l.width l.n (at l.n l.matrix) (entries_to l.i) b → l.sheet ≡ with_entries l.width l.n (at l.n l.matrix) (entries_to l.i + l.j) b)
+    × ((b : List ℕ) → l.initial.sheet ≡ with_entries l.width l.n (at l.n l.matrix) (entries_to l.i) b
+    → l.sheet ≡ with_entries l.width l.n (at l.n l.matrix) (entries_to l.i + l.j) b)
 
 abbrev pub invariant-loop-i : goal.invariant-loop-i
 invariant-loop-i l =
