@@ -28,7 +28,7 @@ use Rattle.systolic.proofs.Lines.{in_order_one}
 use Rattle.systolic.proofs.Agreement.{kept_sequential, agreement}
 use Rattle.sizes.specs.Sizes.{most_sweeps, is_order, processors_of, first_line, lines_of, steps_of, ticks_of}
 use Rattle.sizes.proofs.Orders.{order_is, order_half, sweep_is, steps_few}
-use Rattle.matrix.specs.Matrix.{at, flat}
+use Rattle.matrix.specs.Matrix.{flat}
 use Rattle.matrix.proofs.SameEntries.{Line, flat_same}
 use Rattle.runs.specs.State.{State, start_of, zeros}
 use Rattle.plain_run.specs.State.{after, not_finite, spoiled}
