@@ -12,11 +12,6 @@ use Rattle.capi.proofs.Listing.{record_of, record_put, records_put, flag_put, fl
 use borrow.Author.Rules.{rules}
 use Rattle.sizes.specs.Sizes.{processors_of}
 use Rattle.capi.proofs.rows.put_records.Goals as goal
-use Rattle.capi.proofs.rows.put_records.Goals.{After-flag_byte, After-put_record}
-
--- where the values of the record are written
-abbrev at-put : After-flag_byte → After-put_record
-at-put c = c.before.before.before
 
 pub loop-k-init : goal.loop-k-init
 loop-k-init c =
@@ -27,22 +22,18 @@ pub put_record-requires : goal.put_record-requires
 put_record-requires c = omega (arith, c.loop-k.invariant.5.long)
 
 pub bounds-exact-k : goal.bounds-exact-k
-bounds-exact-k c =
-    let i = (at-put c).before.before.before.before.loop.invariant in
-    omega (arith, i.6.long)
+bounds-exact-k c = omega (arith, c.loop-k.invariant.6.long)
 
 pub loop-k-preserved : goal.loop-k-preserved
 loop-k-preserved c =
-    let put = at-put c in
-    let found = put.before.before in
-    let i = found.before.before.loop.inv in
-    let x = record_of _ _ _ _ _ _ i.4 found.of-processor.ensures in (
+    let i = c.loop-k.invariant in
+    let x = record_of _ _ _ _ _ _ i.4 c.of_processor-fields.ensures in (
       omega arith,
       i.1,
       i.2,
       i.3,
       i.4,
-      record_put _ _ _ _ _ _ _ _ x i.5 (omega arith) put.put_record.ensures,
+      record_put _ _ _ _ _ _ _ _ x i.5 (omega arith) c.put_record.ensures,
       flag_put _ _ _ _ _ _ _ _ x c.flag_byte.ensures i.6 (omega arith),
     )
 
