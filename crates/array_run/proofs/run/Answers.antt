@@ -1,7 +1,6 @@
 use mathlib.Core.Path.{sym, ap, ◌∙◌}
 use Rattle.refusal.specs.Answers.{answered}
 use Rattle.array_run.proofs.WholeRuns.{whole_refused, whole_accepted}
-use borrow.Author.Rules.{rules}
 use Rattle.array_run.proofs.run.Goals as goal
 
 pub run_accepted-requires : goal.run_accepted-requires

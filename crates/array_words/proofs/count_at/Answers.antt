@@ -1,5 +1,4 @@
 use Rattle.array_words.proofs.ArrayRead.{count_above, count_within}
-use borrow.Author.Rules.{rules}
 use Rattle.array_words.proofs.count_at.Goals as goal
 
 pub returns-then-word : goal.returns-then-word

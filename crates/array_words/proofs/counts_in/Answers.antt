@@ -1,5 +1,4 @@
 use Rattle.array_words.specs.Words.{counts_in}
-use borrow.Author.Rules.{rules}
 use Rattle.array_words.proofs.counts_in.Goals as goal
 
 pub returns : goal.returns

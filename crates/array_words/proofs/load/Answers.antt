@@ -1,11 +1,6 @@
-use Prim.Native.Nat.{◌+◌, ◌-◌, ◌*◌, ◌≤◌}
 use mathlib.Core.Path.{refl}
 use native.Mathlib.Omega.{arith}
-use borrow.Author.Rules.{rules}
-use Rattle.lists.proofs.Filled.{Filled, filled_none, filled_next, filled_all}
-use Rattle.sizes.specs.Sizes.{most_processors}
-use Rattle.array.specs.Arrays.{no_tile}
-use Rattle.array_words.specs.Words.{tile_words, tile_in}
+use Rattle.lists.proofs.Filled.{filled_none, filled_next, filled_all}
 use Rattle.array_words.proofs.ArrayRead.{loaded}
 use Rattle.array_words.proofs.load.Goals as goal
 

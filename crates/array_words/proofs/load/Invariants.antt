@@ -1,19 +1,15 @@
 -- The tiles before i are those in the words. The measure is how many tiles are left.
 use Prim.Native.Nat.{◌+◌, ◌-◌, ◌*◌, ◌≤◌}
-use mathlib.Core.Path.{refl}
-use native.Mathlib.Omega.{arith}
-use borrow.Author.Rules.{rules}
-use Rattle.lists.proofs.Filled.{Filled, filled_none, filled_next, filled_all}
+use Rattle.lists.proofs.Filled.{Filled}
 use Rattle.sizes.specs.Sizes.{most_processors}
 use Rattle.array.specs.Arrays.{no_tile}
 use Rattle.array_words.specs.Words.{tile_words, tile_in}
-use Rattle.array_words.proofs.ArrayRead.{loaded}
 use Rattle.array_words.proofs.load.Given as goal
 
 abbrev pub invariant-loop-i : goal.invariant-loop-i
 invariant-loop-i l =
     (l.i ≤ most_processors * most_processors)
-    × Filled no_tile (λ l.i. tile_in l.words (3 + l.i * tile_words)) (most_processors * most_processors) l.i l.tiles
+    × Filled no_tile (λ i. tile_in l.words (3 + i * tile_words)) (most_processors * most_processors) l.i l.tiles
 
 abbrev pub decreases-loop-i : goal.decreases-loop-i
 decreases-loop-i l = most_processors * most_processors - l.i

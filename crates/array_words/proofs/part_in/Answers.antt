@@ -1,5 +1,4 @@
 use Rattle.array_words.specs.Words.{part_in}
-use borrow.Author.Rules.{rules}
 use Rattle.array_words.proofs.part_in.Goals as goal
 
 pub returns : goal.returns

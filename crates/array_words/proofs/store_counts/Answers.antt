@@ -1,7 +1,6 @@
 use native.Mathlib.Omega.{arith}
 use lib.ListN.{length-set}
 use Rattle.array_words.proofs.WordsWritten.{counts_written}
-use borrow.Author.Rules.{rules}
 use Rattle.array_words.proofs.store_counts.Goals as goal
 
 pub bounds-words-at-2 : goal.bounds-words-at-2

@@ -1,5 +1,4 @@
 use Rattle.array_words.proofs.WordsWritten.{part_written}
-use borrow.Author.Rules.{rules}
 use Rattle.array_words.proofs.store_part.Goals as goal
 
 pub returns : goal.returns

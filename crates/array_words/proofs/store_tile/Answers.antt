@@ -2,7 +2,6 @@ use mathlib.Core.Path.{ap, ◌∙◌}
 use native.Mathlib.Omega.{arith}
 use lib.ListN.{length, length-set}
 use Rattle.array_words.proofs.WordsWritten.{written_long, tile_written}
-use borrow.Author.Rules.{rules}
 use Rattle.array_words.proofs.store_tile.Goals as goal
 
 pub bounds-words-at-2 : goal.bounds-words-at-2

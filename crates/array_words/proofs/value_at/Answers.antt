@@ -1,5 +1,4 @@
 use Rattle.array_words.specs.Words.{value_at}
-use borrow.Author.Rules.{rules}
 use Rattle.array_words.proofs.value_at.Goals as goal
 
 pub returns : goal.returns

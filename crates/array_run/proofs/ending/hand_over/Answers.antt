@@ -1,7 +1,6 @@
 use mathlib.Core.Path.{sym, ◌∙◌}
 use Rattle.runs.proofs.Starts.{cleared, spoiled_outcome}
 use Rattle.array_run.proofs.Results.{spoiled_over, cells_over}
-use borrow.Author.Rules.{rules}
 use Rattle.array_run.proofs.ending.hand_over.Goals as goal
 
 pub returns-then-is_marked : goal.returns-then-is_marked

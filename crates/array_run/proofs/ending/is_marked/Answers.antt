@@ -1,11 +1,8 @@
-use borrow.Author.Rules.{rules}
-use Prim.Native.Nat.{◌-◌, ◌≤◌}
 use mathlib.Core.Path.{◌≡◌}
-use mathlib.Core.Bool.{false}
 use native.Mathlib.Omega.{arith}
 use Rattle.lists.proofs.Bounded.{any_none, any_more}
 use Rattle.array.specs.Arrays.{no_quad, no_part, no_tile, tile_at}
-use Rattle.array_run.proofs.Results.{marked_in_row, marked_before, one_marked, none_marked}
+use Rattle.array_run.proofs.Results.{one_marked, none_marked}
 use Rattle.array_run.proofs.ending.is_marked.Goals as goal
 
 pub loop-i-init : goal.loop-i-init

@@ -1,10 +1,6 @@
-use borrow.Author.Rules.{rules}
-use Prim.Native.Nat.{◌-◌, ◌*◌, ◌≤◌}
-use mathlib.Core.Path.{◌≡◌}
 use native.Mathlib.Omega.{arith}
-use Rattle.sizes.specs.Sizes.{most_counted}
 use Rattle.array.specs.Arrays.{no_quad, no_part, no_tile, tile_at}
-use Rattle.array_run.proofs.DiagonalCounts.{rounded_before, rounded_none, rounded_more, rounded_all}
+use Rattle.array_run.proofs.DiagonalCounts.{rounded_none, rounded_more, rounded_all}
 use Rattle.array_run.proofs.ending.rounded_pairs.Goals as goal
 
 pub loop-i-init : goal.loop-i-init
