@@ -68,11 +68,11 @@ two_lines_lem n p q d h long =
 pub two_as : (n p q : ℕ) {d d' : ℕ} → two_lines n p q d ≡ true → d' ≡ d → two_lines n p q d' ≡ true
 two_as n p q h e = rw e h
 
-pub first_line : {n p q d : ℕ} → Two n p q d → Line n p
-first_line t = (t.first_above, t.first_within)
+pub first_line_lem : {n p q d : ℕ} → Two n p q d → Line n p
+first_line_lem t = (t.first_above, t.first_within)
 
-pub second_line : {n p q d : ℕ} → Two n p q d → Line n q
-second_line t = (t.second_above, t.second_within)
+pub second_line_lem : {n p q d : ℕ} → Two n p q d → Line n q
+second_line_lem t = (t.second_above, t.second_within)
 
 -- ---- the entries of a pair
 pub pair_entries : (n p q : ℕ) (l : List Float) → two_lines n p q (length l) ≡ true

@@ -19,7 +19,7 @@ use Rattle.matrix.specs.Transposed.{transposed}
 use Rattle.matrix.proofs.Flat.{flat_length}
 use Rattle.matrix.proofs.SameEntries.{Same, flat_same, flat_again, one_more}
 use Rattle.matrix_turns.specs.Turns.{two_lines, on_lines, row_turn, column_turn, row_turn_all, column_turn_all}
-use Rattle.matrix_turns.proofs.LinePairs.{are_two, two_as, first_line, second_line, pair_entries, turned_flat}
+use Rattle.matrix_turns.proofs.LinePairs.{are_two, two_as, first_line_lem, second_line_lem, pair_entries, turned_flat}
 use Rattle.matrix_turns.proofs.SameTurns.{all_columns_same}
 use Rattle.matrix_turns.proofs.StillTurns.{still_rows, still_columns, still_all_columns}
 use Rattle.runs.specs.Blocks.{matrix_block}
@@ -87,7 +87,7 @@ module _ (n p q : ℕ) where
       let f₁ : l₁ ≡ flat n (row_turn_all P p q (at n l)) = e₁ ∙ turned_flat n p q (row_turn_all P p q) l two in
       let two₁ : two_lines n p q (length l₁) ≡ true = two_as n p q two (ap length f₁ ∙ flat_length n _ ∙ sym t.long) in
       let f₂ =
-      one_more n _ (column_turn_all P p q) (all_columns_same n P p q (first_line t) (second_line t)) f₁ (e₂ ∙ turned_flat n p q (column_turn_all P p q) l₁ two₁) in
+      one_more n _ (column_turn_all P p q) (all_columns_same n P p q (first_line_lem t) (second_line_lem t)) f₁ (e₂ ∙ turned_flat n p q (column_turn_all P p q) l₁ two₁) in
       rw (d, z.0, z.1, z.2) at (one_more n _ (with_pair s.left s.right) (set_same s.left s.right) f₂ e₃)
       ∙ flat_same n _ _ (λ r c hr hc. set_turned P (at n l) t.apart r c)
 

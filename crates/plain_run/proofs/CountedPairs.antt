@@ -19,7 +19,7 @@ use Rattle.ordering.proofs.OrderRegisters.{registers_again}
 use Rattle.rotation.specs.declared.Found.{Found}
 use Rattle.rotation.specs.Exact.{found_of}
 use Rattle.matrix_turns.specs.Turns.{found_at}
-use Rattle.matrix_turns.proofs.LinePairs.{are_two, first_line, second_line, from_three}
+use Rattle.matrix_turns.proofs.LinePairs.{are_two, first_line_lem, second_line_lem, from_three}
 use Rattle.runs.specs.State.{State}
 use Rattle.runs.specs.Blocks.{ruled_found}
 use Rattle.runs.proofs.LineZero.{always_found}
@@ -102,8 +102,8 @@ module _ (n : ℕ) (order : is_order n ≡ true) where
           let paired = registers_paired n order k in
           let m = (pairs_alike n _ _ i (λ o l. paired o (omega arith)) X (after n k Y) alike).matrices in
           let t = are_two n _ _ (n * n) (are_real n i _ _ (paired i h) w) in
-          let p = first_line t in
-          let q = second_line t in
+          let p = first_line_lem t in
+          let q = second_line_lem t in
           from_three found_of (m _ _ p p) (m _ _ q q) (m _ _ p q)
 
   module _ (X Y : State) (f : Alike n X Y) where

@@ -12,7 +12,7 @@ use Rattle.sizes.specs.Sizes.{is_order, processors_of, still_of}
 use Rattle.ordering.specs.Pairs.{registers_at}
 use Rattle.rotation.specs.declared.Parameters.{Parameters}
 use Rattle.matrix_turns.specs.Turns.{parameters_of, two_lines}
-use Rattle.matrix_turns.proofs.LinePairs.{are_two, first_line, second_line}
+use Rattle.matrix_turns.proofs.LinePairs.{are_two, first_line_lem, second_line_lem}
 use Rattle.runs.specs.State.{State}
 use Rattle.plain_pair.specs.Pair.{state_turned, state_of, Held}
 use Rattle.runs.proofs.LineZero.{not_still}
@@ -43,7 +43,7 @@ module _ (n : ℕ) (l e l' e' : List Float) (X : State) (held : Held n l e X) wh
   pair_next P ls rs k Y w two z f h =
       let t = are_two n _ _ (n * n) two in
       rw (add-one, one_pair_more n ls rs k Y, ← z, rotated_by n k (get_or ls k 0) (get_or rs k 0) X (f ∙ not_still n k _ w))
-      (held_alike n l' e' _ _ h (turned_alike n (get_or ls k 0) (get_or rs k 0) (first_line t) (second_line t) P _ _ (read_alike n l e X held)))
+      (held_alike n l' e' _ _ h (turned_alike n (get_or ls k 0) (get_or rs k 0) (first_line_lem t) (second_line_lem t) P _ _ (read_alike n l e X held)))
 
   -- one step more
   pub step_next : (R : Registers) (k : ℕ) (Y : State) → R ≡ registers_at n k → Paired n R.left R.right (processors_of n) → X ≡ after n k Y

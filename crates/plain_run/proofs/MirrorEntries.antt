@@ -10,7 +10,7 @@ use Rattle.rotation.specs.declared.Parameters.{Parameters}
 use Rattle.rotation.specs.Rotation.{turn_of}
 use Rattle.sizes.specs.Sizes.{is_order, processors_of}
 use Rattle.matrix.proofs.SameEntries.{Line, Mirrored}
-use Rattle.matrix_turns.proofs.LinePairs.{are_two, first_line, second_line}
+use Rattle.matrix_turns.proofs.LinePairs.{are_two, first_line_lem, second_line_lem}
 use Rattle.runs.specs.State.{State}
 use Rattle.plain_pair.specs.Pair.{pair_turned, pair_rotated}
 use Rattle.plain_run.specs.State.{ProcessorPair, real_lines, line_0, Paired, pairs_rotated, after}
@@ -43,7 +43,7 @@ module _ (n : ℕ) where
   pair_mirrored : (i p q : ℕ) → ProcessorPair n i p q → (X : State) → Mirrored n X.matrix → Mirrored n (pair_rotated n i p q X).matrix
   pair_mirrored i p q (real_lines w two) X m =
       let t = are_two n p q (n * n) two in
-      unfold pair_rotated in (turn_mirrored n p q (first_line t) (second_line t) t.apart _ _ m)
+      unfold pair_rotated in (turn_mirrored n p q (first_line_lem t) (second_line_lem t) t.apart _ _ m)
   pair_mirrored i p q (line_0 w z pq) X m =
       let h = rests_alike n i p q X (line_0 w z pq) w in
       λ r c hr hc. h.matrices r c hr hc ∙ m r c hr hc ∙ sym (h.matrices c r hc hr)

@@ -12,7 +12,7 @@ use Rattle.sizes.specs.Sizes.{is_order, processors_of, still_of}
 use Rattle.ordering.specs.Pairs.{registers_at}
 use Rattle.ordering.proofs.RegisterLines.{pair_real, pair_still}
 use Rattle.matrix_turns.specs.Turns.{two_lines}
-use Rattle.matrix_turns.proofs.LinePairs.{are_two, two_lines_lem, first_line, second_line}
+use Rattle.matrix_turns.proofs.LinePairs.{are_two, two_lines_lem, first_line_lem, second_line_lem}
 use Rattle.runs.specs.State.{State}
 use Rattle.runs.proofs.LineZero.{always_still}
 use Rattle.plain_pair.specs.Pair.{pair_rotated}
@@ -51,7 +51,7 @@ module _ (n i p q : ℕ) where
   pub rotated_alike : ProcessorPair n i p q → (X Y : State) → Alike n X Y → Alike n (pair_rotated n i p q X) (pair_rotated n i p q Y)
   rotated_alike (real_lines w two) X Y h =
       let t = are_two n p q (n * n) two in
-      pair_alike n p q (first_line t) (second_line t) i X Y h
+      pair_alike n p q (first_line_lem t) (second_line_lem t) i X Y h
   rotated_alike (line_0 w z pq) X Y h =
       let pair = line_0 w z pq in
       alike_trans n (rests_alike X pair w) (alike_trans n h (alike_sym n (rests_alike Y pair w)))

@@ -17,7 +17,7 @@ use Rattle.runs.specs.State.{State}
 use Rattle.runs.specs.Blocks.{ruled_exact}
 use Rattle.plain_run.specs.State.{after}
 use Rattle.plain_run.specs.Met.{pair_met, rounded_in, rounded_of, pairs_by, rounded_by}
-use Rattle.plain_run.specs.Quiet.{quiet, sweeps_made}
+use Rattle.plain_run.specs.Quiet.{sweeps_made}
 use Rattle.plain_run.proofs.QuietSweeps.{Diagonal, quiet_diagonal, pair_blank, pairs_unchanged, settled}
 use Rattle.plain_run.proofs.SweepsMade.{Ends, with_all, when_quiet, made_ends}
 

@@ -34,10 +34,10 @@ pub real_entries : (n : ℕ) (A : ℕ → ℕ → Float) → Same n (bordered A)
 real_entries n A r c hr hc = bordered_real A r c hr.0 hc.0
 
 border_blank : (A : ℕ → ℕ → Float) → Blank (bordered A)
-border_blank A i = (rw (← (row_0 A 0 i refl)) plus_zero, rw (← (column_0 A i 0 refl)) plus_zero)
+border_blank A i = (rw (← (row_0 A 0 i refl)) plus_zero_lem, rw (← (column_0 A i 0 refl)) plus_zero_lem)
   where
-    plus_zero : Zero plus_zero
-    plus_zero = unfold of_bits in refl
+    plus_zero_lem : Zero plus_zero
+    plus_zero_lem = unfold of_bits in refl
 
 module _ (n : ℕ) (l : List Float) where
   pub start_vanishes : Vanishes (start_of n l)

@@ -13,7 +13,7 @@ use Rattle.rotation.proofs.FiniteOperands.{turn_kept, pair_kept}
 use Rattle.sizes.specs.Sizes.{is_order, processors_of}
 use Rattle.matrix.proofs.SameEntries.{Line, Finite, Mirrored}
 use Rattle.matrix_turns.specs.Turns.{parameters_of, column_turn_all}
-use Rattle.matrix_turns.proofs.LinePairs.{are_two, first_line, second_line}
+use Rattle.matrix_turns.proofs.LinePairs.{are_two, first_line_lem, second_line_lem}
 use Rattle.runs.specs.State.{State}
 use Rattle.plain_pair.specs.Pair.{pair_turned, pair_rotated}
 use Rattle.plain_run.specs.State.{ProcessorPair, real_lines, line_0, Paired, pairs_rotated, after}
@@ -88,8 +88,8 @@ module _ (n : ℕ) where
       let t = are_two n p q (n * n) two in
       let g = rw (rotated_by n i p q X (not_still n i _ w)) at f in
       record {
-        finite_matrix = matrix_persists n p q (first_line t) (second_line t) t.apart X.matrix m g.finite_matrix;
-        finite_vectors = vectors_persist n p q (first_line t) (second_line t) t.apart _ X.vectors g.finite_vectors;
+        finite_matrix = matrix_persists n p q (first_line_lem t) (second_line_lem t) t.apart X.matrix m g.finite_matrix;
+        finite_vectors = vectors_persist n p q (first_line_lem t) (second_line_lem t) t.apart _ X.vectors g.finite_vectors;
       }
   pair_persists i p q (line_0 w z pq) X m f = finite_alike (rests_alike n i p q X (line_0 w z pq) w) f
 

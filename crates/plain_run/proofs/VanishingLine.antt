@@ -19,7 +19,7 @@ use Rattle.sizes.specs.Sizes.{is_order, processors_of, first_line, lines_of}
 use Rattle.sizes.proofs.Orders.{lines_end}
 use Rattle.matrix.proofs.SameEntries.{Finite, Mirrored}
 use Rattle.matrix_turns.specs.Turns.{column_turn_all}
-use Rattle.matrix_turns.proofs.LinePairs.{are_two, first_line}
+use Rattle.matrix_turns.proofs.LinePairs.{are_two, first_line_lem}
 use Rattle.matrix_turns.proofs.StillTurns.{still_all_columns}
 use Rattle.runs.specs.State.{State}
 use Rattle.runs.proofs.LineZero.{always_still}
@@ -89,7 +89,7 @@ module _ (n : ℕ) where
       let p0 : 0 ≢ p = λ e. omega (arith, t.first_above) in
       let q0 : 0 ≢ q = λ e. omega (arith, t.second_above) in
       let kept =
-      sym (ap finite (all_first _ p q X.vectors 1)) ∙ f.finite_vectors 1 p (omega arith, omega (arith, t.first_above, t.first_within)) (first_line t) in
+      sym (ap finite (all_first _ p q X.vectors 1)) ∙ f.finite_vectors 1 p (omega arith, omega (arith, t.first_above, t.first_within)) (first_line_lem t) in
       record {
         blank_matrix = matrix_blank p q p0 q0 t.apart _ _ _ kept X.matrix b.blank_matrix;
         blank_vectors = vectors_blank p q p0 q0 t.apart _ _ _ kept X.vectors b.blank_vectors;

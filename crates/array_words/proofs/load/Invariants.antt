@@ -1,5 +1,5 @@
--- The tiles before i are those in the words. The measure is how many tiles are left.
-use Prim.Native.Nat.{◌+◌, ◌-◌, ◌*◌, ◌≤◌}
+-- The tiles before i are those in the words.
+use Prim.Native.Nat.{◌+◌, ◌*◌, ◌≤◌}
 use Rattle.lists.proofs.Filled.{Filled}
 use Rattle.sizes.specs.Sizes.{most_processors}
 use Rattle.array.specs.Arrays.{no_tile}
@@ -10,6 +10,3 @@ abbrev pub invariant-loop-i : goal.invariant-loop-i
 invariant-loop-i l =
     (l.i ≤ most_processors * most_processors)
     × Filled no_tile (λ i. tile_in l.words (3 + i * tile_words)) (most_processors * most_processors) l.i l.tiles
-
-abbrev pub decreases-loop-i : goal.decreases-loop-i
-decreases-loop-i l = most_processors * most_processors - l.i

@@ -1,5 +1,4 @@
 use Rattle.listing.proofs.ListingParts.{too_large, not_too_large}
-use borrow.Author.Rules.{rules}
 use Rattle.listing.proofs.order.Goals as goal
 
 pub returns-then-n-gt-LARGEST_ORDER : goal.returns-then-n-gt-LARGEST_ORDER

@@ -1,4 +1,4 @@
-use Prim.Native.Nat.{ℕ, ◌-◌, ◌*◌, ◌≤◌, ◌<◌}
+use Prim.Native.Nat.{ℕ, ◌*◌, ◌≤◌, ◌<◌}
 use mathlib.Core.Path.{◌≡◌}
 use lib.Ieee.{Float}
 use lib.ListN.{length}
@@ -6,10 +6,7 @@ use Rattle.matrix.specs.Matrix.{flat}
 use Rattle.matrix.specs.Transposed.{across, up_to}
 use Rattle.matrix.proofs.exchange_line.Given as goal
 
--- Where the lines before line i were exchanged at the start, the first j places of row i and column i are so too. What falls is i - j.
+-- Where the lines before line i were exchanged at the start, the first j places of row i and column i are so too.
 abbrev pub invariant-loop-j : goal.invariant-loop-j
 invariant-loop-j l =
     (l.i < l.n) × (l.j ≤ l.i) × (length l.initial.a ≡ l.n * l.n) × (length l.a ≡ l.n * l.n) × ((A : ℕ → ℕ → Float) → l.initial.a ≡ flat l.n (across (up_to l.i 0) A) → l.a ≡ flat l.n (across (up_to l.i l.j) A))
-
-abbrev pub decreases-loop-j : goal.decreases-loop-j
-decreases-loop-j l = l.i - l.j

@@ -1,11 +1,8 @@
-use Prim.Native.Nat.{◌+◌, ◌-◌, ◌*◌, ◌≤◌}
+use Prim.Native.Nat.{◌+◌, ◌*◌, ◌≤◌}
 use mathlib.Core.Path.{◌≡◌}
 use Rattle.matrix_turns.specs.Turns.{turn_lines}
 use Rattle.matrix_turns.proofs.turn_lines.Given as goal
 
--- The first r lines are turned. What falls is n - r.
+-- The first r lines are turned.
 abbrev pub invariant-loop-r : goal.invariant-loop-r
 invariant-loop-r l = (l.r ≤ l.n) × (l.a ≡ turn_lines (λ s. l.i + s * l.step) (λ s. l.j + s * l.step) l.parameters l.r l.initial.a)
-
-abbrev pub decreases-loop-r : goal.decreases-loop-r
-decreases-loop-r l = l.n - l.r

@@ -1,12 +1,8 @@
-use Prim.Native.Nat.{◌-◌, ◌≤◌}
-use mathlib.Core.Path.{◌≡◌, sym, ap, ◌∙◌}
-use mathlib.Core.Bool.{false, not}
+use mathlib.Core.Path.{sym, ap, ◌∙◌}
+use mathlib.Core.Bool.{not}
 use native.Mathlib.Omega.{arith}
-use borrow.Author.Rules.{rules}
-use borrow.Author.Tests.{not-true, not-false}
-use lib.ListN.{length}
 use Rattle.lists.proofs.Bounded.{any_none, any_more}
-use Rattle.plain_run.proofs.RunEnd.{not_finite_below, one_found, none_found}
+use Rattle.plain_run.proofs.RunEnd.{one_found, none_found}
 use Rattle.plain_run.proofs.all_finite.Goals as goal
 
 pub loop-k-init : goal.loop-k-init

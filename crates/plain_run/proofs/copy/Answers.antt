@@ -1,9 +1,6 @@
-use Prim.Native.Nat.{◌-◌, ◌≤◌}
 use native.Mathlib.Omega.{arith}
 use mathlib.Core.Path.{refl}
-use lib.Ieee.{nan}
-use lib.ListN.{length, get_or}
-use Rattle.lists.proofs.Filled.{Filled, filled_none, filled_next}
+use Rattle.lists.proofs.Filled.{filled_none, filled_next}
 use Rattle.plain_run.proofs.CopiedLists.{copied}
 use Rattle.plain_run.proofs.copy.Goals as goal
 

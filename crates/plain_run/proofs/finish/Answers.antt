@@ -1,5 +1,3 @@
-use borrow.Author.Rules.{rules}
-use borrow.Author.Tests.{not-true, not-false}
 use Rattle.plain_run.proofs.RunEnd.{of_not, spoils, stays}
 use Rattle.plain_run.proofs.finish.Goals as goal
 

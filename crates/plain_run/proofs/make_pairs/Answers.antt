@@ -1,38 +1,28 @@
-use Prim.Native.Nat.{ℕ, ◌-◌, ◌≤◌}
+use Prim.Native.Nat.{ℕ, ◌≤◌}
 use mathlib.Core.Path.{◌≡◌, refl, sym, ap, ◌∙◌}
 use mathlib.Core.Bool.{Bool, true, false, cond}
 use native.Mathlib.Nat.{le_antisymm}
 use native.Mathlib.Omega.{arith}
-use borrow.Author.Rules.{rules}
-use lib.ListN.{get_or}
-use Rattle.lists.specs.Bounded.{count}
 use Rattle.lists.proofs.Bounded.{count_none, count_more, count_most}
-use Rattle.sizes.specs.Sizes.{still_of}
 use Rattle.rotation.specs.declared.Parameters.{Parameters}
-use Rattle.rotation.specs.Rotation.{of_angle}
 use Rattle.matrix_turns.proofs.LinePairs.{two_as}
-use Rattle.runs.specs.Blocks.{ruled}
 use Rattle.runs.specs.Counts.{is_turn}
 use Rattle.runs.proofs.LineZero.{always_still, not_still}
-use Rattle.plain_pair.specs.Pair.{state_of, Held}
 use Rattle.plain_pair.proofs.AlikeStates.{held_itself, held_long}
 use Rattle.plain_pair.proofs.PairLines.{pair_held}
-use Rattle.plain_run.specs.State.{Paired, pairs_rotated}
-use Rattle.plain_run.specs.Angles.{no_angle}
 use Rattle.plain_run.proofs.HeldStates.{no_pairs, pair_next}
 use Rattle.plain_run.proofs.ProcessorPairs.{are_real}
-use Rattle.plain_run.proofs.StepParameters.{Angled}
 use Rattle.plain_run.proofs.make_pairs.Goals as goal
 
 pub loop-k-init : goal.loop-k-init
 loop-k-init c =
     let N = c.processors_of-processors.ensures in
-    let paired = c.requires.1.0 in
+    let paired = c.requires.paired in
     let still = c.still_of-k.ensures in (
       omega arith,
       omega arith,
       rw N paired,
-      rw N c.requires.1.1,
+      rw N c.requires.by_index,
       no_pairs _ _ _ _ (held_itself _ _ _ (omega arith) (omega arith)) _ _ _ paired still (omega arith),
       sym (count_none _ _ (λ i h. ap is_turn (sym (always_still _ i _ (omega arith))))),
     )

@@ -1,18 +1,11 @@
-use Prim.Native.Nat.{◌-◌, ◌≤◌}
-use mathlib.Core.Path.{◌≡◌, refl, ap, ◌∙◌}
-use mathlib.Core.Bool.{true}
+use mathlib.Core.Path.{refl, ap, ◌∙◌}
 use native.Mathlib.Nat.{le_antisymm}
 use native.Mathlib.Omega.{arith}
-use borrow.Author.Rules.{rules}
 use Rattle.lists.proofs.Bounded.{count_most}
-use Rattle.sizes.specs.Sizes.{is_order}
-use Rattle.ordering.specs.Pairs.{registers_at, after_step}
+use Rattle.ordering.specs.Pairs.{after_step}
 use Rattle.sizes.proofs.Orders.{order_is, order_half, few_steps}
 use Rattle.ordering.proofs.OrderRegisters.{of_order, next_at}
-use Rattle.plain_pair.specs.Pair.{state_of, Held}
 use Rattle.plain_pair.proofs.AlikeStates.{held_itself, held_long}
-use Rattle.plain_run.specs.State.{after}
-use Rattle.plain_run.specs.Met.{turns_by, rounded_by}
 use Rattle.plain_run.proofs.HeldStates.{no_steps, step_next}
 use Rattle.plain_run.proofs.ProcessorPairs.{registers_paired}
 use Rattle.plain_run.proofs.StepParameters.{step_angles, step_exact}
@@ -31,48 +24,45 @@ loop-k-init c =
     )
 
 pub tangents_of-tangents-requires : goal.tangents_of-tangents-requires
-tangents_of-tangents-requires c = (order_is _ c.loop.invariant.1).1
+tangents_of-tangents-requires c = (order_is _ c.loop-k.invariant.1).1
 
 pub angles_of-step-requires : goal.angles_of-step-requires
-angles_of-step-requires c = (order_is _ c.loop.invariant.1).1
+angles_of-step-requires c = (order_is _ c.loop-k.invariant.1).1
 
 pub overflow_add-rounded : goal.overflow_add-rounded
 overflow_add-rounded c =
-    let at-loop = c.loop in
+    let at-loop = c.loop-k in
     let i = at-loop.invariant in
     let so_far = pairs_few _ _ i.1 at-loop.k i.5 in
     omega (arith, count_most _ _ c.angles_of-step.ensures.1, so_far, order_half _ i.1, few_steps _ i.1)
 
 pub make_pairs-turns-requires : goal.make_pairs-turns-requires
 make_pairs-turns-requires c =
-    let at-loop = c.loop in
+    let at-loop = c.loop-k in
     let i = at-loop.invariant in
     let h = held_long _ _ _ _ i.3 in
     let tangents = c.tangents_of-tangents in
-    let angles = c.angles_of-step in (
-      ((order_is _ i.1).1, h.0, h.1),
-      (
-        rw i.2 (registers_paired _ i.1 _),
-        step_angles _ i.1 at-loop.k at-loop.registers i.2 tangents.result _ _ h.0 tangents.ensures angles.result.angles
-            angles.ensures.0,
-      ),
-    )
+    let angles = c.angles_of-step in record {
+      n_le_largest_order = ((order_is _ i.1).1, h.0, h.1);
+      paired = rw i.2 (registers_paired _ i.1 _);
+      by_index = step_angles _ i.1 at-loop.k at-loop.registers i.2 tangents.result _ _ h.0 tangents.ensures angles.result.angles angles.ensures.0;
+    }
 
 pub overflow_add-turns : goal.overflow_add-turns
 overflow_add-turns c =
-    let at-loop = c.loop in
+    let at-loop = c.loop-k in
     let i = at-loop.invariant in
     let so_far = pairs_few _ _ i.1 at-loop.k i.4 in
     omega (arith, count_most _ _ c.make_pairs-turns.ensures.0, so_far, order_half _ i.1, few_steps _ i.1)
 
 pub loop-k-preserved : goal.loop-k-preserved
 loop-k-preserved c =
-    let at-loop = c.loop in
+    let at-loop = c.loop-k in
     let i = at-loop.invariant in
     let h = held_long _ _ _ _ i.3 in
     let tangents = c.tangents_of-tangents in
     let angles = c.angles_of-step in
-    let at_turn = (make-pairs-requires c.before.before.before.before.before.before c.make_pairs-turns.lifetimes).1.1 in
+    let at_turn = (step_angles _ i.1 at-loop.k at-loop.registers i.2 tangents.result _ _ h.0 tangents.ensures angles.result.angles angles.ensures.0) in
     let exact = step_exact _ i.1 at-loop.k at-loop.registers i.2 tangents.result _ _ h.0 tangents.ensures in (
       omega arith,
       i.1,

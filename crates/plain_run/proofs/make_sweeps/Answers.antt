@@ -1,15 +1,10 @@
-use Prim.Native.Nat.{◌+◌, ◌-◌, ◌≤◌}
-use mathlib.Core.Path.{◌≡◌, refl}
-use mathlib.Core.Bool.{true}
+use Prim.Native.Nat.{◌+◌}
+use mathlib.Core.Path.{refl}
 use native.Mathlib.Nat.{le_antisymm}
 use native.Mathlib.Numerals.{add-one}
 use native.Mathlib.Omega.{arith}
-use Rattle.sizes.specs.Sizes.{is_order, steps_of}
-use Rattle.plain_pair.specs.Pair.{state_of, Held}
 use Rattle.plain_pair.proofs.AlikeStates.{held_itself, held_long}
-use Rattle.plain_run.specs.State.{after}
-use Rattle.plain_run.specs.Met.{rounded_by}
-use Rattle.plain_run.proofs.SweepsMade.{NoneQuiet, with_all, when_quiet, none_yet, next_turning, made_is, reported}
+use Rattle.plain_run.proofs.SweepsMade.{with_all, when_quiet, none_yet, next_turning, made_is, reported}
 use Rattle.plain_run.proofs.CountedSteps.{no_sweep, none_rounded, sweeps_few, sweep_next, sweep_rounded, sweep_quiet, sweep_turning}
 use Rattle.plain_run.proofs.make_sweeps.Goals as goal
 

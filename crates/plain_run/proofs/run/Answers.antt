@@ -1,4 +1,3 @@
-use borrow.Author.Rules.{rules}
 use mathlib.Core.Path.{sym, ap, ◌∙◌}
 use Rattle.refusal.specs.Answers.{answered}
 use Rattle.plain_run.proofs.Outcomes.{run_refused, run_accepted_as}

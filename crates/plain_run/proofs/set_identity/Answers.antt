@@ -1,12 +1,6 @@
-use Prim.Native.Nat.{◌+◌, ◌-◌, ◌*◌, ◌/◌, ◌%◌, ◌≤◌}
 use native.Mathlib.Omega.{arith}
-use mathlib.Core.Path.{◌≡◌}
-use borrow.Author.Rules.{rules}
-use lib.Ieee.{nan}
-use lib.ListN.{length}
-use Rattle.lists.proofs.Filled.{Filled, filled_none, filled_next}
+use Rattle.lists.proofs.Filled.{filled_none, filled_next}
 use Rattle.matrix.proofs.Flat.{row_lt, column_lt}
-use Rattle.runs.specs.State.{identity}
 use Rattle.plain_run.proofs.CopiedLists.{identity_filled}
 use Rattle.plain_run.proofs.set_identity.Goals as goal
 

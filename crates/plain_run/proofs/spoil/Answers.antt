@@ -1,5 +1,4 @@
 use Rattle.runs.proofs.Starts.{spoiled_outcome, cleared}
-use borrow.Author.Rules.{rules}
 use Rattle.plain_run.proofs.spoil.Goals as goal
 
 pub returns : goal.returns

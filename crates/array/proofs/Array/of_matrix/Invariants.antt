@@ -1,5 +1,5 @@
--- The tiles before k are those of the start. The measure is how many places are left.
-use Prim.Native.Nat.{◌-◌, ◌*◌, ◌/◌, ◌%◌, ◌≤◌}
+-- The tiles before k are those of the start.
+use Prim.Native.Nat.{◌*◌, ◌/◌, ◌%◌, ◌≤◌}
 use Rattle.lists.proofs.Filled.{Filled}
 use Rattle.sizes.specs.Sizes.{most_processors}
 use Rattle.tile_start.specs.Beginning.{start_tile}
@@ -10,6 +10,3 @@ abbrev pub invariant-loop-k : goal.invariant-loop-k
 invariant-loop-k l =
     (l.k ≤ most_processors * most_processors)
     × Filled no_tile (λ k. start_tile l.n l.matrix (k / most_processors) (k % most_processors)) (most_processors * most_processors) l.k l.tiles
-
-abbrev pub decreases-loop-k : goal.decreases-loop-k
-decreases-loop-k l = most_processors * most_processors - l.k

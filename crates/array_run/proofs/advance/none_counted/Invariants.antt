@@ -1,4 +1,4 @@
--- None of the first i tiles on the diagonal counts a turn. The measure is how many are left.
+-- None of the first i tiles on the diagonal counts a turn.
 use Prim.Native.Nat.{◌≤◌}
 use mathlib.Core.Path.{◌≡◌}
 use mathlib.Core.Bool.{false}

@@ -1,10 +1,7 @@
--- The array is what m sweeps of the run leave, none of them quiet, and no S was lowered so far. The measure is how many sweeps are left.
-use Prim.Native.Nat.{◌-◌, ◌≤◌}
+-- The array is what m sweeps of the run leave, none of them quiet, and no S was lowered so far.
+use Prim.Native.Nat.{◌≤◌}
 use Rattle.array_run.proofs.Advances.{Swept}
 use Rattle.array_run.proofs.advance.to_the_end.Given as goal
 
 abbrev pub invariant-loop-m : goal.invariant-loop-m
 invariant-loop-m l = (l.m ≤ l.sweeps) × Swept l.initial.array l.m l.array
-
-abbrev pub decreases-loop-m : goal.decreases-loop-m
-decreases-loop-m l = l.sweeps - l.m

@@ -1,6 +1,5 @@
--- No tile of the rows before i is marked, and in the inner loop none of row i before column j. The measures are how many rows and how many
--- columns are left.
-use Prim.Native.Nat.{◌-◌, ◌≤◌}
+-- No tile of the rows before i is marked, and in the inner loop none of row i before column j.
+use Prim.Native.Nat.{◌≤◌}
 use mathlib.Core.Path.{◌≡◌}
 use mathlib.Core.Bool.{false}
 use Rattle.array_run.proofs.Results.{marked_in_row, marked_before}
@@ -9,11 +8,5 @@ use Rattle.array_run.proofs.ending.is_marked.Given as goal
 abbrev pub invariant-loop-j : goal.invariant-loop-j
 invariant-loop-j l = (l.j ≤ l.processors) × (marked_in_row l.j l.array.tiles l.i ≡ false)
 
-abbrev pub decreases-loop-j : goal.decreases-loop-j
-decreases-loop-j l = l.processors - l.j
-
 abbrev pub invariant-loop-i : goal.invariant-loop-i
 invariant-loop-i l = (l.i ≤ l.processors) × (marked_before l.processors l.array.tiles l.i ≡ false)
-
-abbrev pub decreases-loop-i : goal.decreases-loop-i
-decreases-loop-i l = l.processors - l.i

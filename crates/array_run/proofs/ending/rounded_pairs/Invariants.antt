@@ -1,4 +1,4 @@
--- The counts of the first i tiles on the diagonal are added up; each is at most most_counted. The measure is how many are left.
+-- The counts of the first i tiles on the diagonal are added up; each is at most most_counted.
 use Prim.Native.Nat.{◌*◌, ◌≤◌}
 use mathlib.Core.Path.{◌≡◌}
 use Rattle.sizes.specs.Sizes.{most_counted}

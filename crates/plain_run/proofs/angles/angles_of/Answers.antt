@@ -1,18 +1,10 @@
-use Prim.Native.Nat.{◌-◌, ◌≤◌}
-use mathlib.Core.Path.{◌≡◌, refl, sym, ap, ◌∙◌}
+use mathlib.Core.Path.{refl, sym, ap, ◌∙◌}
 use mathlib.Core.Bool.{Bool, not, cond}
 use native.Mathlib.Nat.{le_antisymm}
 use native.Mathlib.Omega.{arith}
-use borrow.Author.Rules.{rules}
-use lib.ListN.{get_or}
-use Rattle.lists.specs.Bounded.{count}
 use Rattle.lists.proofs.Bounded.{count_none, count_more, count_most}
-use Rattle.lists.proofs.Filled.{FilledFrom, filled_none, filled_next}
-use Rattle.sizes.specs.Sizes.{most_processors, still_of}
-use Rattle.rotation.specs.Rotation.{angle_of}
-use Rattle.runs.specs.Blocks.{ruled_exact}
+use Rattle.lists.proofs.Filled.{filled_none, filled_next}
 use Rattle.runs.proofs.LineZero.{always_exact, own_exact}
-use Rattle.plain_run.specs.Angles.{no_tangent, no_angle, exact_by}
 use Rattle.plain_run.proofs.angles.angles_of.Goals as goal
 
 pub loop-k-init : goal.loop-k-init
@@ -28,7 +20,7 @@ loop-k-preserved c =
     )
 
 pub overflow_add-rounded : goal.overflow_add-rounded
-overflow_add-rounded c = omega (arith, count_most _ _ (loop-again c).3)
+overflow_add-rounded c = omega (arith, count_most _ _ (loop-k-preserved c).3)
 
 pub returns : goal.returns
 returns c =

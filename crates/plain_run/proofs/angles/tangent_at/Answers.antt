@@ -1,5 +1,4 @@
 use mathlib.Core.Path.{◌∙◌}
-use borrow.Author.Rules.{rules}
 use Rattle.rotation.specs.Exact.{tangent_found}
 use Rattle.matrix_turns.proofs.LinePairs.{from_three}
 use Rattle.plain_run.proofs.angles.tangent_at.Goals as goal
