@@ -1,5 +1,4 @@
 use Rattle.capi.proofs.CAnswers.{whole_made, whole_refused}
-use borrow.Author.Rules.{rules}
 use Rattle.capi.proofs.both_runs.weimrukas_array_run.Goals as goal
 
 pub returns-in-Completed : goal.returns-in-Completed

@@ -1,5 +1,4 @@
 use Rattle.capi.proofs.CAnswers.{run_made, run_refused}
-use borrow.Author.Rules.{rules}
 use Rattle.capi.proofs.both_runs.weimrukas_plain_run.Goals as goal
 
 pub returns-in-Made : goal.returns-in-Made

@@ -1,6 +1,5 @@
 use mathlib.Core.Path.{sym, ap, ◌∙◌}
 use native.Mathlib.Omega.{arith}
-use borrow.Author.Rules.{rules}
 use Rattle.forecast.specs.Forecast.{forecast_answered}
 use Rattle.capi.proofs.CAnswers.{forecast_given, value_refused}
 use Rattle.capi.proofs.forecasts.weimrukas_forecast.Goals as goal

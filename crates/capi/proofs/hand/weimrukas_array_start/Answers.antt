@@ -1,6 +1,5 @@
 use mathlib.Core.Path.{sym, ◌∙◌}
 use Rattle.capi.proofs.ArrayByHand.{start_refused, start_stored}
-use borrow.Author.Rules.{rules}
 use Rattle.capi.proofs.hand.weimrukas_array_start.Goals as goal
 
 pub returns-then-not-is_array : goal.returns-then-not-is_array

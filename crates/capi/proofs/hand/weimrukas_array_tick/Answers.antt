@@ -1,6 +1,5 @@
 use mathlib.Core.Path.{sym, ◌∙◌}
 use Rattle.capi.proofs.ArrayByHand.{tick_refused_by_3, tick_made, tick_stopped, tick_refused}
-use borrow.Author.Rules.{rules}
 use Rattle.capi.proofs.hand.weimrukas_array_tick.Goals as goal
 
 pub returns-then-not-is_array : goal.returns-then-not-is_array

@@ -1,5 +1,4 @@
 use Rattle.capi.proofs.CAnswers.{list_said}
-use borrow.Author.Rules.{rules}
 use Rattle.capi.proofs.listings.weimrukas_list.Goals as goal
 
 pub returns : goal.returns

@@ -1,5 +1,4 @@
 use mathlib.Core.Path.{sym, ap, ◌∙◌}
-use borrow.Author.Rules.{rules}
 use Rattle.root.specs.Exact.{root_answered}
 use Rattle.capi.proofs.CAnswers.{root_given, root_refused}
 use Rattle.capi.proofs.rotations.weimrukas_root.Goals as goal

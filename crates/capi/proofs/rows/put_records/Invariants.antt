@@ -1,15 +1,10 @@
-use Prim.Native.Nat.{◌-◌, ◌*◌, ◌≤◌}
+use Prim.Native.Nat.{◌*◌, ◌≤◌}
 use mathlib.Core.Path.{◌≡◌}
-use native.Mathlib.Nat.{le_antisymm}
-use native.Mathlib.Omega.{arith}
 use lib.ListN.{length}
 use lib.Ieee.{nan}
-use Rattle.lists.proofs.Replaced.{Replaced, replaced_none}
+use Rattle.lists.proofs.Replaced.{Replaced}
 use Rattle.ordering.specs.Pairs.{registers_at}
-use Rattle.ordering.proofs.OrderRegisters.{of_order}
 use Rattle.capi.specs.Calls.{record_fields, record_flag}
-use Rattle.capi.proofs.Listing.{record_of, record_put, records_put, flag_put, flags_put}
-use borrow.Author.Rules.{rules}
 use Rattle.sizes.specs.Sizes.{processors_of}
 use Rattle.capi.proofs.rows.put_records.Given as goal
 

@@ -1,5 +1,4 @@
 use Rattle.capi.proofs.CAnswers.{read_given, read_refused}
-use borrow.Author.Rules.{rules}
 use Rattle.capi.proofs.sheets.weimrukas_read_sheet.Goals as goal
 
 pub returns-in-Read : goal.returns-in-Read
