@@ -248,7 +248,8 @@ module _ (s : Setting) (N K t : ℕ) (l l₁ l₂ : List Tile) where
   settled_tile_lem : (k : ℕ) → is_used N k ≡ true → get_or l₁ k no_tile ≡ turned_at s N K t l k → settled_at s N K t l₁ k ≡ ticked_tile k
   unfolding settled_at
   settled_tile_lem k u e =
-      rw (u, e ∙ turned_used s N K t l k u, the_tile_of (turn_at s N K t l (k / most_processors) (k % most_processors))) (unfold tick tick_tile new_tile in refl)
+      rw (u, e ∙ turned_used s N K t l k u, the_tile_of (turn_at s N K t l (k / most_processors) (k % most_processors)))
+      (unfold tick tick_tile new_tile in refl)
 
   -- all tiles after a tick
   pub tick_made : (p q : ℕ) → length l ≡ most_processors * most_processors → most_processors * N ≤ p → most_processors * N ≤ q

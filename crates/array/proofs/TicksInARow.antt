@@ -22,7 +22,8 @@ module _ (n sweeps : ℕ) (l : List Float) {x : Array} where
   pub starts_accepted : given tt ≡ start_answer n sweeps l → x ≡ start_array n sweeps l → Starts n sweeps l (record { answer = answer.Accepted; array = x })
   starts_accepted e f = record { answers = e; hands_back = rw (← e) f }
 
-  pub starts_refused : (r : Refusal) → refused_by r ≡ start_answer n sweeps l → x ≡ no_array → Starts n sweeps l (record { answer = answer.Refused r; array = x })
+  pub starts_refused : (r : Refusal) → refused_by r ≡ start_answer n sweeps l → x ≡ no_array
+      → Starts n sweeps l (record { answer = answer.Refused r; array = x })
   starts_refused r e f = record { answers = e; hands_back = rw (← e) f }
 
 -- ---- ticks

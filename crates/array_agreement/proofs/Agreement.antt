@@ -28,7 +28,7 @@ use Rattle.systolic.proofs.Lines.{in_order_one}
 use Rattle.systolic.proofs.Agreement.{kept_sequential, agreement}
 use Rattle.sizes.specs.Sizes.{most_sweeps, is_order, processors_of, first_line, lines_of, steps_of, ticks_of}
 use Rattle.sizes.proofs.Orders.{order_is, order_half, sweep_is, steps_few}
-use Rattle.matrix.specs.Matrix.{at, flat}
+use Rattle.matrix.specs.Matrix.{flat}
 use Rattle.matrix.proofs.SameEntries.{Line, flat_same}
 use Rattle.runs.specs.State.{State, start_of, zeros}
 use Rattle.plain_run.specs.State.{after, not_finite, spoiled}
@@ -120,8 +120,8 @@ module _ (n sweeps : ℕ) (l : List Float) (order : is_order n ≡ true) (few : 
   from_start : (t : ℕ) (A : ℕ → ℕ → theory.Tile Cell Float Float Counts) (i j : ℕ) → tick (operations s) m K t A i j ≡ tick S m K t A i j
   unfolding operations
   from_start t A i j =
-      tick_any_start (rules s) (ordered_line (first_line n)) (ordered_line (first_line n)) (λ r c. cellWith plus_zero plus_zero) (cell_of X) (cellWith plus_zero plus_zero)
-      (cellWith plus_zero plus_zero) plus_zero plus_zero plus_zero plus_zero (counts 0 0) (counts 0 0) m K t A i j
+      tick_any_start (rules s) (ordered_line (first_line n)) (ordered_line (first_line n)) (λ r c. cellWith plus_zero plus_zero) (cell_of X)
+      (cellWith plus_zero plus_zero) (cellWith plus_zero plus_zero) plus_zero plus_zero plus_zero plus_zero (counts 0 0) (counts 0 0) m K t A i j
 
   tiles_are : (t i j : ℕ) → i ≤ m → j ≤ m → the_array (tiles_by t) i j ≡ array_after S m K t i j
   tiles_are zero i j hi hj = starts_as i j hi hj
@@ -132,7 +132,8 @@ module _ (n sweeps : ℕ) (l : List Float) (order : is_order n ≡ true) (few : 
           (ap (λ (l : List Tile). the_tile (tile_at l i j)) (tiles_step t)
           ∙ ap the_tile (tile_after s N K t (tiles_by t) i j (order_half n order).1 (within i hi) (within j hj)) ∙ the_tile_of _)
 
-      next : ((i j : ℕ) → i ≤ m → j ≤ m → the_array (tiles_by t) i j ≡ array_after S m K t i j) → the_array (tiles_by (suc t)) i j ≡ array_after S m K (suc t) i j
+      next : ((i j : ℕ) → i ≤ m → j ≤ m → the_array (tiles_by t) i j ≡ array_after S m K t i j)
+          → the_array (tiles_by (suc t)) i j ≡ array_after S m K (suc t) i j
       next same =
           ticked_tile_lem
           ∙ from_start t (the_array (tiles_by t)) i j

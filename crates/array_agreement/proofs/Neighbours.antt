@@ -4,7 +4,6 @@ use Prim.Native.Nat.{ℕ, ◌-◌, ◌<◌, ◌≤◌}
 use mathlib.Core.Path.{◌≡◌, refl, sym, ap, ◌∙◌}
 use mathlib.Core.Bool.{true}
 use Rattle.refusal.specs.Answers.{Answered, given, refused}
-use Rattle.systolic.specs.Arrays.{tick}
 use Rattle.systolic.specs.Traffic.{receives}
 use Rattle.systolic.proofs.Neighbourhood.{Alike, neighbourhood}
 use Rattle.sizes.specs.Sizes.{most_processors, processors_of, steps_of}

@@ -130,7 +130,8 @@ module _ (x : Array) where
   head_stored l e = filled_next 2 _ _ (filled_next 1 _ _ (filled_next 0 _ _ (filled_none l e) (omega arith) refl) (omega arith) refl) (omega arith) refl
 
   pub tile_stored : (i : ℕ) (l : List ℕ) {r : List ℕ} → Filled 0 (array_word x) array_words (3 + i * tile_words) l → i < most_processors * most_processors
-      → r ≡ written_at (3 + i * tile_words) tile_words (tile_word (get_or x.tiles i no_tile)) l → Filled 0 (array_word x) array_words (3 + (i + 1) * tile_words) r
+      → r ≡ written_at (3 + i * tile_words) tile_words (tile_word (get_or x.tiles i no_tile)) l
+      → Filled 0 (array_word x) array_words (3 + (i + 1) * tile_words) r
   tile_stored i l h o e =
       let n : 3 + (i + 1) * tile_words ≡ 3 + i * tile_words + tile_words = omega arith in
       rw (n, e) (filled_written (3 + i * tile_words) tile_words (tile_word (get_or x.tiles i no_tile)) l h (omega arith) (tile_word_lem i))

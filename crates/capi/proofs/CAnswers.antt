@@ -28,7 +28,20 @@ use Rattle.array_run.specs.declared.Completion.TheVariants as completion
 use Rattle.array_run.specs.Results.{WholeReport}
 use Rattle.array_run.specs.Whole.{completion_answered}
 use Rattle.capi.specs.CAnswers.{CAnswer, c_answer, place_or, refused_as, c_answer_of, number_answered}
-use Rattle.capi.specs.Calls.{flag_byte, of_root, number_and_value, figures, turns, of_parameters, of_run, of_whole, of_reading, of_written, of_writing, of_listing}
+use Rattle.capi.specs.Calls.{
+  flag_byte,
+  of_root,
+  number_and_value,
+  figures,
+  turns,
+  of_parameters,
+  of_run,
+  of_whole,
+  of_reading,
+  of_written,
+  of_writing,
+  of_listing,
+}
 
 -- ---- the lent row and column
 module _ (i j : ℕ) where

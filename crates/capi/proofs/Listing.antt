@@ -79,8 +79,8 @@ module _ (n : ℕ) (l : List Float) (step : ℕ) where
   unfolding record_fields
   field_at x k i w e f g = rw (e, f, g)
 
-  pub record_put : (old v v' : List Float) (k : ℕ) (x : Record) → x ≡ record_at n l (registers_at n step) k → Replaced nan (record_fields n l step) old (k * 3) v
-      → k * 3 + 3 ≤ length old → v' ≡ set (set (set v (k * 3) x.t) (k * 3 + 1) x.c) (k * 3 + 2) x.s
+  pub record_put : (old v v' : List Float) (k : ℕ) (x : Record) → x ≡ record_at n l (registers_at n step) k
+      → Replaced nan (record_fields n l step) old (k * 3) v → k * 3 + 3 ≤ length old → v' ≡ set (set (set v (k * 3) x.t) (k * 3 + 1) x.c) (k * 3 + 2) x.s
       → Replaced nan (record_fields n l step) old ((k + 1) * 3) v'
   unfolding record_field
   record_put old v v' k x e h room z =

@@ -60,7 +60,8 @@ module _ (N : ℕ) (L : Slot → ℕ) (h : N ≤ most_processors) where
       → meet_in_list (registers_of N L) p q
       ≡ any N (λ i. (eqb (L (slot i left)) p && eqb (L (slot i right)) q) || (eqb (L (slot i left)) q && eqb (L (slot i right)) p))
   unfolding meet_in_list registers_of
-  list_meets p q P Q = any_within most_processors N _ _ h (λ i l. rw (column_at N (λ k. L (slot k left)) i l h, column_at N (λ k. L (slot k right)) i l h)) above
+  list_meets p q P Q =
+      any_within most_processors N _ _ h (λ i l. rw (column_at N (λ k. L (slot k left)) i l h, column_at N (λ k. L (slot k right)) i l h)) above
     where
       above : (i : ℕ) → N ≤ i → i < most_processors
           → ((eqb (get_or (column N (λ k. L (slot k left))) i 0) p && eqb (get_or (column N (λ k. L (slot k right))) i 0) q)

@@ -38,7 +38,9 @@ the_tile x =
 
 -- What the tiles do, by the rules of any run. A tick does not look at the start.
 unfoldable pub operations : Setting → Operations Cell Float Float Counts
-operations s = operations_of (rules s) (ordered_line (first_line s.order)) (λ r c. cell plus_zero plus_zero) (cell plus_zero plus_zero) plus_zero plus_zero (counts 0 0)
+operations s =
+    operations_of (rules s) (ordered_line (first_line s.order)) (λ r c. cell plus_zero plus_zero) (cell plus_zero plus_zero) plus_zero plus_zero
+    (counts 0 0)
 
 -- What the wires bring to tile (i, j), where a, b, c and d are the wires of the tiles that its corners are joined with.
 unfoldable pub brought_to : ℕ → ℕ → ℕ → Block Cell → Block Cell → Block Cell → Block Cell → Block Cell

@@ -26,4 +26,5 @@ after-registers-requires c =
 
 pub returns : goal.returns
 returns c =
-    given_lists _ _ (ordered c.before.before.before.before) c.processors_of-processors.ensures c.first_line.ensures c.sweep_steps.ensures c.after-registers.ensures
+    given_lists _ _ (ordered c.before.before.before.before) c.processors_of-processors.ensures c.first_line.ensures
+    c.sweep_steps.ensures c.after-registers.ensures

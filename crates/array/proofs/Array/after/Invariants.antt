@@ -16,7 +16,8 @@ use Rattle.array.proofs.Array.after.Given as goal
 abbrev pub invariant-loop-k : goal.invariant-loop-k
 invariant-loop-k l =
     (l.k ≤ most_processors * l.processors) × (l.array.n ≡ l.initial.array.n) × (l.array.sweeps ≡ l.initial.array.sweeps)
-    × Replaced no_tile (turned_at (setting l.n) l.processors l.steps l.tick l.initial.array.tiles) l.initial.array.tiles l.k l.array.tiles × Known l.tangents l.cosines
+    × Replaced no_tile (turned_at (setting l.n) l.processors l.steps l.tick l.initial.array.tiles) l.initial.array.tiles l.k l.array.tiles
+    × Known l.tangents l.cosines
 
 abbrev pub invariant-loop-k-2 : goal.invariant-loop-k-2
 invariant-loop-k-2 l =

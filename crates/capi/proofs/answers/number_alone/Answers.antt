@@ -1,5 +1,4 @@
 use Rattle.capi.specs.CAnswers.{number_answered}
-use borrow.Author.Rules.{rules}
 use Rattle.capi.proofs.answers.number_alone.Goals as goal
 
 pub returns-in-Accepted : goal.returns-in-Accepted

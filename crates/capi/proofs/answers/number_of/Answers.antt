@@ -1,5 +1,4 @@
 use Rattle.capi.specs.CAnswers.{c_answer_of}
-use borrow.Author.Rules.{rules}
 use Rattle.capi.proofs.answers.number_of.Goals as goal
 
 pub returns-in-Accepted : goal.returns-in-Accepted

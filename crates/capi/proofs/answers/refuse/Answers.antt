@@ -1,5 +1,4 @@
 use Rattle.capi.proofs.CAnswers.{placed}
-use borrow.Author.Rules.{rules}
 use Rattle.capi.proofs.answers.refuse.Goals as goal
 
 pub returns : goal.returns

@@ -1,5 +1,4 @@
 use mathlib.Core.Path.{sym, ap, ◌∙◌}
-use borrow.Author.Rules.{rules}
 use Rattle.refusal.specs.Refusal.{place_values}
 use Rattle.capi.proofs.CAnswers.{place_set, place_kept}
 use Rattle.capi.proofs.answers.set_place.Goals as goal

@@ -1,6 +1,5 @@
 use mathlib.Core.Path.{sym, ap, ◌∙◌}
 use native.Mathlib.Omega.{arith}
-use borrow.Author.Rules.{rules}
 use Rattle.forecast.specs.Forecast.{forecast_answered}
 use Rattle.capi.proofs.CAnswers.{forecast_given, value_refused}
 use Rattle.capi.proofs.forecasts.weimrukas_forecast.Goals as goal
@@ -11,5 +10,4 @@ returns-in-Given c =
 
 pub returns-in-Refused : goal.returns-in-Refused
 returns-in-Refused c =
-    let refused = c.refused-1.given in
-    value_refused _ refused.0.0 (ap forecast_answered (sym refused.1) ∙ c.of_run.ensures) c.number.ensures
+    value_refused _ _ (ap forecast_answered (sym c.in-Refused.is) ∙ c.of_run.ensures) c.number.ensures

@@ -1,13 +1,6 @@
-use borrow.Author.Tests.{not-true, not-false}
 use mathlib.Core.Path.{sym, ◌∙◌}
 use Rattle.capi.proofs.ArrayByHand.{tick_refused_by_3, tick_made, tick_stopped, tick_refused}
-use borrow.Author.Rules.{rules}
 use Rattle.capi.proofs.hand.weimrukas_array_tick.Goals as goal
-use Rattle.capi.proofs.hand.weimrukas_array_tick.Goals.{After-tick-ticked, Else-not-is_array}
-
--- the test that the words are an array's
-abbrev at_test : After-tick-ticked → Else-not-is_array
-at_test c = c.before.before
 
 pub returns-then-not-is_array : goal.returns-then-not-is_array
 returns-then-not-is_array c =
@@ -15,18 +8,15 @@ returns-then-not-is_array c =
 
 pub returns-in-Made : goal.returns-in-Made
 returns-in-Made c =
-    let test = at_test c.before.before.before.before.before.before.before in
-    tick_made _ (sym test.before.is-array.ensures ∙ not-false _ test.if1.left) _ c.load-array.ensures _ c.tick-ticked.ensures
+    tick_made _ (sym c.is_array.ensures ∙ c.if-not-is_array.false) _ c.load-array.ensures _ c.tick-ticked.ensures
     c.in-Made.is c.store.ensures
 
 pub returns-in-Stopped : goal.returns-in-Stopped
 returns-in-Stopped c =
-    let test = at_test c.before.before in
-    tick_stopped _ (sym test.before.is-array.ensures ∙ not-false _ test.if1.left) _ c.load-array.ensures _ c.tick-ticked.ensures
+    tick_stopped _ (sym c.is_array.ensures ∙ c.if-not-is_array.false) _ c.load-array.ensures _ c.tick-ticked.ensures
     c.in-Stopped.is
 
 pub returns-in-Refused : goal.returns-in-Refused
 returns-in-Refused c =
-    let test = at_test c.before.before.before.before in
-    tick_refused _ (sym test.before.is-array.ensures ∙ not-false _ test.if1.left) _ c.load-array.ensures _ c.tick-ticked.ensures _
+    tick_refused _ (sym c.is_array.ensures ∙ c.if-not-is_array.false) _ c.load-array.ensures _ c.tick-ticked.ensures _
     c.in-Refused.is c.number-in-Refused.ensures

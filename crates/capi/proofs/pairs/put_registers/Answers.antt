@@ -1,9 +1,6 @@
-use borrow.Author.Rules.{rules}
-use Prim.Native.Nat.{◌-◌, ◌≤◌}
 use mathlib.Core.Path.{refl}
 use native.Mathlib.Omega.{arith}
-use lib.ListN.{length, get_or}
-use Rattle.lists.proofs.Filled.{Filled, filled_none, filled_next}
+use Rattle.lists.proofs.Filled.{filled_none, filled_next}
 use Rattle.capi.proofs.Listing.{registers_listed}
 use Rattle.capi.proofs.pairs.put_registers.Goals as goal
 

@@ -1,12 +1,8 @@
-use borrow.Author.Rules.{rules}
-use Prim.Native.Nat.{◌-◌, ◌≤◌}
-use mathlib.Core.Path.{refl}
-use native.Mathlib.Omega.{arith}
+use Prim.Native.Nat.{◌≤◌}
 use lib.ListN.{length, get_or}
-use Rattle.lists.proofs.Filled.{Filled, filled_none, filled_next}
-use Rattle.capi.proofs.Listing.{registers_listed}
+use Rattle.lists.proofs.Filled.{Filled}
 use Rattle.capi.proofs.pairs.put_registers.Given as goal
 
--- The first k places hold the registers, and 0 where there are none. What falls is the number of places left.
+-- The first k places hold the registers, and 0 where there are none.
 abbrev pub invariant-loop-k : goal.invariant-loop-k
 invariant-loop-k l = (l.k ≤ length l.initial.to) × Filled 0 (λ i. get_or l.registers i 0) (length l.initial.to) l.k l.to

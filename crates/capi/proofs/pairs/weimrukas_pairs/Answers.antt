@@ -1,6 +1,5 @@
 use mathlib.Core.Path.{sym, ◌∙◌}
 use Rattle.capi.proofs.Listing.{pairs_refused, pairs_listed}
-use borrow.Author.Rules.{rules}
 use Rattle.capi.proofs.pairs.weimrukas_pairs.Goals as goal
 
 pub returns-then-pairs_too_short : goal.returns-then-pairs_too_short

@@ -1,4 +1,3 @@
-use borrow.Author.Rules.{rules}
 use Rattle.capi.proofs.rotations.turns.Goals as goal
 
 pub returns-in-Still : goal.returns-in-Still

@@ -1,5 +1,4 @@
 use Rattle.capi.proofs.CAnswers.{parameters_said}
-use borrow.Author.Rules.{rules}
 use Rattle.capi.proofs.rotations.weimrukas_parameters.Goals as goal
 
 pub returns : goal.returns

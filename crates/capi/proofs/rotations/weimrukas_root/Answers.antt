@@ -1,5 +1,4 @@
 use mathlib.Core.Path.{sym, ap, ◌∙◌}
-use borrow.Author.Rules.{rules}
 use Rattle.root.specs.Exact.{root_answered}
 use Rattle.capi.proofs.CAnswers.{root_given, root_refused}
 use Rattle.capi.proofs.rotations.weimrukas_root.Goals as goal
@@ -10,5 +9,4 @@ returns-in-Of c =
 
 pub returns-in-Refused : goal.returns-in-Refused
 returns-in-Refused c =
-    let refused = c.refused-1.given in
-    root_refused _ _ refused.0.0 (ap root_answered (sym refused.1) ∙ c.sqrt.ensures) c.number.ensures
+    root_refused _ _ _ (ap root_answered (sym c.in-Refused.is) ∙ c.sqrt.ensures) c.number.ensures

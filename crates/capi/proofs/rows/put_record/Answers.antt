@@ -1,7 +1,5 @@
-use mathlib.Core.Path.{refl}
 use native.Mathlib.Omega.{arith}
 use lib.ListN.{length-set}
-use borrow.Author.Rules.{rules}
 use Rattle.capi.proofs.rows.put_record.Goals as goal
 
 pub bounds-values-at-2 : goal.bounds-values-at-2

@@ -1,22 +1,9 @@
-use Prim.Native.Nat.{◌-◌, ◌*◌, ◌≤◌}
-use mathlib.Core.Path.{◌≡◌}
 use native.Mathlib.Nat.{le_antisymm}
 use native.Mathlib.Omega.{arith}
-use lib.ListN.{length}
-use lib.Ieee.{nan}
-use Rattle.lists.proofs.Replaced.{Replaced, replaced_none}
-use Rattle.ordering.specs.Pairs.{registers_at}
+use Rattle.lists.proofs.Replaced.{replaced_none}
 use Rattle.ordering.proofs.OrderRegisters.{of_order}
-use Rattle.capi.specs.Calls.{record_fields, record_flag}
 use Rattle.capi.proofs.Listing.{record_of, record_put, records_put, flag_put, flags_put}
-use borrow.Author.Rules.{rules}
-use Rattle.sizes.specs.Sizes.{processors_of}
 use Rattle.capi.proofs.rows.put_records.Goals as goal
-use Rattle.capi.proofs.rows.put_records.Goals.{After-flag_byte, After-put_record}
-
--- where the values of the record are written
-abbrev at-put : After-flag_byte → After-put_record
-at-put c = c.before.before.before
 
 pub loop-k-init : goal.loop-k-init
 loop-k-init c =
@@ -27,22 +14,18 @@ pub put_record-requires : goal.put_record-requires
 put_record-requires c = omega (arith, c.loop-k.invariant.5.long)
 
 pub bounds-exact-k : goal.bounds-exact-k
-bounds-exact-k c =
-    let i = (at-put c).before.before.before.before.loop.invariant in
-    omega (arith, i.6.long)
+bounds-exact-k c = omega (arith, c.loop-k.invariant.6.long)
 
 pub loop-k-preserved : goal.loop-k-preserved
 loop-k-preserved c =
-    let put = at-put c in
-    let found = put.before.before in
-    let i = found.before.before.loop.inv in
-    let x = record_of _ _ _ _ _ _ i.4 found.of-processor.ensures in (
+    let i = c.loop-k.invariant in
+    let x = record_of _ _ _ _ _ _ i.4 c.of_processor-fields.ensures in (
       omega arith,
       i.1,
       i.2,
       i.3,
       i.4,
-      record_put _ _ _ _ _ _ _ _ x i.5 (omega arith) put.put_record.ensures,
+      record_put _ _ _ _ _ _ _ _ x i.5 (omega arith) c.put_record.ensures,
       flag_put _ _ _ _ _ _ _ _ x c.flag_byte.ensures i.6 (omega arith),
     )
 

@@ -1,5 +1,4 @@
 use Rattle.capi.proofs.Listing.{records_fit, records_given, records_refused}
-use borrow.Author.Rules.{rules}
 use Rattle.capi.proofs.rows.weimrukas_records.Goals as goal
 
 pub put_records-requires : goal.put_records-requires

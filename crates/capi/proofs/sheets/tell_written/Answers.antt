@@ -1,4 +1,3 @@
-use borrow.Author.Rules.{rules}
 use Rattle.capi.proofs.CAnswers.{written_given, written_refused}
 use Rattle.capi.proofs.sheets.tell_written.Goals as goal
 

@@ -1,4 +1,3 @@
-use borrow.Author.Rules.{rules}
 use Rattle.capi.proofs.CAnswers.{write_said}
 use Rattle.capi.proofs.sheets.weimrukas_write_sheet.Goals as goal
 

@@ -8,7 +8,8 @@ use Rattle.ordering.proofs.Registers.after.Given as goal
 -- The registers are those at step s. What falls is step - s.
 abbrev pub invariant-loop-s : goal.invariant-loop-s
 invariant-loop-s l =
-    (l.s ≤ l.step) × (1 ≤ l.processors) × (l.processors ≤ most_processors) × (l.registers ≡ registers_of l.processors (line_at (ordered_line l.first) (l.processors - 1) l.s))
+    (l.s ≤ l.step) × (1 ≤ l.processors) × (l.processors ≤ most_processors)
+    × (l.registers ≡ registers_of l.processors (line_at (ordered_line l.first) (l.processors - 1) l.s))
 
 abbrev pub decreases-loop-s : goal.decreases-loop-s
 decreases-loop-s l = l.step - l.s
