@@ -87,7 +87,8 @@ module _ (n p q : ℕ) where
       let f₁ : l₁ ≡ flat n (row_turn_all P p q (at n l)) = e₁ ∙ turned_flat n p q (row_turn_all P p q) l two in
       let two₁ : two_lines n p q (length l₁) ≡ true = two_as n p q two (ap length f₁ ∙ flat_length n _ ∙ sym t.long) in
       let f₂ =
-      one_more n _ (column_turn_all P p q) (all_columns_same n P p q (first_line_lem t) (second_line_lem t)) f₁ (e₂ ∙ turned_flat n p q (column_turn_all P p q) l₁ two₁) in
+      one_more n _ (column_turn_all P p q) (all_columns_same n P p q (first_line_lem t) (second_line_lem t)) f₁
+      (e₂ ∙ turned_flat n p q (column_turn_all P p q) l₁ two₁) in
       rw (d, z.0, z.1, z.2) at (one_more n _ (with_pair s.left s.right) (set_same s.left s.right) f₂ e₃)
       ∙ flat_same n _ _ (λ r c hr hc. set_turned P (at n l) t.apart r c)
 
@@ -121,7 +122,8 @@ module _ (n p q : ℕ) where
       first_kept r c = entry_kept p p (A p p) (column_turn Still p q (row_turn Still p q A)) r c (sym (turns_kept p p))
 
       diagonal_kept : (r c : ℕ)
-          → with_entry q q (A q q) (with_entry p p (A p p) (column_turn Still p q (row_turn Still p q A))) r c ≡ column_turn Still p q (row_turn Still p q A) r c
+          → with_entry q q (A q q) (with_entry p p (A p p) (column_turn Still p q (row_turn Still p q A))) r c
+          ≡ column_turn Still p q (row_turn Still p q A) r c
       diagonal_kept r c = entry_kept q q (A q q) _ r c (sym (first_kept q q ∙ turns_kept q q)) ∙ first_kept r c
 
   pub still_held : {Q : Parameters} (l l' e : List Float) → two_lines n p q (length l) ≡ true → length e ≡ n * n → Still ≡ Q

@@ -47,7 +47,8 @@ module _ (n : ℕ) (order : is_order n ≡ true) (j : ℕ) where
   pub registers_repeat : (s : ℕ) → registers_at n (j * sweep_steps n + s) ≡ registers_at n s
   registers_repeat s =
       sym (registers_again n (j * sweep_steps n + s) order)
-      ∙ ap (λ (t : ℕ). registers_of (processors_of n) (line_at (ordered_line (first_line n)) (processors_of n - 1) t)) (mul-add-mod_self_right j (sweep_steps n) s)
+      ∙ ap (λ (t : ℕ). registers_of (processors_of n) (line_at (ordered_line (first_line n)) (processors_of n - 1) t))
+      (mul-add-mod_self_right j (sweep_steps n) s)
       ∙ registers_again n s order
 
   module _ (X : State) where

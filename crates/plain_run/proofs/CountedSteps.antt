@@ -62,7 +62,8 @@ module _ (n : ℕ) (order : is_order n ≡ true) (R : Registers) (k : ℕ) (X : 
     (exact : (i : ℕ) → still_of n ≤ i → i < processors_of n → exact_by (get_or tangents i no_tangent)
     ≡ exact_of (get_or R.left i 0) (get_or R.right i 0) (pairs_rotated n R.left R.right i (state_of n l e)).matrix) where
   found_met : (i : ℕ) → i < processors_of n
-      → record { parameters = ruled n i (of_angle (get_or angles i no_angle)); exact = ruled_exact n i (exact_by (get_or tangents i no_tangent)) } ≡ pair_met n k i X
+      → record { parameters = ruled n i (of_angle (get_or angles i no_angle)); exact = ruled_exact n i (exact_by (get_or tangents i no_tangent)) }
+      ≡ pair_met n k i X
   found_met i h =
       met_as n order k i h (state_of n l e) X (read_alike n l e _ held)
       (record { parameters = of_angle (get_or angles i no_angle); exact = exact_by (get_or tangents i no_tangent) })
@@ -98,7 +99,8 @@ module _ (n : ℕ) (order : is_order n ≡ true) (X : State) (j : ℕ) (l e : Li
       rw (add-one j, suc-mul j (sweep_steps n), after_sweeps n order j X (sweep_steps n))
       (held_alike n l' e' _ _ h (after_alike n order (sweep_steps n) _ _ (read_alike n l e _ held)))
 
-  pub sweep_rounded : {c x : ℕ} → c ≡ rounded_by n (steps_of n j) X → x ≡ rounded_by n (sweep_steps n) (state_of n l e) → c + x ≡ rounded_by n (steps_of n (j + 1)) X
+  pub sweep_rounded : {c x : ℕ} → c ≡ rounded_by n (steps_of n j) X → x ≡ rounded_by n (sweep_steps n) (state_of n l e)
+      → c + x ≡ rounded_by n (steps_of n (j + 1)) X
   sweep_rounded f g =
       rw (add-one j, suc-mul j (sweep_steps n), f, g)
       (sym (pairs_more n _ _ (steps_of n j) (sweep_steps n) (λ s i h.

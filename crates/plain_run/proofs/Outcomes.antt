@@ -98,7 +98,8 @@ module _ (n sweeps : ℕ) (l : List Float) (fitting : (k : ℕ) → T (fits bina
   -- the sweeps made leave what all sweeps leave
   pub run_made : {o : Outcome Report} (made rounded : ℕ) (l₀ e₀ l₁ e₁ e₂ : List Float) → l₀ ≡ l → e₀ ≡ flat n identity
       → (report made rounded ≡ report_of n sweeps (state_of n l₀ e₀)) × Held n l₁ e₁ (after n (steps_of n made) (state_of n l₀ e₀))
-      → e₂ ≡ transposed_in n e₁ → o ≡ answering (report made rounded) (finish_of n l₁ e₂) → o ≡ answering (report_of n sweeps (start_of n l)) (ran_of n sweeps l)
+      → e₂ ≡ transposed_in n e₁ → o ≡ answering (report made rounded) (finish_of n l₁ e₂)
+      → o ≡ answering (report_of n sweeps (start_of n l)) (ran_of n sweeps l)
   run_made made rounded l₀ e₀ l₁ e₁ e₂ z y h t f =
       let told : report made rounded ≡ report_of n sweeps (start_of n l) =
       h.0 ∙ ap (λ (k : List Float). report_of n sweeps (state_of n k e₀)) z ∙ report_alike n b.order _ _ (start_alike n l e₀ y) sweeps in

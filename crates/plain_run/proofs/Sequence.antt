@@ -160,7 +160,8 @@ module _ (S : Setting) (order : is_order S.order ≡ true) (X : State) where
 
   -- a run is spoiled exactly if a cell fails after some step
   pub plain_fails : (K : ℕ)
-      → any K (λ k. fails_in (rules S) (first_line n) (lines_of n) (sequential (rules S) (ordered_line (first_line n)) (processors_of n - 1) (cell_of X) (suc k)))
+      → any K (λ k. fails_in (rules S) (first_line n) (lines_of n)
+      (sequential (rules S) (ordered_line (first_line n)) (processors_of n - 1) (cell_of X) (suc k)))
       ≡ spoiled n K X
   unfolding spoiled
   plain_fails K = ap (any K) (fun_ext (λ k. ap (fails_in (rules S) (first_line n) (lines_of n)) (plain_sequential (suc k)) ∙ fails_are (after n (suc k) X)))

@@ -63,7 +63,8 @@ module _ (n : ℕ) (ls rs : List ℕ) (N : ℕ) (paired : Paired n ls rs N) (apa
 
   -- what is found before the step is what is found at the processor's turn
   found_before : {Y : Type 0} (find : Float → Float → Float → Y) (l e : List Float) → length l ≡ n * n → (k : ℕ) → still_of n ≤ k → k < N
-      → found_on find (get_or ls k 0) (get_or rs k 0) (entry_of n l) ≡ found_on find (get_or ls k 0) (get_or rs k 0) (pairs_rotated n ls rs k (state_of n l e)).matrix
+      → found_on find (get_or ls k 0) (get_or rs k 0) (entry_of n l)
+      ≡ found_on find (get_or ls k 0) (get_or rs k 0) (pairs_rotated n ls rs k (state_of n l e)).matrix
   unfolding state_of standing
   found_before find l e long k w below =
       let t = pair_entries n _ _ l (two_as n _ _ (are_real n k _ _ (paired k below) w) long) in
@@ -77,7 +78,8 @@ module _ (n : ℕ) (ls rs : List ℕ) (N : ℕ) (paired : Paired n ls rs N) (apa
 -- ---- the step s, by the tangents of its pairs
 module _ (n : ℕ) (order : is_order n ≡ true) (s : ℕ) (R : Registers) (stand : R ≡ registers_at n s) (tangents : List Rooted) (l e : List Float)
     (long : length l ≡ n * n)
-    (f : (k : ℕ) → still_of n ≤ k → k < processors_of n → get_or tangents k no_tangent ≡ tangent_at (get_or R.left k 0) (get_or R.right k 0) (entry_of n l)) where
+    (f : (k : ℕ) → still_of n ≤ k → k < processors_of n
+    → get_or tangents k no_tangent ≡ tangent_at (get_or R.left k 0) (get_or R.right k 0) (entry_of n l)) where
   before : {Y : Type 0} (find : Float → Float → Float → Y) (k : ℕ) → still_of n ≤ k → k < processors_of n
       → found_on find (get_or R.left k 0) (get_or R.right k 0) (entry_of n l)
       ≡ found_on find (get_or R.left k 0) (get_or R.right k 0) (pairs_rotated n R.left R.right k (state_of n l e)).matrix

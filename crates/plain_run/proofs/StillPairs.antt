@@ -108,7 +108,8 @@ module _ (n : ℕ) (ls rs : List ℕ) (N : ℕ) (paired : Paired n ls rs N) (X :
 
   -- the entries of each pair are cleared at the end of the step
   pub step_clears : (i : ℕ) → i < N
-      → ((pairs_rotated n ls rs N X).matrix (get_or ls i 0) (get_or rs i 0) ≡ plus_zero) × ((pairs_rotated n ls rs N X).matrix (get_or rs i 0) (get_or ls i 0) ≡ plus_zero)
+      → ((pairs_rotated n ls rs N X).matrix (get_or ls i 0) (get_or rs i 0) ≡ plus_zero)
+      × ((pairs_rotated n ls rs N X).matrix (get_or rs i 0) (get_or ls i 0) ≡ plus_zero)
   step_clears i h =
       (to_the_end _ _ i h (pair_clears n i _ _ (apart i h) _), to_the_end _ _ i h (pair_clears_too n i _ _ (apart i h) _))
 

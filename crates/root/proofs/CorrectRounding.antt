@@ -1,5 +1,6 @@
 -- The square root is the correctly rounded one. Assumes nothing.
-use Rattle.std.proofs.Common.{◌≡◌, ℕ, ◌+◌, ◌*◌, ◌/◌, ◌^◌, ◌<◌, ◌≤◌, true, false, T, sym, refl, ap, ◌∙◌, subst, true≢false, lt_of_lt_of_le, mul-le-mul_right, arith, pow_mono, shl_lt}
+use Rattle.std.proofs.Common.{◌≡◌, ℕ, ◌+◌, ◌*◌, ◌/◌, ◌^◌, ◌<◌, ◌≤◌, true, false, T, sym, refl, ap, ◌∙◌, subst, true≢false, lt_of_lt_of_le, mul-le-mul_right}
+use Rattle.std.proofs.Common.{arith, pow_mono, shl_lt}
 use lib.Ieee.{Float, nan, inf, fin, binary64, le, fits, of_bits}
 use lib.Ieee.Positive.{positive}
 use Rattle.refusal.specs.Answers.{given}

@@ -1,5 +1,6 @@
 -- Whether a root is exact, by its digits and by the leading half of them. Assumes nothing.
-use Rattle.std.proofs.Common.{◌≡◌, ℕ, zero, suc, ◌+◌, ◌*◌, ◌/◌, ◌%◌, ◌^◌, ◌<◌, ◌≤◌, Bool, true, false, eqb, sym, refl, ap, ◌∙◌, subst, mul_assoc, mul-one, arith, eq-eqb, ne_eqb, eqb-true}
+use Rattle.std.proofs.Common.{◌≡◌, ℕ, zero, suc, ◌+◌, ◌*◌, ◌/◌, ◌%◌, ◌^◌, ◌<◌, ◌≤◌, Bool, true, false, eqb, sym, refl, ap, ◌∙◌, subst, mul_assoc, mul-one}
+use Rattle.std.proofs.Common.{arith, eq-eqb, ne_eqb, eqb-true}
 use native.Mathlib.Nat.{mul-mul-mul_comm, pow-succ'}
 use borrow.Author.Tests.{eqb-false}
 use lib.Ieee.{Float, odd}

@@ -1,5 +1,6 @@
 -- A bound goes through the root, from below and from above. Assumes nothing.
-use Rattle.std.proofs.Common.{◌≡◌, ℕ, zero, suc, ◌*◌, ◌^◌, ◌<◌, ◌≤◌, true, false, T, sym, refl, true≢false, zero-le, le_trans, le_of_eq, mul-le-mul_right, zero-lt-suc, zero-mul, le_of_mul-le-mul_right, lt-ltb}
+use Rattle.std.proofs.Common.{◌≡◌, ℕ, zero, suc, ◌*◌, ◌^◌, ◌<◌, ◌≤◌, true, false, T, sym, refl, true≢false, zero-le, le_trans, le_of_eq, mul-le-mul_right}
+use Rattle.std.proofs.Common.{zero-lt-suc, zero-mul, le_of_mul-le-mul_right, lt-ltb}
 use lib.Ieee.{Float, nan, inf, fin, binary64, up, down, fits}
 use lib.Ieee.Exact.{HasValue}
 use lib.Ieee.Fits.{down_pos}

@@ -1,5 +1,6 @@
 -- The root of n units by its 53 digits at the top: n = m * 2 ^ z / 2 ^ 53. Assumes nothing.
-use Rattle.std.proofs.Common.{◌≡◌, ℕ, zero, suc, ◌+◌, ◌-◌, ◌*◌, ◌/◌, ◌%◌, ◌^◌, ◌<◌, ◌≤◌, false, sym, refl, ap, ◌∙◌, subst, mul-le-mul_right, mul_assoc, mul-lt-mul_of_pos_right, mul-div_cancel, arith, pow_pos, pow-add}
+use Rattle.std.proofs.Common.{◌≡◌, ℕ, zero, suc, ◌+◌, ◌-◌, ◌*◌, ◌/◌, ◌%◌, ◌^◌, ◌<◌, ◌≤◌, false, sym, refl, ap, ◌∙◌, subst, mul-le-mul_right, mul_assoc}
+use Rattle.std.proofs.Common.{mul-lt-mul_of_pos_right, mul-div_cancel, arith, pow_pos, pow-add}
 use native.Mathlib.Nat.{pow-succ'}
 use lib.Ieee.{odd, size}
 use lib.Ieee.Digits.{size-lt, size-le}
@@ -73,7 +74,8 @@ digits_of m z = nearest_root (k_of m z * 2 ^ 52)
 pub digits53 : (m z : ℕ) → 2 ^ 52 ≤ m → m < 2 ^ 53 → (2 ^ 52 ≤ digits_of m z) × (digits_of m z < 2 ^ 53)
 digits53 m z lo hi = let b = wide m z lo hi in root_digits (k_of m z) b.0 b.1
 
-pub root_units_at : (n m z : ℕ) → n * 2 ^ 53 ≡ m * 2 ^ z → 2 ^ 52 ≤ m → m < 2 ^ 53 → 1 ≤ z → odd 53 false (digits_of m z) (484 + (z + 1) / 2) 1074 ≡ root_units n
+pub root_units_at : (n m z : ℕ) → n * 2 ^ 53 ≡ m * 2 ^ z → 2 ^ 52 ≤ m → m < 2 ^ 53 → 1 ≤ z
+    → odd 53 false (digits_of m z) (484 + (z + 1) / 2) 1074 ≡ root_units n
 unfolding root_units
 root_units_at n m z e lo hi p =
     sym (ap (λ (x : ℕ). odd 53 false (nearest_root (n * 4 ^ 53 / 4 ^ ((x + 1) / 2))) (484 + (x + 1) / 2) 1074) (size_at n m z e lo hi p)

@@ -1,5 +1,6 @@
 -- Identities and bounds on squares of whole numbers. Assumes nothing.
-use Rattle.std.proofs.Common.{◌≡◌, ℕ, ◌+◌, ◌-◌, ◌*◌, ◌/◌, ◌%◌, ◌^◌, ◌<◌, ◌≤◌, ap, ◌∙◌, lt_of_le_of_lt, le_of_lt, mul_comm, add-mul, mul-le-mul, mul-le-mul_left, mul-lt-mul_of_pos_right, mul-add, mul_right_comm, arith}
+use Rattle.std.proofs.Common.{◌≡◌, ℕ, ◌+◌, ◌-◌, ◌*◌, ◌/◌, ◌%◌, ◌^◌, ◌<◌, ◌≤◌, ap, ◌∙◌, lt_of_le_of_lt, le_of_lt, mul_comm, add-mul, mul-le-mul}
+use Rattle.std.proofs.Common.{mul-le-mul_left, mul-lt-mul_of_pos_right, mul-add, mul_right_comm, arith}
 use native.Mathlib.Nat.{mul-mul-mul_comm}
 
 pub next_square : (a : ℕ) → (a + 1) * (a + 1) ≡ a * a + 2 * a + 1

@@ -98,7 +98,8 @@ module _ (a d b : Float) where
   zero_pair_exact h = rw (sym (equal_zero b) ∙ h)
 
   -- where b is not zero both roots count, and that of a t that isn't a number is not exact
-  pub other_pair_exact : eq b plus_zero ≡ false → exact_root (under_root (quotient a d b)) && exact_root (under_root (tangent_of (quotient a d b))) ≡ exact_pair a d b
+  pub other_pair_exact : eq b plus_zero ≡ false → exact_root (under_root (quotient a d b)) && exact_root (under_root (tangent_of (quotient a d b)))
+      ≡ exact_pair a d b
   unfolding exact_pair
   other_pair_exact h = rw (sym (equal_zero b) ∙ h) (go (is_nan (tangent_of (quotient a d b))) refl)
     where
@@ -118,7 +119,8 @@ module _ (a d b : Float) where
   pair_roots = go (is_zero b) refl
     where
       go : (z : Bool) → is_zero b ≡ z
-          → cond z true (exact_root (under_root (quotient a d b))) && exact_root (under_root (cond z plus_zero (tangent_of (quotient a d b)))) ≡ exact_pair a d b
+          → cond z true (exact_root (under_root (quotient a d b))) && exact_root (under_root (cond z plus_zero (tangent_of (quotient a d b))))
+          ≡ exact_pair a d b
       go true e = zero_exact plus_zero plus_zero_lem ∙ zero_pair_exact (equal_zero b ∙ e)
       go false e = other_pair_exact (equal_zero b ∙ e)
 

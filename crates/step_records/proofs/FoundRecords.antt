@@ -53,7 +53,8 @@ accepted_call n l room e =
     positive false e = absurd (true≢false e)
 
 -- the answer is that of the tests before it
-pub answer_given : (n : ℕ) (l : List Float) (step : ℕ) (ys : List Record) → (records_of n l step ys).answer ≡ given tt → before_records n l (length ys) ≡ given tt
+pub answer_given : (n : ℕ) (l : List Float) (step : ℕ) (ys : List Record) → (records_of n l step ys).answer ≡ given tt
+    → before_records n l (length ys) ≡ given tt
 answer_given n l step ys e = sym (records_answer n l step ys) ∙ e
 
 -- what a processor finds of its pair, from the list

@@ -36,6 +36,7 @@ module _ (n : ℕ) (l : List Float) (step : ℕ) (ys : List Record) where
   unfolding records_of
   row_tail = go before
     where
-      go : (a : Answered Unit) → drop (processors_of n) (unless_refused a (row_outcome (given tt) written) (λ x. row_outcome x ys)).row ≡ drop (processors_of n) ys
+      go : (a : Answered Unit) → drop (processors_of n) (unless_refused a (row_outcome (given tt) written) (λ x. row_outcome x ys)).row
+          ≡ drop (processors_of n) ys
       go (given x) = drop_over (processors_of n) (record_at n l (registers_at n step)) ys
       go (refused k values) = refl

@@ -45,7 +45,8 @@ row_outcome a l = record { answer = a; row = l }
 -- The outcome of a call with an order, a matrix and a step, from 0, where the row holds ys before: the first N records are written.
 unfoldable pub records_of : ℕ → List Float → ℕ → List Record → RowOutcome
 records_of n l step ys =
-    unless_refused (before_records n l (length ys)) (row_outcome (given tt) (over (processors_of n) (record_at n l (registers_at n step)) ys)) (λ a. row_outcome a ys)
+    unless_refused (before_records n l (length ys)) (row_outcome (given tt) (over (processors_of n) (record_at n l (registers_at n step)) ys))
+    (λ a. row_outcome a ys)
 
 -- How many records are written, by the answer.
 abbrev pub written : ℕ → Answered Unit → ℕ

@@ -9,4 +9,5 @@ use Rattle.matrix.proofs.exchange_line.Given as goal
 -- Where the lines before line i were exchanged at the start, the first j places of row i and column i are so too.
 abbrev pub invariant-loop-j : goal.invariant-loop-j
 invariant-loop-j l =
-    (l.i < l.n) × (l.j ≤ l.i) × (length l.initial.a ≡ l.n * l.n) × (length l.a ≡ l.n * l.n) × ((A : ℕ → ℕ → Float) → l.initial.a ≡ flat l.n (across (up_to l.i 0) A) → l.a ≡ flat l.n (across (up_to l.i l.j) A))
+    (l.i < l.n) × (l.j ≤ l.i) × (length l.initial.a ≡ l.n * l.n) × (length l.a ≡ l.n * l.n)
+    × ((A : ℕ → ℕ → Float) → l.initial.a ≡ flat l.n (across (up_to l.i 0) A) → l.a ≡ flat l.n (across (up_to l.i l.j) A))

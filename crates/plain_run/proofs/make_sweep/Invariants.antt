@@ -12,7 +12,8 @@ use Rattle.plain_run.proofs.make_sweep.Given as goal
 -- steps - k.
 abbrev pub invariant-loop-k : goal.invariant-loop-k
 invariant-loop-k l =
-    (l.k ≤ l.steps) × (is_order l.n ≡ true) × (l.registers ≡ registers_at l.n l.k) × Held l.n l.a l.vectors (after l.n l.k (state_of l.n l.initial.a l.initial.vectors))
+    (l.k ≤ l.steps) × (is_order l.n ≡ true) × (l.registers ≡ registers_at l.n l.k)
+    × Held l.n l.a l.vectors (after l.n l.k (state_of l.n l.initial.a l.initial.vectors))
     × (l.turns ≡ turns_by l.n l.k (state_of l.n l.initial.a l.initial.vectors)) × (l.rounded ≡ rounded_by l.n l.k (state_of l.n l.initial.a l.initial.vectors))
 
 abbrev pub decreases-loop-k : goal.decreases-loop-k

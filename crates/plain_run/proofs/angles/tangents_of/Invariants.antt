@@ -10,4 +10,5 @@ use Rattle.plain_run.proofs.angles.tangents_of.Given as goal
 -- The tangents of the processors from the first that is not always still up to k are found.
 abbrev pub invariant-loop-k : goal.invariant-loop-k
 invariant-loop-k l =
-    (l.k ≤ l.processors) × FilledFrom l.initial.k no_tangent (λ i. tangent_at (get_or l.lefts i 0) (get_or l.rights i 0) (entry_of l.n l.a)) most_processors l.k l.tangents
+    (l.k ≤ l.processors)
+    × FilledFrom l.initial.k no_tangent (λ i. tangent_at (get_or l.lefts i 0) (get_or l.rights i 0) (entry_of l.n l.a)) most_processors l.k l.tangents
