@@ -1,10 +1,9 @@
--- How much the program reads, and what it prints, from what its calls leave. Assumes nothing.
+-- What the program prints, from what its calls leave. Assumes nothing.
 use Prim.Native.Nat.{ℕ, ◌≤◌}
-use mathlib.Core.Path.{◌≡◌, ap, subst, ◌∙◌}
+use mathlib.Core.Path.{◌≡◌, sym, ap, ◌∙◌}
 use mathlib.Core.List.{List}
 use lib.ListN.{length}
-use Rattle.io.specs.Counts.{IsPrefixLen}
-use Rattle.io.proofs.Counting.{prefix_len_of_le}
+use lib.Seq.{length-take-le}
 use Rattle.refusal.specs.Answers.{Answered, given, refused, answered}
 use Rattle.refusal.specs.Refusal.{number_of}
 use Rattle.refusal.specs.declared.Refusal.{Refusal}
@@ -14,12 +13,10 @@ use Rattle.listing_text.specs.Printed.{Printing, printing, refusal_of}
 use Rattle.listing_text.proofs.Room.{Within, refusal_within}
 use Rattle.listing.specs.Listing.{ListingOutcome, listed, list_of}
 use Rattle.listing.proofs.ListingParts.{listing_within}
-use Rattle.list_sheet.specs.declared.Input.{Input}
-use Rattle.list_sheet.specs.declared.Input.TheVariants.{Read}
-use Rattle.list_sheet.specs.Program.{prints_by, prints_of, ReadWithin}
+use Rattle.list_sheet.specs.Program.{prints_by, prints_of, IsPrefixLen}
 
-pub read_within : {most bytes : ℕ} (x : Input) → x ≡ Read bytes → ReadWithin most x → bytes ≤ most
-read_within {most} x z h = subst (ReadWithin most) z h
+counted : (n : ℕ) (l : List ℕ) → n ≤ length l → IsPrefixLen n l
+counted n l h = (h, sym (length-take-le n l h))
 
 by_within : (a : Answered Unit) (o : ListingOutcome) → o.count ≤ length o.bytes → Within (prints_by a o)
 by_within (given x) o h = h
@@ -31,7 +28,7 @@ module _ (b t : List ℕ) where
   prints_within = by_within (list_of b t).answer (list_of b t) (listing_within b t)
 
   pub prints_counted : {k : ℕ} {l : List ℕ} → printing k l ≡ prints_of b t → (printing k l ≡ prints_of b t) × IsPrefixLen k l
-  prints_counted {k} {l} e = (e, prefix_len_of_le k l (rw (← e) at prints_within))
+  prints_counted {k} {l} e = (e, counted k l (rw (← e) at prints_within))
 
   module _ (x : Answer) {k : ℕ} {l : List ℕ} (h : listed (answered x) (printing k l) ≡ list_of b t) where
     pub accepted_printed : x ≡ Accepted → printing k l ≡ prints_of b t

@@ -1,7 +1,8 @@
 #![tactic(auto)]
 // Reads a sheet on standard input, runs the array, and prints it (document 01, "The printed sheet"). Where a read or a write fails, a line on
 // standard error says so, and after a failed read nothing is printed. The exit status is 0 even then.
-ghost use Rattle.std.specs.Prelude.{◌≡◌, length};
+ghost use Rattle.std.specs.Prelude.{◌≡◌, ◌<◌, length, take, IfOk};
+ghost use Rattle.std.specs.Io.KnownBytes.{Consumes, IsAtEnd, ReadConsumes};
 ghost use Rattle.listing_text.specs.Printed.{printing};
 ghost use Rattle.list_sheet.specs.Program.{prints_of, IsPrefixLen, ReadWithin};
 
@@ -59,7 +60,9 @@ fn list_input<P: Print + Eprint, R: Read>(rt: &P, input: &mut R) -> io::Result<(
 
 // Reads until the buffer is full or the input ends.
 fn read<R: Read>(input: &mut R, buffer: &mut [u8]) -> io::Result<usize>
-    ensures { ReadWithin (length buffer.new) result }
+    ensures within { ReadWithin (length buffer.new) result }
+    ensures bytes { IfOk result (λ n. Consumes (R.remaining input.old) (R.remaining input.new) (take n buffer.new)) }
+    ensures end { IfOk result (λ n. n < length buffer.new → IsAtEnd (R.remaining input.new)) }
 {
     let mut bytes = 0;
     while bytes < buffer.len() {
@@ -74,7 +77,8 @@ fn read<R: Read>(input: &mut R, buffer: &mut [u8]) -> io::Result<usize>
 
 // One read; 0 bytes are the end of the input.
 fn read_once<R: Read>(input: &mut R, buffer: &mut [u8]) -> io::Result<usize>
-    ensures { ReadWithin (length buffer.new) result }
+    ensures within { ReadWithin (length buffer.new) result }
+    ensures bytes { ReadConsumes (R.remaining input.old) (R.remaining input.new) result buffer.new }
 {
     input.read(buffer)
 }

@@ -1,2 +1,1 @@
 pub mod ReadWords
-pub mod WrittenTexts

@@ -1,7 +1,6 @@
 -- The heads of runs. Definitions only.
 use Rattle.std.specs.Prelude.{ℕ, ◌+◌, ◌*◌, ◌≤◌}
 use Rattle.sizes.specs.Sizes.{largest_order}
-use Rattle.test_io.specs.declared.runs.Run.{Run}
 use Rattle.test_io.specs.declared.runs.Head.{Head}
 use Rattle.test_io.specs.declared.runs.Head.TheVariants as head
 

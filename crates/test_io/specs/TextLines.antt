@@ -1,5 +1,6 @@
 -- The text lines that the crate reads and writes, as lists of ASCII codes. Definitions only.
-use Rattle.std.specs.Prelude.{◌≡◌, cond, List, [], ◌∷◌, ◌++◌, ℕ, zero, suc, ◌+◌, ◌-◌, ◌*◌, ltb, leb, eqb, length, take, get_or}
+use Rattle.std.specs.Prelude.{◌≡◌, cond, List, [], ◌∷◌, ◌++◌, ℕ, zero, suc, ◌+◌, ◌-◌, ◌*◌, ltb, leb, eqb, length, take, get_or, Option, IfSome}
+use Rattle.std.specs.Io.KnownBytes.{Appends, Consumes}
 use Rattle.text.specs.Text.{hex_of, newline}
 use Rattle.test_io.specs.Digits.{last_digits, IsDigitCount}
 use Rattle.test_io.specs.declared.TextLine.{TextLine}
@@ -34,6 +35,14 @@ unfoldable pub word_of : List ℕ → TextLine
 unfolding spelt ended
 word_of s = ended (spelt 16 s) (get_or s 16 0)
 
+-- What the first text line of bytes says. Fewer than 17 bytes are no text line.
+abbrev pub first_word : List ℕ → TextLine
+first_word s = cond (ltb (length s) 17) End (word_of (take 17 s))
+
+-- Where it is known which bytes are left to read, the line is the first of them, and they lose it.
+abbrev pub ReadsWord : Option (List ℕ) → Option (List ℕ) → TextLine → Type 0
+ReadsWord old new line = IfSome old (λ s. line ≡ first_word s) × IfSome old (λ s. Consumes old new (take 17 s))
+
 -- What bytes are after a text is put into them from at on, and where the text ends.
 pub record Extended (bytes : List ℕ) (at : ℕ) (text after : List ℕ) (end : ℕ) : Type 0 where
   pub ends : end ≡ at + length text
@@ -45,3 +54,7 @@ pub record Numbered (word : List ℕ) (n : ℕ) (text : List ℕ) : Type 0 where
   pub count : ℕ
   pub fewest : IsDigitCount 10 1 n count
   pub is : text ≡ word ++ (32 ∷ (last_digits 10 count n ++ (10 ∷ [])))
+
+-- Where it is known which bytes are written, they grow by a word, a space, n in decimal and a newline.
+abbrev pub AppendsNumber : Option (List ℕ) → Option (List ℕ) → List ℕ → ℕ → Type 0
+AppendsNumber old new word n = (text : List ℕ) × Numbered word n text × Appends old new text

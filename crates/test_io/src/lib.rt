@@ -3,9 +3,10 @@
 // an input and written to an output, and decimal numbers after a word. The modules have what such
 // programs read and write in these lines: values, whether roots were exact, refusals, and the heads
 // of runs.
-ghost use Rattle.std.specs.Prelude.{◌≡◌, ◌+◌, ◌<◌, ◌≤◌, length, take, IfOk};
+ghost use Rattle.std.specs.Prelude.{◌≡◌, ◌+◌, ◌<◌, ◌≤◌, length, take, IfOk, IsErr, OnOk};
+ghost use Rattle.std.specs.Io.KnownBytes.{Appends, Consumes, IsAtEnd};
 ghost use Rattle.test_io.specs.Counts.{IsPrefixLen};
-ghost use Rattle.test_io.specs.TextLines.{digit_of, word_text_line, word_of, Extended, Numbered};
+ghost use Rattle.test_io.specs.TextLines.{digit_of, word_text_line, word_of, AppendsNumber, Extended, Numbered, ReadsWord};
 
 use std::io::{self, ErrorKind, Read, Write};
 
@@ -21,7 +22,9 @@ pub enum TextLine {
 }
 
 // Reads a line of the input. Its end, and a line that is not 16 digits and a newline, are End.
-pub fn read_word<R: Read>(input: &mut R) -> io::Result<TextLine> {
+pub fn read_word<R: Read>(input: &mut R) -> io::Result<TextLine>
+    ensures { IfOk result (ReadsWord (R.remaining input.old) (R.remaining input.new)) }
+{
     let mut text = [0u8; 17];
     let n = read_full(input, &mut text)?;
     if n < 17 {
@@ -32,7 +35,10 @@ pub fn read_word<R: Read>(input: &mut R) -> io::Result<TextLine> {
 
 // Reads until the buffer is full or the input ends, and answers how many bytes it holds then.
 fn read_full<R: Read>(input: &mut R, buffer: &mut [u8]) -> io::Result<usize>
-    ensures { IfOk result (λ n. IsPrefixLen n buffer.new) }
+    ensures prefix_len { IfOk result (λ n. IsPrefixLen n buffer.new) }
+    ensures bytes { IfOk result (λ n. Consumes (R.remaining input.old) (R.remaining input.new) (take n buffer.new)) }
+    ensures end { IfOk result (λ n. n < length buffer.new → IsAtEnd (R.remaining input.new)) }
+    ensures as_long { length buffer.new ≡ length buffer.old }
 {
     let mut done = 0;
     while done < buffer.len() {
@@ -46,14 +52,19 @@ fn read_full<R: Read>(input: &mut R, buffer: &mut [u8]) -> io::Result<usize>
 }
 
 // Writes n as a line of 16 digits.
-pub fn print_word<W: Write>(output: &mut W, n: u64) -> io::Result<()> {
+pub fn print_word<W: Write>(output: &mut W, n: u64) -> io::Result<()>
+    ensures { OnOk result (Appends (W.contents output.old) (W.contents output.new) (word_text_line n)) }
+{
     let text = spell(n);
     output.write_all(&text)
 }
 
 // Writes word, a space, n in decimal and a newline. A word of more than 32 bytes is not written, and
 // the answer is InvalidInput.
-pub fn print_number<W: Write>(output: &mut W, word: &[u8], n: u64) -> io::Result<()> {
+pub fn print_number<W: Write>(output: &mut W, word: &[u8], n: u64) -> io::Result<()>
+    ensures ok { OnOk result (AppendsNumber (W.contents output.old) (W.contents output.new) word.now n) }
+    ensures long { 32 < length word.now → IsErr result }
+{
     if word.len() > 32 {
         return Err(io::Error::from(ErrorKind::InvalidInput));
     }

@@ -1,5 +1,11 @@
 // Values as words, by their bits: a NaN is written as 7FF8000000000000, and every pattern of a NaN is read as one. And whether roots were
 // exact, as a word.
+ghost use Rattle.std.specs.Prelude.{OnOk};
+ghost use Rattle.std.specs.Float.{binary64};
+ghost use Rattle.std.specs.Float.Ieee.{to_bits};
+ghost use Rattle.std.specs.Io.KnownBytes.{Appends};
+ghost use Rattle.test_io.specs.TextLines.{word_text_line};
+
 use crate::TextLine;
 use std::io::{self, Read, Write};
 
@@ -22,7 +28,9 @@ pub fn print_values<W: Write>(output: &mut W, a: &[f64]) -> io::Result<()> {
     Ok(())
 }
 
-pub fn print_value<W: Write>(output: &mut W, x: f64) -> io::Result<()> {
+pub fn print_value<W: Write>(output: &mut W, x: f64) -> io::Result<()>
+    ensures { OnOk result (Appends (W.contents output.old) (W.contents output.new) (word_text_line (to_bits binary64 x))) }
+{
     crate::print_word(output, float64::to_bits(x))
 }
 

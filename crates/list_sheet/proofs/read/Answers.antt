@@ -1,20 +1,22 @@
-use Rattle.list_sheet.proofs.Prints.{read_within}
-use Prim.Native.Nat.{◌-◌, ◌≤◌}
-use mathlib.Core.Path.{◌≡◌}
-use native.Mathlib.Omega.{arith}
-use lib.ListN.{length}
-use borrow.Author.Rules.{rules}
+use Rattle.std.proofs.Common.{◌≡◌, ℕ, ◌+◌, ◌-◌, ◌≤◌, List, ◌++◌, rules, length, take, drop, sym, ap, ◌∙◌, subst, le_refl, drop_at, length-take-le}
+use Rattle.std.proofs.lemmas.Slice.{take-put_mid_below}
+use Rattle.std.specs.Io.KnownBytes.{Consumes}
+use Rattle.std.proofs.KnownBytes.{Consumes-trans}
+use borrow.Rule.Slice.PartMut.{put_mid, post_of}
+use lib.Seq.{take-add, take-append-le}
 use Rattle.list_sheet.proofs.read.Goals as goal
-use Rattle.list_sheet.proofs.read.Goals.{After-read_once-got, Else-more-eq0}
 
-abbrev at_once : Else-more-eq0 → After-read_once-got
-at_once c = c.before.before.before.before.before.before
-
-more : (c : Else-more-eq0) → c.in-Read.more ≤ length (at_once c).read-once.new.0
-more c = read_within _ c.in-Read.is (at_once c).read-once.ensures
-
-pub overflow_add-bytes : goal.overflow_add-bytes
-overflow_add-bytes c = omega (arith, more c)
+-- after n bytes ys were read into the part from at on
+filled : (at k n : ℕ) (xs ys : List ℕ) → at ≤ length xs → n ≤ length ys → take at xs ++ take n ys ≡ take (at + n) (put_mid at k xs ys)
+filled at k n xs ys within fits =
+    let all = put_mid at k xs ys in
+    let front = take-put_mid_below at k xs ys at (le_refl _) within in
+    let back : take n (drop at all) ≡ take n ys =
+    ap (take n) (drop_at (take at xs) (ys ++ post_of at k xs) at (length-take-le at xs within)) ∙ take-append-le n ys (post_of at k xs) fits in
+    sym (take-add at n all ∙ ap (λ l. l ++ take n (drop at all)) front ∙ ap (λ l. take at xs ++ l) back)
 
 pub loop-bytes-preserved : goal.loop-bytes-preserved
-loop-bytes-preserved c = (omega (arith, more c), omega arith)
+loop-bytes-preserved g c =
+    let l = c.loop-bytes in
+    let joined = filled l.bytes (length l.buffer - l.bytes) c.in_ok-more.more l.buffer c.read_once.new.buffer l.invariant.0 c.in_ok-more.ensures.within in
+    (search rules, search rules, subst (Consumes _ _) joined (Consumes-trans _ _ _ _ _ l.invariant.2 c.in_ok-more.ensures.bytes.0))
