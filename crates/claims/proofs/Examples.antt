@@ -30,7 +30,8 @@ use Rattle.claims.specs.Examples.{All, examples}
 pub examples_hold : All examples
 unfolding sqrt_of of_bits to_bits finite tabulate any slot came_from into_last prior line_at in_order_at ordered_line column registers_of registers_at is_order
     at flat first not_finite_at not_mirrored_at finite_row mirror_row turned_at row_turn column_turn column_turn_all of_angle of_tangent tangent_of_pair of_pair
-    identity bordered ruled place pair_block matrix_block pair_turned pair_rotated pairs_rotated after not_finite_from not_finite spoiled before_run start_of ran_of run_of
+    identity bordered ruled place pair_block matrix_block pair_turned pair_rotated pairs_rotated after not_finite_from not_finite
+    spoiled before_run start_of ran_of run_of
     root_units exact_units exact_root exact_pair ruled_exact pair_met turns_in rounded_in count total pairs_by quiet sweeps_made report_of answered_run_of
 examples_hold = (
   refl,

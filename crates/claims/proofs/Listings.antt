@@ -63,7 +63,8 @@ use Rattle.text.specs.Text.{decimal_of, shown_from, hex_of}
 use Rattle.claims.specs.Listings.{run_in, ListingAnswers, ListingLeaves, codes_printed, sheet_printed, listed_as, RefusalPrints}
 use Rattle.claims.specs.Listings.{example_print, ExamplesPrinted, ListingsAsStated}
 
-by_answer : (a : Answered Unit) (p : Printing) (t : List ℕ) → (unless_refused a (listed (given tt) p) (λ (x : Answered Unit). listed x (printing 0 t))).answer ≡ a
+by_answer : (a : Answered Unit) (p : Printing) (t : List ℕ) → (unless_refused a (listed (given tt) p) (λ (x : Answered Unit). listed x (printing 0 t))).answer
+    ≡ a
 by_answer (given tt) p t = refl
 by_answer (refused k values) p t = refl
 
@@ -156,10 +157,12 @@ example_outcome =
     (values (0x3fe6_a09e_667f_3bcc ∷ 0x3fe6_a09e_667f_3bcc ∷ 0xbfe6_a09e_667f_3bcc ∷ 0x3fe6_a09e_667f_3bcc ∷ []))
 
 example_ran : run_in example_sheet ≡ example_outcome
-unfolding sqrt_of of_bits to_bits finite tabulate any slot came_from into_last prior line_at in_order_at ordered_line column registers_of registers_at is_order at
+unfolding sqrt_of of_bits to_bits finite tabulate any slot came_from into_last prior line_at in_order_at ordered_line
+    column registers_of registers_at is_order at
     flat first not_finite_at not_mirrored_at finite_row mirror_row turned_at row_turn column_turn column_turn_all of_angle of_tangent tangent_of_pair tangent_of
     cosine_of quotient signum root_of of_pair identity bordered ruled place pair_block matrix_block pair_turned pair_rotated pairs_rotated after not_finite_from
-    not_finite spoiled before_run start_of ran_of run_of sweeps_made root_units exact_units exact_root exact_pair is_nan ruled_exact pair_met rounded_in count total
+    not_finite spoiled before_run start_of ran_of run_of sweeps_made root_units exact_units exact_root
+    exact_pair is_nan ruled_exact pair_met rounded_in count total
     pairs_by report_of zeros pattern_in entry_in width_in order_in word_from entry_number entries_to add sub mul div lt neg
 example_ran = agrees example_sheet ∙ refl
 
@@ -171,12 +174,14 @@ long_ran = example_ran
 module _ (t : List ℕ) (room : room_for 2 ≤ length t) where
   short_printed : list_of example_sheet t ≡ listed_as (example_print (0x37 ∷ []) (0x39 ∷ [])) t
   unfolding of_bits to_bits finite tabulate any is_order at flat first zeros pattern_in entry_in width_in order_in code_in codes_in word_from entry_number
-      entries_to sheet_answer bad_codes bad_code long_codes long_in_vain stored_row not_finite_in codes_printed value_field column_of decimal_of shown_from hex_of
+      entries_to sheet_answer bad_codes bad_code long_codes long_in_vain stored_row not_finite_in
+      codes_printed value_field column_of decimal_of shown_from hex_of
   short_printed = printed example_sheet t (reporting (report 1 1) 4) refl (ap (λ (o : Outcome WholeReport). o.answer) example_ran) room ∙ rw example_ran
 
   long_printed : list_of long_sheet t ≡ listed_as (example_print (0x33 ∷ 0x30 ∷ 0x30 ∷ []) (0x37 ∷ [])) t
   unfolding of_bits to_bits finite tabulate any is_order at flat first zeros pattern_in entry_in width_in order_in code_in codes_in word_from entry_number
-      entries_to sheet_answer bad_codes bad_code long_codes long_in_vain stored_row not_finite_in codes_printed value_field column_of decimal_of shown_from hex_of
+      entries_to sheet_answer bad_codes bad_code long_codes long_in_vain stored_row not_finite_in
+      codes_printed value_field column_of decimal_of shown_from hex_of
   long_printed = printed long_sheet t (reporting (report 1 1) 4) refl (ap (λ (o : Outcome WholeReport). o.answer) long_ran) room ∙ rw long_ran
 
   examples : ExamplesPrinted t

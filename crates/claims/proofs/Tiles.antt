@@ -177,7 +177,8 @@ first_cell : (n : ℕ) (l : List Float) (r c : ℕ) → cell (bordered (at n l) 
 unfolding bordered
 first_cell n l r c = go (eqb r 0 || eqb c 0)
   where
-    go : (b : Bool) → cell (cond b plus_zero (at n l r c)) (cond b plus_zero (identity r c)) ≡ cond b (cell plus_zero plus_zero) (cell (at n l r c) (identity r c))
+    go : (b : Bool) → cell (cond b plus_zero (at n l r c)) (cond b plus_zero (identity r c))
+        ≡ cond b (cell plus_zero plus_zero) (cell (at n l r c) (identity r c))
     go true = refl
     go false = refl
 

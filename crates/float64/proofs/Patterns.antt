@@ -75,7 +75,8 @@ field_units b h l =
 -- ---- two values with the same bits are one value
 pub same_bits_same : (x y : Float) → T (fits binary64 x) → T (fits binary64 y) → same_bits x y ≡ true → x ≡ y
 same_bits_same x y h k e =
-    sym (of_bits-to_bits binary64 x h) ∙ ap (of_bits binary64) (eqb→eq (to_bits binary64 x) (to_bits binary64 y) (subst T (sym e) tt)) ∙ of_bits-to_bits binary64 y k
+    sym (of_bits-to_bits binary64 x h) ∙ ap (of_bits binary64) (eqb→eq (to_bits binary64 x) (to_bits binary64 y) (subst T (sym e) tt))
+    ∙ of_bits-to_bits binary64 y k
 
 -- ---- which patterns are finite
 finite_odd : (d : ℕ) (s : Bool) (q k l : ℕ) → finite (odd d s q k l) ≡ true

@@ -98,7 +98,8 @@ bits_by_units (inf s) f = absurd f
 bits_by_units (fin true m e) f = add_assoc _ _ _
 bits_by_units (fin false m e) f = add_assoc _ _ _
 
-pub same_units : (x y : Float) → T (finite x) → T (finite y) → T (fits binary64 x) → T (fits binary64 y) → sign_of x ≡ sign_of y → units_of x ≡ units_of y → x ≡ y
+pub same_units : (x y : Float) → T (finite x) → T (finite y) → T (fits binary64 x) → T (fits binary64 y)
+    → sign_of x ≡ sign_of y → units_of x ≡ units_of y → x ≡ y
 same_units x y f g h k s u =
     sym (of_bits-to_bits binary64 x h)
     ∙ ap (of_bits binary64)

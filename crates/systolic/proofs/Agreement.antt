@@ -108,7 +108,8 @@ module _ {X H W D : Type 0} (R : Rules X H W D) (l : Slot → ℕ) (m : ℕ) (on
   each_to b e right left = (four_to (R.fails b.α) (R.fails b.β) (R.fails b.γ) (R.fails b.δ) e).2
   each_to b e right right = (four_to (R.fails b.α) (R.fails b.β) (R.fails b.γ) (R.fails b.δ) e).3
 
-  block_to : (L : Slot → ℕ) (A : ℕ → ℕ → X) (i j : ℕ) → any_fails R (block_at L A i j) ≡ false → (r s : Side) → R.fails (A (L (slot i r)) (L (slot j s))) ≡ false
+  block_to : (L : Slot → ℕ) (A : ℕ → ℕ → X) (i j : ℕ) → any_fails R (block_at L A i j) ≡ false
+      → (r s : Side) → R.fails (A (L (slot i r)) (L (slot j s))) ≡ false
   unfolding block_at
   block_to L A i j e r s = ap R.fails (sym (cell_tab _ r s)) ∙ each_to (block_at L A i j) e r s
 
@@ -199,7 +200,8 @@ module _ {X H W D : Type 0} (R : Rules X H W D) (b m : ℕ) (M : ℕ → ℕ →
         → pick (λ i j. (array_after (operations_of R (ordered_line b) M x h w d) m (n * (2 * m + 1)) (3 * (n * (2 * m + 1)) + suc m) i j).cells) u z
         ≡ sequential R (ordered_line b) m M (n * (2 * m + 1)) (ordered_line b u) (ordered_line b z)
     pub mark : fails_in R b (2 * suc m) M ≡ false
-        → any (suc m) (λ i. any (suc m) (λ j. (array_after (operations_of R (ordered_line b) M x h w d) m (n * (2 * m + 1)) (3 * (n * (2 * m + 1)) + suc m) i j).mark))
+        → any (suc m) (λ i. any (suc m) (λ j.
+        (array_after (operations_of R (ordered_line b) M x h w d) m (n * (2 * m + 1)) (3 * (n * (2 * m + 1)) + suc m) i j).mark))
         ≡ any (n * (2 * m + 1)) (λ k. fails_in R b (2 * suc m) (sequential R (ordered_line b) m M (suc k)))
 
   pub agreement : (n : ℕ) → Agreement n

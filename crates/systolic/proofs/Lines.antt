@@ -6,7 +6,8 @@ use native.Mathlib.Omega.{arith}
 use native.Mathlib.Nat.{div-add-mod', add_comm}
 use borrow.Author.Tests.{eqb-true, eqb-false, eq-eqb}
 use lib.Dec.{eqb}
-use Rattle.systolic.specs.Slots.{Side, left, right, Slot, slot, next, prior, next_by, line_at, in_order_at, ordered_line, meet_in, meet_at, Meet, in_order, reversed}
+use Rattle.systolic.specs.Slots.{Side, left, right, Slot, slot, next, prior, next_by, line_at, in_order_at}
+use Rattle.systolic.specs.Slots.{ordered_line, meet_in, meet_at, Meet, in_order, reversed}
 use Rattle.lists.specs.Bounded.{count}
 use Rattle.lists.proofs.Bounded.{any_hit, any_find, count_one}
 use Rattle.systolic.proofs.Movement.{prior_next, next_prior, prior_le, next_by_le, period, next_by_one, meets}

@@ -173,7 +173,8 @@ module _ {X H W D : Type 0} (S : Operations X H W D) (m K : ℕ) where
       unfolding kept_at
       kept_one k b d o e f = rw (e, f, ← o, eq-eqb i i refl)
 
-      new_kept_lem : (a : Action) → View K (distance i j) t a → i ≡ j → (k : ℕ) → k ≤ K → 3 * k < suc t + 3 → (k < K → suc t ≤ 3 * k) → keeping a ≡ kept_at S m k i
+      new_kept_lem : (a : Action) → View K (distance i j) t a → i ≡ j → (k : ℕ) → k ≤ K → 3 * k < suc t + 3
+          → (k < K → suc t ≤ 3 * k) → keeping a ≡ kept_at S m k i
       unfolding new_parameter
       new_kept_lem idle (waiting w) o k l x y = absurd (omega arith)
       new_kept_lem first (starting w z) o k l x y =
@@ -214,7 +215,8 @@ module _ {X H W D : Type 0} (S : Operations X H W D) (m K : ℕ) where
               ap (cell (carried i r) (carried j s)) (new_during a w k l (omega arith) (omega arith))
           go false e =
               let f : phase_of m r s i j < 3 = phase_lt m r s i j in
-              let n : ¬ (t ≡ distance i j + phase_of m r s i j + 3 * k) = λ u. eqb-false _ _ e (at_writes K (distance i j) t (phase_of m r s i j) k a w f l u) in
+              let n : ¬ (t ≡ distance i j + phase_of m r s i j + 3 * k) =
+              λ u. eqb-false _ _ e (at_writes K (distance i j) t (phase_of m r s i j) k a w f l u) in
               (all i j pi pj).wire r s k l (omega arith) (omega arith)
 
       next_known : Known (suc t) i j (array_after S m K (suc t) i j)
@@ -228,7 +230,8 @@ module _ {X H W D : Type 0} (S : Operations X H W D) (m K : ℕ) where
             wire = new_wire (action_at K (distance i j) t) w;
             row = new_parameter_lem S.sends_row i _ _ (λ e. (refl, sym e)) (λ k l. row_in k i j pi pj l) (all i j pi pj).row (action_at K (distance i j) t) w;
             column =
-                new_parameter_lem S.sends_column j _ _ (λ e. (e, refl)) (λ k l. column_in k i j pi pj l) (all i j pi pj).column (action_at K (distance i j) t) w;
+                new_parameter_lem S.sends_column j _ _ (λ e. (e, refl)) (λ k l. column_in k i j pi pj l) (all i j pi pj).column
+                (action_at K (distance i j) t) w;
             kept = new_kept_lem (action_at K (distance i j) t) w;
           }
 

@@ -188,7 +188,8 @@ module _ {X H W D : Type 0} (R : Rules X H W D) (k m : ℕ) (L : Slot → ℕ) (
 
         go : (b c : Bool) → eqb i j ≡ b → ltb i j ≡ c
             → cond b (R.diagonal k i (block_at L M i i))
-            (cond c (turn_block_columns R (v j) (turn_block_rows R (h i) (block_at L M i j))) (turn_block_rows R (h i) (turn_block_columns R (v j) (block_at L M i j))))
+            (cond c (turn_block_columns R (v j) (turn_block_rows R (h i) (block_at L M i j)))
+            (turn_block_rows R (h i) (turn_block_columns R (v j) (block_at L M i j))))
             ≡ block_at L (pairs_step R k L (suc m) M) i j
         go true c e f = let w : i ≡ j = eqb-true _ _ e in rw (← w) (sym (z.diagonal i p (omega arith)))
         go false true e f = let w : i < j = ltb-true _ _ f in sym (z.upper i j q w (omega arith))

@@ -67,7 +67,8 @@ ordered_line b u = in_order_at b u.side u.processor
 -- The lines p and q stand in the two registers of processor i at step s.
 unfoldable pub meet_in : (Slot → ℕ) → ℕ → ℕ → ℕ → ℕ → ℕ → Bool
 meet_in l m s p q i =
-    (eqb (line_at l m s (slot i left)) p && eqb (line_at l m s (slot i right)) q) || (eqb (line_at l m s (slot i left)) q && eqb (line_at l m s (slot i right)) p)
+    (eqb (line_at l m s (slot i left)) p && eqb (line_at l m s (slot i right)) q)
+    || (eqb (line_at l m s (slot i left)) q && eqb (line_at l m s (slot i right)) p)
 
 -- They meet in step s.
 unfoldable pub meet_at : (Slot → ℕ) → ℕ → ℕ → ℕ → ℕ → Bool
