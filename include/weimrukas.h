@@ -2,7 +2,7 @@
  * Weimrukas: eigenvalues and eigenvectors of symmetric matrices of coded barley lines by the Jacobi method in the
  * ordering of Brent and Luk, as plain sweeps or by a systolic array of tiles. Both give the same bits.
  *
- * `rt staticlib capi` proves the library and writes it for x86-64: link target/staticlib/libcapi.a. `tools/install`
+ * `rt lib` in crates/capi proves the library and writes it for x86-64: link crates/capi/out/libcapi.a. `tools/install`
  * installs it as libweimrukas.
  *
  * Answers. Where nothing else is said a function answers 0, or the number of a refusal: 1 to 9 by document 01's table,

@@ -1,5 +1,5 @@
-//! Links the static library from the folder that `WEIMRUKAS_LIB_DIR` names; without it from `target/staticlib` of the
-//! repository, where `rt staticlib capi` writes it.
+//! Links the static library from the folder that `WEIMRUKAS_LIB_DIR` names; without it from `crates/capi/out` of the
+//! repository, where `rt lib` writes it.
 use std::env;
 use std::path::{Path, PathBuf};
 use std::process;
@@ -28,7 +28,7 @@ fn folder() -> PathBuf {
         Some(folder) => PathBuf::from(folder),
         None => {
             let package = env::var("CARGO_MANIFEST_DIR").expect("set by cargo");
-            Path::new(&package).join("../../target/staticlib")
+            Path::new(&package).join("../../crates/capi/out")
         }
     }
 }
@@ -37,5 +37,5 @@ fn explain(folder: &Path) {
     let folder = folder.display();
     eprintln!("There is no libweimrukas.a and no libcapi.a in {folder}.");
     eprintln!("Set {VARIABLE} to the folder of the static library, such as PREFIX/lib after `tools/install PREFIX`,");
-    eprintln!("or leave it unset and run `rt staticlib capi` in the root of the repository.");
+    eprintln!("or leave it unset and run `rt lib` in the folder `crates/capi` of the repository.");
 }
