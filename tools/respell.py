@@ -104,7 +104,9 @@ def turned_line(line, path, put, token):
         return token.sub(lambda t: put(t) if "-" not in t[0] else t[0], line)
     if re.match(r"use [\w.]+\.Tie as|use [\w.]+\.Statement\.", line):
         return line
-    return token.sub(put, line)
+    # Prose has dashes of its own.
+    code, mark, comment = line.partition("--")
+    return token.sub(put, code) + mark + token.sub(lambda t: put(t) if "-" not in t[0] else t[0], comment)
 
 
 main()

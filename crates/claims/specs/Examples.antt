@@ -45,7 +45,7 @@ Holds (run n sweeps made rounded a l e) =
     → answered_run_of n sweeps (values a) r v ≡ outcome (given (report made rounded)) (values l) (values e)
 
 -- Roots: 4 (it is 2), -0 (-0), 2, 2 ^ -1074 (2 ^ -537), 1 - 2 ^ -53 (itself), 1 + 2 ^ -52 (1); 4, -0 and 2 ^ -1074 are
--- exact. The run: diagonal 1 and 3, off_diagonal 0, one sweep: unchanged, identity. And the same for 16 sweeps, of
+-- exact. The run: diagonal 1 and 3, off-diagonal 0, one sweep: unchanged, identity. And the same for 16 sweeps, of
 -- which the first is quiet. No root in it is rounded.
 abbrev pub examples : List Example
 examples =

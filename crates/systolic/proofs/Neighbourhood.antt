@@ -14,7 +14,7 @@ use Rattle.systolic.proofs.Cells.{tab_ext}
 use Rattle.systolic.proofs.Clock.{receiving}
 use Rattle.systolic.proofs.Wires.{joined_le, nearer_ok}
 
--- a value that only an off_diagonal tile uses, and only when it rotates
+-- a value that only an off-diagonal tile uses, and only when it rotates
 off_diagonal : {P : Type 0} (a : Action) (i j : ℕ) (p h h' : P) → rotates a ≡ true → (receives_in a i j ≡ true → h ≡ h')
     → cond (eqb i j) p h ≡ cond (eqb i j) p h'
 off_diagonal a i j p h h' z f = go (eqb i j) refl

@@ -83,7 +83,7 @@ turn_block_columns R v b = tab (λ r s. R.column_turn v s (cell r left b) (cell 
 unfoldable pub any_fails : {X H W D : Type 0} → Rules X H W D → Block X → Bool
 any_fails R b = R.fails b.α || R.fails b.β || R.fails b.γ || R.fails b.δ
 
--- An off_diagonal tile with i < j takes the row turn first, then the column turn; with i > j the column turn first.
+-- An off-diagonal tile with i < j takes the row turn first, then the column turn; with i > j the column turn first.
 unfoldable pub operations_of : {X H W D : Type 0} → Rules X H W D → (Slot → ℕ) → (ℕ → ℕ → X) → X → H → W → D → Operations X H W D
 operations_of R l M x h w d =
     record {

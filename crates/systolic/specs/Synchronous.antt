@@ -4,7 +4,7 @@ use Rattle.systolic.specs.Slots.{came_from}
 use Rattle.systolic.specs.Blocks.{Block, tab, pick}
 
 -- What the processors do, for cells X, parameters H that go along rows, parameters W that go along columns, and D that a diagonal processor keeps.
--- The first number of an operation is the step. A diagonal processor i has the second number i; an off_diagonal one at row i and column j has i and j.
+-- The first number of an operation is the step. A diagonal processor i has the second number i; an off-diagonal one at row i and column j has i and j.
 pub record Operations (X H W D : Type 0) : Type 0 where
   pub wire_start : X
   pub row_start : H

@@ -906,7 +906,7 @@ tiles_4_0 : tiles_after 3 0 (up_to 5) ≡
 unfolding tiles_after
 tiles_4_0 = refl
 
--- the cells where an off_diagonal processor stamps them with its step, row and column
+-- the cells where an off-diagonal processor stamps them with its step, row and column
 stamped_2_2 : stamped_after 1 2 (up_to 9) ≡
     (260378329464 ∷ 496614599734 ∷ 408560497666 ∷ 712864835007 ∷ []) ∷
     (566436251774 ∷ 496614599734 ∷ 408560497666 ∷ 278293221107 ∷ []) ∷

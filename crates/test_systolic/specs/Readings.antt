@@ -154,7 +154,7 @@ unfoldable pub tiles_after : ℕ → ℕ → List ℕ → List (List ℕ)
 unfolding each up_to square tile_digits array
 tiles_after m K ts = each ts (λ t. square (suc m) (λ i j. tile_digits (array m K t i j)))
 
--- the cells where an off_diagonal processor stamps them with its step, row and column
+-- the cells where an off-diagonal processor stamps them with its step, row and column
 unfoldable pub stamped_after : ℕ → ℕ → List ℕ → List (List ℕ)
 unfolding each up_to square block_digits array stamped_array
 stamped_after m K ts = each ts (λ t. square (suc m) (λ i j. block_digits 1000 (array_after stamped_array m K t i j).cells))

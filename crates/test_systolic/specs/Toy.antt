@@ -61,7 +61,7 @@ unfoldable pub toy_array : Operations ℕ ℕ ℕ ℕ
 unfolding operations_of toy ordered_line entry slot cell tab block_at turn_block_rows turn_block_columns any_fails
 toy_array = operations_of toy (ordered_line 1) entry 901 902 903 904
 
--- The rules do not show an off_diagonal processor's step, row and column, so here is an array in which they tell.
+-- The rules do not show an off-diagonal processor's step, row and column, so here is an array in which they tell.
 unfoldable pub stamp : ℕ → ℕ → ℕ → ℕ → ℕ → Block ℕ → Block ℕ
 stamp k i j h v b =
     record {
