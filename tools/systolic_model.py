@@ -465,19 +465,19 @@ def registers_theorems(theorems):
     theorems.note("the left and the right register of each processor, a digit each, before steps 0 to 2 N")
     for N, first in FROM:
         states = [[digits(pair, 1) for pair in Registers(N, first).after(s).pairs()] for s in range(2 * N + 1)]
-        theorems.add(f"registers-{N}-{first}", "registersOver", (first, N - 1), states)
+        theorems.add(f"registers_{N}_{first}", "registers_over", (first, N - 1), states)
     theorems.note("after 0 to 2 N steps, where the line that began in each register stands, a digit each: left k as 2 (k - 1), right k as 2 k - 1")
     for N in range(1, 5):
         states = []
         for step in range(2 * N + 1):
             standing = [line for pair in Registers(N, 0).after(step).pairs() for line in pair]
             states.append(digits([standing.index(line) for line in range(2 * N)], 1))
-        theorems.add(f"moves-{N}", "movesOver", (N - 1,), states)
+        theorems.add(f"moves_{N}", "moves_over", (N - 1,), states)
     theorems.note("the step of a sweep, from 1, in which two lines meet: a row for each line and in it a digit for each line, 0 for itself")
     for N, first in FROM:
         numbers = range(first, first + 2 * N)
         table = [digits([0 if p == q else meeting_step(N, first, p, q) for q in numbers], 1) for p in numbers]
-        theorems.add(f"meetings-{N}-{first}", "meetingSteps", (first, N - 1), table)
+        theorems.add(f"meetings_{N}_{first}", "meeting_steps", (first, N - 1), table)
 
 
 def wiring_theorems(theorems):
@@ -487,7 +487,7 @@ def wiring_theorems(theorems):
         for i, j in Array(N, 0).places:
             ends = [CONNECTED_TO[wire](N, i, j) for wire in CORNERS]
             table.append([digits([row - 1, column - 1, CORNERS.index(end)], 1) for end, row, column in ends])
-        theorems.add(f"connections-{N}", "connections", (N - 1,), table)
+        theorems.add(f"connections_{N}", "connections", (N - 1,), table)
     theorems.note("of each tile Algorithm Interchange on the cells 1 2 / 3 4, and its wires, at 5 6 / 7 8, after each of the three phases")
     new, old = dict(zip(CORNERS, (1, 2, 3, 4))), dict(zip(CORNERS, (5, 6, 7, 8)))
     for N in range(1, 5):
@@ -499,7 +499,7 @@ def wiring_theorems(theorems):
                 chosen = wires_of_phase(N, i, j, phase)
                 blocks.append({wire: out[wire] if wire in chosen else old[wire] for wire in CORNERS})
             table.append([digits([block[corner] for corner in CORNERS], 1) for block in blocks])
-        theorems.add(f"outputs-{N}", "outputs", (N - 1,), table)
+        theorems.add(f"outputs_{N}", "outputs", (N - 1,), table)
 
 
 def cells(array):
@@ -552,16 +552,16 @@ def array_theorems(theorems):
         for N, K in ARRAYS:
             some = SOME_TICKS.get((name, N, K))
             ticks = some or range(3 * K + N + 2)
-            argument = "(" + " ∷ ".join([*map(str, some), "[]"]) + ")" if some else f"(upTo {ticks[-1]})"
-            theorems.add(f"{name}-{N}-{K}", name + "After", (N - 1, K, argument), over_ticks(Array(N, K), ticks, read))
+            argument = "(" + " ∷ ".join([*map(str, some), "[]"]) + ")" if some else f"(up_to {ticks[-1]})"
+            theorems.add(f"{name}_{N}_{K}", name + "_after", (N - 1, K, argument), over_ticks(Array(N, K), ticks, read))
     theorems.note("an array that runs no step: of every tile the cells, the wires, the parameter wires, the mark and what is kept, beside each other")
     for N in range(1, 5):
         states = over_ticks(Array(N, 0), range(N + 2), whole_tiles)
-        theorems.add(f"tiles-{N}-0", "tilesAfter", (N - 1, 0, f"(upTo {N + 1})"), states)
+        theorems.add(f"tiles_{N}_0", "tiles_after", (N - 1, 0, f"(up_to {N + 1})"), states)
     theorems.note("the cells where an off-diagonal processor stamps them with its step, row and column")
     for N, K in [(2, 2), (4, 1)]:
         states = over_ticks(Array(N, K, stamp), range(3 * K + N + 2), cells)
-        theorems.add(f"stamped-{N}-{K}", "stampedAfter", (N - 1, K, f"(upTo {3 * K + N + 1})"), states)
+        theorems.add(f"stamped_{N}_{K}", "stamped_after", (N - 1, K, f"(up_to {3 * K + N + 1})"), states)
 
 
 def traffic_theorems(theorems):
@@ -575,11 +575,11 @@ def traffic_theorems(theorems):
                 tests = [wire in array.wires_set[place] for wire in CORNERS] + [array.received[place]]
                 state.append(numeral("".join(map(flag, tests))))
             states.append(state)
-        theorems.add(f"traffic-{N}", "trafficIn", (N - 1, 2, 3 * 2 + N + 1), states)
+        theorems.add(f"traffic_{N}", "traffic_in", (N - 1, 2, 3 * 2 + N + 1), states)
     theorems.note("how many wires are set and how many parameters received in runs of 0 to 3 steps, for N = 1 to 4")
     totals = [[run_traffic(N, K) for K in range(4)] for N in range(1, 5)]
-    theorems.add("wires-set", "wiresSetOver", (4,), [[str(wires_set) for wires_set, _ in row] for row in totals])
-    theorems.add("received", "receivedOver", (4,), [[str(received) for _, received in row] for row in totals])
+    theorems.add("wires_set_lem", "wires_set_over", (4,), [[str(wires_set) for wires_set, _ in row] for row in totals])
+    theorems.add("received", "received_over", (4,), [[str(received) for _, received in row] for row in totals])
 
 
 def run_theorems(theorems):
@@ -590,30 +590,30 @@ def run_theorems(theorems):
         for step in range(PLAIN_STEPS[N]):
             a = plain_run(N, first, step)
             states.append([digits(a[r, c] for c in numbers) for r in numbers])
-        theorems.add(f"plain-{N}-{first}", "plainOver", (first, N - 1, PLAIN_STEPS[N]), states)
+        theorems.add(f"plain_{N}_{first}", "plain_over", (first, N - 1, PLAIN_STEPS[N]), states)
     theorems.note("what each processor keeps before the steps of the plain run")
     for N, first in FROM:
         states = [digits(plain_kept(N, first, step)) for step in range(KEPT_STEPS[N])]
-        theorems.add(f"plain-kept-{N}-{first}", "plainKeptOver", (first, N - 1, KEPT_STEPS[N]), states)
+        theorems.add(f"plain_kept_{N}_{first}", "plain_kept_over", (first, N - 1, KEPT_STEPS[N]), states)
     theorems.note("whether an entry fails after 0 to 3 steps, a digit each, for N = 1 to 4")
     states = [numeral("".join(flag(any(map(failing, plain_run(N, 1, step).values()))) for step in range(4))) for N in range(1, 5)]
-    theorems.add("fails", "failsOver", (4,), states)
+    theorems.add("fails", "fails_over", (4,), states)
     theorems.note("the idealized array: the blocks before each step, and after its rotations")
     for N in range(1, 5):
         states = []
         for before, after in idealized(N, BLOCK_STEPS[N]):
             states += [[block_digits(b) for b in before.values()], [block_digits(b) for b in after.values()]]
-        theorems.add(f"blocks-{N}", "blocksOver", (N - 1, BLOCK_STEPS[N]), states)
+        theorems.add(f"blocks_{N}", "blocks_over", (N - 1, BLOCK_STEPS[N]), states)
     theorems.note("the parameters that its processors send in each step, along the row and along the column")
     for N in range(2, 4):
         states = []
         for step, (blocks, _) in enumerate(idealized(N, 3)):
             sent = [(along_row(step, i, blocks[i, i]), along_column(step, i, blocks[i, i])) for i in range(1, N + 1)]
             states.append([digits(pair) for pair in sent])
-        theorems.add(f"sent-{N}", "sentOver", (N - 1, 3), states)
+        theorems.add(f"sent_{N}", "sent_over", (N - 1, 3), states)
     theorems.note("and what they keep before each step")
     for N in range(1, 4):
-        theorems.add(f"ideal-kept-{N}", "keptOver", (N - 1, 4), [digits(state) for state in kept_over(N, 4)])
+        theorems.add(f"ideal_kept_{N}", "kept_over", (N - 1, 4), [digits(state) for state in kept_over(N, 4)])
 
 
 # What is computed: N and the first wire; N and K; where not every tick of a run and one beyond are read, those that are; steps by N.
@@ -646,7 +646,7 @@ BLOCK_STEPS = {1: 3, 2: 3, 3: 2, 4: 2}
 def imports(names):
     """Lines of six names each."""
     groups = [names[k : k + 6] for k in range(0, len(names), 6)]
-    return ["use Rattle·test_systolic·specs.specs.Readings.{" + ", ".join(group) + "}" for group in groups]
+    return ["use Rattle.test_systolic.specs.Readings.{" + ", ".join(group) + "}" for group in groups]
 
 
 def main():
@@ -661,9 +661,9 @@ def main():
     head = [
         "-- Written by tools/systolic_model.py, which works the values out from the documents. Each is computed here by the definitions.",
         "-- Assumes nothing.",
-        "use mathlib.Core.Path.{_≡_, refl}",
-        "use mathlib.Core.List.{[], _∷_}",
-        *imports(["upTo", *theorems.readings]),
+        "use mathlib.Core.Path.{◌≡◌, refl}",
+        "use mathlib.Core.List.{[], ◌∷◌}",
+        *imports(["up_to", *theorems.readings]),
     ]
     root = pathlib.Path(__file__).resolve().parent.parent
     path = root / "crates" / "test_systolic" / "proofs" / "Computed.antt"
