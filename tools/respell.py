@@ -3,7 +3,7 @@
 
 A name of the repository's own in camel case, or of plain words joined by dashes, comes to snake case, in specs/, proofs/, clauses, comments and
 the pages of docs/. Types, modules, names of the source and names that Rattle makes keep their spelling. Where the new name is another's already,
-NAMES says what it is called. With --list it writes nothing and prints the names that fall together.
+NAMES says what it is called. With --list it writes nothing and prints the names that fall together; with --help it prints this.
 """
 import glob
 import os
@@ -60,6 +60,9 @@ def own_names(crates):
 
 
 def main():
+    if "--help" in sys.argv:
+        print(__doc__.strip())
+        return
     os.chdir(os.path.join(os.path.dirname(os.path.abspath(__file__)), ".."))
     crates = set(os.listdir("crates"))
     own, imported, fields = own_names(crates)
