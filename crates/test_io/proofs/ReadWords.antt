@@ -29,7 +29,8 @@ spoilt s i (suc k) h b =
     (eq-or-lt_of_le le)
 
 -- a digit more
-pub one_more : (s : List ℕ) (i n : ℕ) → spelt i s ≡ Word n → digit_of (get_or s i 0) < 16 → spelt (i + 1) s ≡ Word (n * 16 + digit_of (get_or s i 0))
+pub one_more : (s : List ℕ) (i n : ℕ) → spelt i s ≡ Word n → digit_of (get_or s i 0) < 16
+    → spelt (i + 1) s ≡ Word (n * 16 + digit_of (get_or s i 0))
 unfolding spelt then
 one_more s i n h b = rw (add-one, h, lt-ltb _ _ b)
 

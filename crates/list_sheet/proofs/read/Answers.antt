@@ -1,4 +1,5 @@
-use Rattle.std.proofs.Common.{◌≡◌, ℕ, ◌+◌, ◌-◌, ◌≤◌, List, ◌++◌, rules, length, take, drop, sym, ap, ◌∙◌, subst, le_refl, drop_at, length-take-le}
+use Rattle.std.proofs.Common.{◌≡◌, ℕ, ◌+◌, ◌-◌, ◌≤◌, List, ◌++◌, length, take, drop}
+use Rattle.std.proofs.Common.{rules, sym, ap, ◌∙◌, subst, le_refl, drop_at, length-take-le}
 use Rattle.std.proofs.lemmas.Slice.{take-put_mid_below}
 use Rattle.std.specs.Io.KnownBytes.{Consumes}
 use Rattle.std.proofs.KnownBytes.{Consumes-trans}
@@ -18,5 +19,9 @@ filled at k n xs ys within fits =
 pub loop-bytes-preserved : goal.loop-bytes-preserved
 loop-bytes-preserved g c =
     let l = c.loop-bytes in
-    let joined = filled l.bytes (length l.buffer - l.bytes) c.in_ok-more.more l.buffer c.read_once.new.buffer l.invariant.0 c.in_ok-more.ensures.within in
-    (search rules, search rules, subst (Consumes _ _) joined (Consumes-trans _ _ _ _ _ l.invariant.2 c.in_ok-more.ensures.bytes.0))
+    let joined = filled l.bytes (length l.buffer - l.bytes) c.in_ok-more.more l.buffer c.read_once.new.buffer l.invariant.within c.in_ok-more.ensures.within in
+    record {
+      within = search rules;
+      as_long = search rules;
+      known = subst (Consumes _ _) joined (Consumes-trans _ _ _ _ _ l.invariant.known c.in_ok-more.ensures.bytes.0);
+    }

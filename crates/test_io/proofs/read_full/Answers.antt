@@ -1,4 +1,5 @@
-use Rattle.std.proofs.Common.{◌≡◌, ℕ, ◌+◌, ◌-◌, ◌≤◌, List, ◌++◌, rules, length, take, drop, sym, ap, ◌∙◌, subst, le_refl, drop_at, length-take-le}
+use Rattle.std.proofs.Common.{◌≡◌, ℕ, ◌+◌, ◌-◌, ◌≤◌, List, ◌++◌, length, take, drop}
+use Rattle.std.proofs.Common.{rules, sym, ap, ◌∙◌, subst, le_refl, drop_at, length-take-le}
 use Rattle.std.proofs.lemmas.Slice.{take-put_mid_below}
 use Rattle.std.specs.Io.KnownBytes.{Consumes}
 use Rattle.std.proofs.KnownBytes.{Consumes-trans}
@@ -18,5 +19,9 @@ filled at k n xs ys within fits =
 pub loop-done-preserved : goal.loop-done-preserved
 loop-done-preserved g c =
     let l = c.loop-done in
-    let done = filled l.done (length l.buffer - l.done) c.in_ok-n.n l.buffer c.read.new.buf l.invariant.0 c.in_ok-n.ensures.bound.0 in
-    (search rules, search rules, subst (Consumes _ _) done (Consumes-trans _ _ _ _ _ l.invariant.2 c.in_ok-n.ensures.bytes.0))
+    let done = filled l.done (length l.buffer - l.done) c.in_ok-n.n l.buffer c.read.new.buf l.invariant.within c.in_ok-n.ensures.bound.0 in
+    record {
+      within = search rules;
+      as_long = search rules;
+      known = subst (Consumes _ _) done (Consumes-trans _ _ _ _ _ l.invariant.known c.in_ok-n.ensures.bytes.0);
+    }
