@@ -6,16 +6,14 @@ use ordering::Registers;
 use plain_run::Ran;
 use root::Root;
 use sheet_reader::Reading;
-use std::io::{self, BufWriter, ErrorKind, Write};
+use std::io::{self, ErrorKind, Write};
 use test_io::runs::LIMIT;
 use test_io::{refusals, values};
 
 const LARGEST: u64 = 0x7FEF_FFFF_FFFF_FFFF;
 
 fn main(rt: HostRuntime) -> io::Result<()> {
-    let mut output = BufWriter::new(rt.alloc(), rt.stdout())?;
-    write_all(&mut output)?;
-    output.flush()
+    write_all(&mut rt.stdout())
 }
 
 fn write_all<W: Write>(output: &mut W) -> io::Result<()> {

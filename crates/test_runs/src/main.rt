@@ -2,7 +2,7 @@
 // Reads cases of runs, one word to a line, and writes what comes of each. A case begins with the number of its kind: 0 is a whole run by
 // the array, 1 a run by hand, 2 a tick of a wild record and 3 a run by plain sweeps.
 // tools/array_vectors.py writes the input and the expected output.
-use std::io::{self, BufReader, BufWriter, Read, Write};
+use std::io::{self, Read, Write};
 use test_io::TextLine;
 
 mod by_hand;
@@ -13,14 +13,14 @@ mod wild;
 // A proved loop has to end, so its turns are counted, up to a number that no run uses up. A read or a write that fails ends the program with
 // its error.
 fn main(rt: HostRuntime) -> io::Result<()> {
-    let mut input = BufReader::new(rt.alloc(), rt.stdin())?;
-    let mut output = BufWriter::new(rt.alloc(), rt.stdout())?;
+    let mut input = rt.stdin();
+    let mut output = rt.stdout();
     for _ in 0..u64::MAX {
         if !answer_case(&mut input, &mut output)? {
             break;
         }
     }
-    output.flush()
+    Ok(())
 }
 
 // Answers one case, and says whether there may be another.

@@ -3,13 +3,12 @@
 // to the largest order the length of its sheet in the short and in the long form and the room for its listing. tools/compare_header writes
 // the expected output, from the header.
 use sizes::{LARGEST_ORDER, MOST_PROCESSORS, MOST_SWEEPS};
-use std::io::{self, BufWriter, Write};
+use std::io::{self, Write};
 
 fn main(rt: HostRuntime) -> io::Result<()> {
-    let mut output = BufWriter::new(rt.alloc(), rt.stdout())?;
+    let mut output = rt.stdout();
     print_limits(&mut output)?;
-    print_lengths(&mut output)?;
-    output.flush()
+    print_lengths(&mut output)
 }
 
 fn print_limits<W: Write>(output: &mut W) -> io::Result<()> {
