@@ -4,7 +4,7 @@
 ghost use Rattle.std.specs.Prelude.{◌≡◌, ◌<◌, length, take, IfOk};
 ghost use Rattle.std.specs.Io.KnownBytes.{Consumes, IsAtEnd, ReadConsumes};
 ghost use Rattle.listing_text.specs.Printed.{printing};
-ghost use Rattle.list_sheet.specs.Program.{prints_of, IsPrefixLen, ReadWithin};
+ghost use Rattle.list_sheet.specs.Program.{prints_of, IsPrefixLen, ReadsOn, ReadWithin};
 
 use refusal::Answer;
 use std::env::{Env, FillError};
@@ -63,6 +63,7 @@ fn read<R: Read>(input: &mut R, buffer: &mut [u8]) -> io::Result<usize>
     ensures within { ReadWithin (length buffer.new) result }
     ensures bytes { IfOk result (λ n. Consumes (R.remaining input.old) (R.remaining input.new) (take n buffer.new)) }
     ensures end { IfOk result (λ n. n < length buffer.new → IsAtEnd (R.remaining input.new)) }
+    ensures reads_on { ReadsOn (R.remaining input.old) (R.remaining input.new) }
 {
     let mut bytes = 0;
     while bytes < buffer.len() {

@@ -1,1 +1,2 @@
+pub mod ReadsOn
 pub mod ReadWords

@@ -44,6 +44,10 @@ first_word s = cond (ltb (length s) 17) End (word_of (take 17 s))
 abbrev pub ReadsWord : Option (List ℕ) → Option (List ℕ) → TextLine → Type 0
 ReadsWord old new line = IfSome old (λ s. line ≡ first_word s) × IfSome old (λ s. Consumes old new (take 17 s))
 
+-- Where it is known which bytes are left to read, some first ones are read and the others are left.
+abbrev pub ReadsOn : Option (List ℕ) → Option (List ℕ) → Type 0
+ReadsOn old new = (bs : List ℕ) × Consumes old new bs
+
 -- What bytes are after a text is put into them from at on, and where the text ends.
 pub record Extended (bytes : List ℕ) (at : ℕ) (text after : List ℕ) (end : ℕ) : Type 0 where
   pub ends : end ≡ at + length text

@@ -6,7 +6,7 @@
 ghost use Rattle.std.specs.Prelude.{◌≡◌, ◌+◌, ◌<◌, ◌≤◌, length, take, IfOk, IsErr, OnOk};
 ghost use Rattle.std.specs.Io.KnownBytes.{Appends, Consumes, IsAtEnd};
 ghost use Rattle.test_io.specs.Counts.{IsPrefixLen};
-ghost use Rattle.test_io.specs.TextLines.{digit_of, word_text_line, word_of, AppendsNumber, Extended, Numbered, ReadsWord};
+ghost use Rattle.test_io.specs.TextLines.{digit_of, word_text_line, word_of, AppendsNumber, Extended, Numbered, ReadsOn, ReadsWord};
 
 use std::io::{self, ErrorKind, Read, Write};
 
@@ -23,7 +23,8 @@ pub enum TextLine {
 
 // Reads a line of the input. Its end, and a line that is not 16 digits and a newline, are End.
 pub fn read_word<R: Read>(input: &mut R) -> io::Result<TextLine>
-    ensures { IfOk result (ReadsWord (R.remaining input.old) (R.remaining input.new)) }
+    ensures word { IfOk result (ReadsWord (R.remaining input.old) (R.remaining input.new)) }
+    ensures reads_on { ReadsOn (R.remaining input.old) (R.remaining input.new) }
 {
     let mut text = [0u8; 17];
     let n = read_full(input, &mut text)?;
@@ -38,6 +39,7 @@ fn read_full<R: Read>(input: &mut R, buffer: &mut [u8]) -> io::Result<usize>
     ensures prefix_len { IfOk result (λ n. IsPrefixLen n buffer.new) }
     ensures bytes { IfOk result (λ n. Consumes (R.remaining input.old) (R.remaining input.new) (take n buffer.new)) }
     ensures end { IfOk result (λ n. n < length buffer.new → IsAtEnd (R.remaining input.new)) }
+    ensures reads_on { ReadsOn (R.remaining input.old) (R.remaining input.new) }
     ensures as_long { length buffer.new ≡ length buffer.old }
 {
     let mut done = 0;

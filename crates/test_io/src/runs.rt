@@ -2,6 +2,7 @@
 // vectors, and the word that both results are filled with.
 ghost use Rattle.std.specs.Prelude.{IfOk};
 ghost use Rattle.test_io.specs.Runs.{Lendable};
+ghost use Rattle.test_io.specs.TextLines.{ReadsOn};
 
 use crate::TextLine;
 use sizes::LARGEST_ORDER;
@@ -32,7 +33,8 @@ pub enum Head {
 
 // Reads the head of a run. The end of the input is End, and so is a length above LIMIT.
 pub fn read_head<R: Read>(input: &mut R) -> io::Result<Head>
-    ensures { IfOk result Lendable }
+    ensures lendable { IfOk result Lendable }
+    ensures reads_on { ReadsOn (R.remaining input.old) (R.remaining input.new) }
 {
     let TextLine::Word(n) = crate::read_word(input)? else {
         return Ok(Head::End);
