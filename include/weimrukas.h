@@ -27,7 +27,7 @@
  * be set before the call, but for the words of a tick. These are the caller's fault: a null pointer, also for a slice
  * of no values; a length that is not that of the memory; and what a function may write overlapping anything else that
  * it is lent, which gives wrong results. Any other argument, whatever its value, is answered. Nothing is allocated or
- * kept, and no function calls any but memcpy, memmove and memset; threads may call them at the same time. 256 KiB of
+ * kept, and no function calls any but memcpy, memmove and memset; threads may call them at the same time. 320 KiB of
  * stack are enough.
  *
  * Orders. n may be even or odd. There are N = (n + 1) / 2 processors, rounded down. A sweep has n - 1 steps where n is

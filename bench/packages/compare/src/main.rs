@@ -18,7 +18,7 @@ use std::process::ExitCode;
 use std::thread;
 
 /// All calls are made on a stack of so many bytes.
-const STACK: usize = 1 << 18;
+const STACK: usize = 320 << 10;
 
 /// Draws and compares, prints a line to a subject, and tells whether all is as expected.
 type Subject = fn(&mut Random) -> bool;
