@@ -1,5 +1,8 @@
 -- Where no tick is made the array stays, and ticks after the last change nothing. Assumes nothing.
-use Prim.Native.Nat.{ℕ, zero, suc, ◌+◌, ◌-◌, ◌≤◌, ◌<◌}
+use Prim.Native.Nat.{ℕ, zero, suc, ◌+◌, ◌-◌, min, ◌≤◌, ◌<◌}
+use mathlib.Core.Bool.{Bool, true, false}
+use borrow.Author.Tests.{leb-true, leb-false}
+use lib.Dec.{leb}
 use mathlib.Core.Path.{◌≡◌, refl, sym, ap, ◌∙◌}
 use native.Mathlib.Nat.{zero-add, suc-add}
 use native.Mathlib.Omega.{arith}
@@ -48,7 +51,14 @@ module _ (x : Array) where
       pub goes_on : (k : ℕ) → k ≤ left → GoesOn x k
       goes_on k h = record { order = ahead_here.order; few = ahead_here.few; room = omega (arith, is-left, ahead_here.end) }
 
-      pub all_left : (k : ℕ) {y : Array} → left < k → y ≡ ticked left x → y ≡ ticked k x
-      all_left k h f =
+      all_left : (k : ℕ) → left ≤ k → ticked left x ≡ ticked k x
+      all_left k h =
           let e : k - left + left ≡ k = omega arith in
-          f ∙ sym (rw e at (ended_stays (k - left) left (goes_on left (omega arith)) (omega (arith, is-left, ahead_here.end))))
+          sym (rw e at (ended_stays (k - left) left (goes_on left (omega arith)) (omega (arith, is-left, ahead_here.end))))
+
+      pub at_most_left : (k : ℕ) {m : ℕ} {y : Array} → m ≡ min k left → y ≡ ticked m x → y ≡ ticked k x
+      at_most_left k {m} e f = f ∙ go (leb k left) refl
+        where
+          go : (b : Bool) → leb k left ≡ b → ticked m x ≡ ticked k x
+          go true z = let w : k ≤ left = leb-true _ _ z in let same : m ≡ k = omega arith in rw same
+          go false z = let w : left < k = leb-false _ _ z in let same : m ≡ left = omega arith in rw same (all_left k (omega arith))

@@ -6,18 +6,9 @@ use lib.Ieee.{Float}
 use Rattle.lists.specs.Tabulate.{tabulate}
 use Rattle.sizes.specs.Sizes.{most_processors}
 use Rattle.tile.specs.declared.Tile.{Tile}
-use Rattle.tile_start.specs.Beginning.{zero_part, starting_tile, start_tile}
+use Rattle.tile_start.specs.Beginning.{start_tile}
 use Rattle.array.specs.declared.Array.{Array}
-use Rattle.array.specs.Runs.{start_array, no_array}
-
--- the same tile everywhere
-pub all_alike : {t u : Tile} → t ≡ u → tabulate (most_processors * most_processors) (λ k. t) ≡ tabulate (most_processors * most_processors) (λ k. u)
-all_alike e = rw e
-
-pub none_is : {l : List Tile} → l ≡ tabulate (most_processors * most_processors) (λ k. starting_tile zero_part)
-    → ◌≡◌ {A = Array} (record { n = 0; sweeps = 0; tick = 0; tiles = l }) no_array
-unfolding no_array
-none_is e = rw e
+use Rattle.array.specs.Runs.{start_array}
 
 pub start_is : (n sweeps : ℕ) (l : List Float) {tiles : List Tile}
     → tiles ≡ tabulate (most_processors * most_processors) (λ k. start_tile n l (k / most_processors) (k % most_processors))

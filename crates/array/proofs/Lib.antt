@@ -1,9 +1,10 @@
 pub mod ArrayStart
 pub mod TicksInARow
-pub mod TileNeighbours
 pub mod TickedTiles
 pub mod TickedArray
 pub mod MadeTicks
 pub mod ArrayEnd
-pub mod AngleTable
 pub mod RefusedRecords
+pub mod AngleTable
+pub mod TileRows
+pub mod HalfTicks

@@ -1,30 +1,19 @@
--- Starts, and ticks one after the other. Assumes nothing.
-use Prim.Native.Nat.{ℕ, zero, suc, ◌+◌, ◌-◌, ◌≤◌}
-use mathlib.Core.Path.{◌≡◌, refl, sym, ap, ◌∙◌}
+-- Ticks one after the other. Assumes nothing.
+use Prim.Native.Nat.{ℕ, zero, suc, ◌+◌, ◌-◌, ◌*◌, ◌≤◌, ◌<◌}
+use mathlib.Core.Path.{◌≡◌, refl, ap, ◌∙◌}
 use mathlib.Core.List.{List}
 use native.Mathlib.Nat.{zero-add, suc-add}
 use native.Mathlib.Omega.{arith}
-use lib.Ieee.{Float}
-use Rattle.refusal.specs.Answers.{Answered, given, refused, refused_by}
-use Rattle.refusal.specs.declared.Refusal.{Refusal}
-use Rattle.refusal.specs.declared.Answer.TheVariants as answer
-use Rattle.sizes.specs.Sizes.{steps_of, processors_of}
+use Rattle.refusal.specs.Answers.{Answered, given, refused}
+use Rattle.sizes.specs.Sizes.{most_processors, largest_order, most_sweeps, steps_of, processors_of}
+use Rattle.sizes.proofs.Orders.{order_half, steps_few}
 use Rattle.runs.specs.Cells.{Setting, setting}
 use Rattle.tile_schedule.specs.Answers.{Tick, made, stopped, progress_of}
 use Rattle.tile_schedule.proofs.Answers.{is_made}
 use Rattle.tile.specs.declared.Tile.{Tile}
 use Rattle.array.specs.declared.Array.{Array}
 use Rattle.array.specs.Arrays.{tiles_after, array_of}
-use Rattle.array.specs.Runs.{start_array, no_array, start_answer, Starts, next_array, ticked, GoesOn}
-
--- ---- the start
-module _ (n sweeps : ℕ) (l : List Float) {x : Array} where
-  pub starts_accepted : given tt ≡ start_answer n sweeps l → x ≡ start_array n sweeps l → Starts n sweeps l (record { answer = answer.Accepted; array = x })
-  starts_accepted e f = record { answers = e; hands_back = rw (← e) f }
-
-  pub starts_refused : (r : Refusal) → refused_by r ≡ start_answer n sweeps l → x ≡ no_array
-      → Starts n sweeps l (record { answer = answer.Refused r; array = x })
-  starts_refused r e f = record { answers = e; hands_back = rw (← e) f }
+use Rattle.array.specs.Runs.{next_array, ticked, GoesOn}
 
 -- ---- ticks
 order_kept : (t : Answered Tick) (x : Array) → (array_of t x).n ≡ x.n
@@ -46,18 +35,6 @@ ticked_more (suc j) k x = rw suc-add (ap next_array (ticked_more j k x))
 unfoldable pub tiles_from : Setting → ℕ → ℕ → ℕ → ℕ → List Tile → List Tile
 tiles_from s N K t zero l = l
 tiles_from s N K t (suc k) l = tiles_after s N K (t + k) (tiles_from s N K t k l)
-
-module _ (s : Setting) (N K t : ℕ) where
-  pub tiles_next : (k : ℕ) (l : List Tile) {l₁ l₂ : List Tile} → t ≤ k → l₁ ≡ tiles_from s N K t (k - t) l → l₂ ≡ tiles_after s N K k l₁
-      → l₂ ≡ tiles_from s N K t (k + 1 - t) l
-  unfolding tiles_from
-  tiles_next k l h e f =
-      let a : k + 1 - t ≡ suc (k - t) = omega arith in
-      let b : t + (k - t) ≡ k = omega arith in
-      rw (a, b) (f ∙ ap (tiles_after s N K k) e)
-
-  pub tiles_none : (l : List Tile) → l ≡ tiles_from s N K t (t - t) l
-  tiles_none l = let a : t - t ≡ 0 = omega arith in rw a (unfold tiles_from in refl)
 
 module _ (x : Array) where
   abbrev N : ℕ
@@ -82,8 +59,28 @@ module _ (x : Array) where
           (let e : x.tick + k + 1 ≡ x.tick + suc k = omega arith in
           rw (← (is_made x.n x.sweeps (x.tick + k) g.order g.few (omega (arith, g.room)))) (rw e))
 
-  -- the code's number of processors is N, its number of steps K
-  pub after_is : (k t : ℕ) {n sweeps processors steps : ℕ} {l : List Tile} → GoesOn x k → n ≡ x.n → sweeps ≡ x.sweeps → processors ≡ N → steps ≡ K
-      → l ≡ tiles_from (setting x.n) processors steps x.tick (t - x.tick) x.tiles → t ≡ x.tick + k
-      → ◌≡◌ {A = Array} (record { n = n; sweeps = sweeps; tick = x.tick + k; tiles = l }) (ticked k x)
-  after_is k t g e f p q h z = let a : x.tick + k - x.tick ≡ k = omega arith in rw (e, f, h, p, q, z, a) (sym (ticked_made k g))
+module _ {x : Array} {count : ℕ} (goes : GoesOn x count) where
+  -- the last tick is early
+  pub early : x.tick + count ≤ 3 * (most_sweeps * largest_order) + most_processors
+  early =
+      let h = order_half _ goes.order in
+      let k = steps_few _ x.sweeps goes.order goes.few in
+      omega (arith, goes.room)
+
+  module _ (k : ℕ) (h : k < count) where
+    pub tick_at : (ticked k x).tick ≡ x.tick + k
+    tick_at =
+        ap (λ (y : Array). y.tick) (ticked_made x k (record { order = goes.order; few = goes.few; room = omega (arith, goes.room) }))
+
+    pub goes_next : GoesOn (ticked k x) 1
+    goes_next =
+        rw (ticked_made x k (record { order = goes.order; few = goes.few; room = omega (arith, goes.room) }))
+        (record { order = goes.order; few = goes.few; room = omega (arith, goes.room) })
+
+-- the array before a loop over ticks, and after one tick more
+module _ (x : Array) where
+  pub ticked_none : x ≡ ticked (x.tick - x.tick) x
+  ticked_none = let a : x.tick - x.tick ≡ 0 = omega arith in rw a (unfold ticked in refl)
+
+  pub ticked_next : (t : ℕ) {y z : Array} → x.tick ≤ t → y ≡ ticked (t - x.tick) x → z ≡ next_array y → z ≡ ticked (t + 1 - x.tick) x
+  ticked_next t h e f = let a : t + 1 - x.tick ≡ suc (t - x.tick) = omega arith in rw a (unfold ticked in (f ∙ ap next_array e))

@@ -1,7 +1,8 @@
--- Tangents whose cosines are known. Definitions only.
-use Rattle.std.specs.Prelude.{◌≡◌, List, map, Float}
-use Rattle.rotation.specs.Rotation.{cosine_of}
+-- Angles whose cosines are known. Definitions only.
+use Rattle.std.specs.Prelude.{◌≡◌, List, map}
+use Rattle.rotation.specs.declared.Angle.{Angle}
+use Rattle.rotation.specs.Rotation.{angle_of}
 
--- Each cosine is that of the tangent in the same place.
-unfoldable pub Known : List Float → List Float → Type 0
-Known tangents cosines = cosines ≡ map cosine_of tangents
+-- Each cosine is that of the tangent beside it.
+abbrev pub Known : List Angle → Type 0
+Known angles = angles ≡ map (λ (x : Angle). angle_of x.tangent) angles

@@ -1,5 +1,5 @@
 -- Document 01, "The array": the record of tiles, and what a tick makes of it. Definitions only.
-use Rattle.std.specs.Prelude.{ℕ, suc, ◌+◌, ◌-◌, ◌*◌, ◌/◌, ◌%◌, ◌<◌, ◌≡◌, false, cond, ◌&&◌, List, eqb, ltb, get_or, Float}
+use Rattle.std.specs.Prelude.{ℕ, suc, ◌+◌, ◌-◌, ◌*◌, ◌/◌, ◌%◌, ◌<◌, ◌≡◌, Bool, false, cond, ◌&&◌, List, eqb, ltb, get_or, Float}
 use Rattle.std.specs.Float.{nan}
 use Rattle.refusal.specs.Answers.{Answered, given, refused}
 use Rattle.lists.specs.Tabulate.{tabulate}
@@ -20,7 +20,7 @@ use Rattle.array.specs.declared.Ticked.{Ticked}
 use Rattle.array.specs.declared.wiring.Near.{Near}
 
 -- What stands where there is no tile.
-unfoldable pub no_quad : Quad
+unfoldable pub no_quad : Quad Float
 no_quad = record { alpha = nan; beta = nan; gamma = nan; delta = nan }
 
 unfoldable pub no_part : Part
@@ -52,12 +52,19 @@ tile_of x =
 unfoldable pub the_array : List Tile → ℕ → ℕ → theory.Tile Cell Float Float Counts
 the_array l i j = the_tile (tile_at l i j)
 
--- The tiles after tick t of a run of K steps on N by N tiles at the setting s; those that are not in use stay.
-unfoldable pub tiles_after : Setting → ℕ → ℕ → ℕ → List Tile → List Tile
-tiles_after s N K t l =
+-- The place k is that of a tile in use, of N by N tiles.
+abbrev pub is_used : ℕ → ℕ → Bool
+is_used N k = ltb (k / most_processors) N && ltb (k % most_processors) N
+
+-- The tiles in use are those that A says, by row and column; the others stay.
+abbrev pub tiles_by : ℕ → (ℕ → ℕ → theory.Tile Cell Float Float Counts) → List Tile → List Tile
+tiles_by N A l =
     tabulate (most_processors * most_processors) (λ k.
-    cond (ltb (k / most_processors) N && ltb (k % most_processors) N)
-    (tile_of (tick (operations s) (N - 1) K t (the_array l) (k / most_processors) (k % most_processors))) (get_or l k no_tile))
+    cond (is_used N k) (tile_of (A (k / most_processors) (k % most_processors))) (get_or l k no_tile))
+
+-- The tiles after tick t of a run of K steps on N by N tiles at the setting s.
+unfoldable pub tiles_after : Setting → ℕ → ℕ → ℕ → List Tile → List Tile
+tiles_after s N K t l = tiles_by N (tick (operations s) (N - 1) K t (the_array l)) l
 
 -- The array beside the answer: a refused or stopped tick gives it back as it was.
 abbrev pub array_of : Answered Tick → Array → Array
@@ -86,19 +93,21 @@ nearer_of i j = cond (ltb i j) (j - 1) (cond (ltb j i) (suc j) j)
 unfoldable pub near_of : ℕ → ℕ → ℕ → Near
 near_of m i j =
     record {
-      alpha = (i - 1) * most_processors + (j - 1);
-      beta = (i - 1) * most_processors + down_of m j;
-      gamma = down_of m i * most_processors + (j - 1);
-      delta = down_of m i * most_processors + down_of m j;
+      corners = record {
+        alpha = (i - 1) * most_processors + (j - 1);
+        beta = (i - 1) * most_processors + down_of m j;
+        gamma = down_of m i * most_processors + (j - 1);
+        delta = down_of m i * most_processors + down_of m j;
+      };
       row = i * most_processors + nearer_of i j;
       column = nearer_of j i * most_processors + j;
     }
 
 -- All are places of tiles.
 pub record Inside (r : Near) : Type 0 where
-  pub alpha_inside : r.alpha < most_processors * most_processors
-  pub beta_inside : r.beta < most_processors * most_processors
-  pub gamma_inside : r.gamma < most_processors * most_processors
-  pub delta_inside : r.delta < most_processors * most_processors
+  pub alpha_inside : r.corners.alpha < most_processors * most_processors
+  pub beta_inside : r.corners.beta < most_processors * most_processors
+  pub gamma_inside : r.corners.gamma < most_processors * most_processors
+  pub delta_inside : r.corners.delta < most_processors * most_processors
   pub row_inside : r.row < most_processors * most_processors
   pub column_inside : r.column < most_processors * most_processors

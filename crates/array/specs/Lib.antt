@@ -1,3 +1,4 @@
 pub mod Angles
 pub mod Arrays
 pub mod Runs
+pub mod Halves

@@ -1,14 +1,18 @@
 #![tactic(auto)]
 // The array of tiles (document 01, "The array").
-ghost use Rattle.std.specs.Prelude.{◌≡◌};
-ghost use Rattle.array.specs.Arrays.{Ticks};
+ghost use Rattle.std.specs.Prelude.{◌≡◌, ◌+◌, ◌<◌, ◌≤◌};
+ghost use Rattle.sizes.specs.Sizes.{most_processors};
+ghost use Rattle.runs.specs.Cells.{setting};
+ghost use Rattle.array.specs.Arrays.{tile_of, the_array, Ticks};
+ghost use Rattle.array.specs.Halves.{turned_in, turned, settled};
 ghost use Rattle.array.specs.Runs.{start_array, no_array, Starts, GoesOn, ticked};
 
-use refusal::Answer;
-use rotation::Angle;
+use crate::angles::Angles;
+use refusal::Refusal;
 use sizes::{MOST_PROCESSORS, MOST_TILES};
-use tile::Tile;
+use tile::{Received, Tile};
 use tile_schedule::Progress;
+use tile_wires::Place;
 
 mod angles;
 mod wiring;
@@ -25,14 +29,14 @@ pub struct Array {
 // What a start answers, and the array beside it.
 #[derive(Clone, Copy)]
 pub struct Started {
-    pub answer: Answer,
+    pub answer: Result<(), Refusal>,
     pub array: Array,
 }
 
 // What a tick answers, and the array beside it.
 #[derive(Clone, Copy)]
 pub struct Ticked {
-    pub answer: Progress,
+    pub answer: Result<Progress, Refusal>,
     pub array: Array,
 }
 
@@ -41,35 +45,33 @@ impl Array {
     pub fn start(n: usize, sweeps: usize, matrix: &[f64]) -> Started
         ensures { Starts n sweeps matrix.now result }
     {
-        match runs::verdict(n, sweeps, matrix, matrix.len(), matrix.len()) {
-            Answer::Accepted => Started {
-                answer: Answer::Accepted,
-                array: Array::of_matrix(n, sweeps, matrix),
-            },
-            Answer::Refused(refused) => Started {
-                answer: Answer::Refused(refused),
-                array: Array::none(),
-            },
-        }
+        let answer = runs::verdict(n, sweeps, matrix, matrix.len(), matrix.len());
+        let array = match answer {
+            Ok(()) => Array::of_matrix(n, sweeps, matrix),
+            Err(_) => Array::none(),
+        };
+        Started { answer, array }
     }
 
     // Cells from a matrix of order n and from the identity, wires at +0.
     pub fn of_matrix(n: usize, sweeps: usize, matrix: &[f64]) -> Array
         ensures { result ≡ start_array n sweeps matrix.now }
     {
+        // Stays a loop over a first array: array::from_fn takes a copy of the record more, 39 kB of the stack that the header promises.
         let mut tiles = [tile_start::zero_tile(); MOST_TILES];
-        for k in 0..MOST_TILES {
-            tiles[k] = tile_start::tile_at(n, k / MOST_PROCESSORS, k % MOST_PROCESSORS, matrix);
+        for (k, tile) in tiles.iter_mut().enumerate() {
+            *tile = tile_start::tile_at(n, k / MOST_PROCESSORS, k % MOST_PROCESSORS, matrix);
         }
         Array {
-            n: n,
-            sweeps: sweeps,
+            n,
+            sweeps,
             tick: 0,
-            tiles: tiles,
+            tiles,
         }
     }
 
     // Zeros only.
+    #[tactic(auto, unfolding(crate::specs::Runs::no_array, lists::specs::Tabulate::tabulate))]
     fn none() -> Array
         ensures { result ≡ no_array }
     {
@@ -81,34 +83,20 @@ impl Array {
         }
     }
 
+    #[tactic(auto, unfolding(crate::specs::Runs::ticked, crate::specs::Runs::next_array))]
     pub fn tick(self) -> Ticked
         ensures { Ticks self result }
     {
-        let n = self.n;
-        let sweeps = self.sweeps;
-        let tick = self.tick;
-        match tile_schedule::answer_to(n, sweeps, tick) {
-            Progress::Made => {}
-            Progress::Stopped => {
-                return Ticked {
-                    answer: Progress::Stopped,
-                    array: self,
-                };
-            }
-            Progress::Refused(refused) => {
-                return Ticked {
-                    answer: Progress::Refused(refused),
-                    array: self,
-                };
-            }
-        }
-        Ticked {
-            answer: Progress::Made,
-            array: self.after(1),
-        }
+        let answer = tile_schedule::answer_to(self.n, self.sweeps, self.tick);
+        let array = match answer {
+            Ok(Progress::Made) => self.after(1),
+            Ok(Progress::Stopped) | Err(_) => self,
+        };
+        Ticked { answer, array }
     }
 
     // The array after `count` more ticks, as many as are made.
+    #[tactic(auto, using(crate::proofs::ArrayEnd::none_made, crate::proofs::ArrayEnd::at_most_left))]
     pub fn ticks(self, count: usize) -> Array
         ensures { result ≡ ticked count self }
     {
@@ -116,69 +104,73 @@ impl Array {
         if left == 0 {
             return self;
         }
-        if count > left {
-            return self.after(left);
-        }
-        self.after(count)
+        self.after(count.min(left))
     }
 
-    // The array after `count` more ticks, which are all made. In each tick all tiles turn before any sets its cell wires;
-    // a tile does not set its parameter wires while another takes what they bring.
+    // The array after `count` more ticks, which are all made.
     pub fn after(self, count: usize) -> Array
         requires { GoesOn self count }
         ensures { result ≡ ticked count self }
     {
-        let n = self.n;
-        let processors = sizes::processors_of(n);
-        let last = processors - 1;
-        let steps = sizes::steps_of(n, self.sweeps);
-        let first = self.tick;
         let mut array = self;
-        let zero = Angle::of_tangent(0.0);
-        let mut tangents = [zero.tangent; MOST_TILES];
-        let mut cosines = [zero.cosine; MOST_TILES];
-        for tick in first..first + count {
-            for k in 0..MOST_PROCESSORS * processors {
-                let i = k / MOST_PROCESSORS;
-                let j = k % MOST_PROCESSORS;
-                if j >= processors {
-                    continue;
+        let mut angles = Angles::of_zero();
+        for tick in self.tick..self.tick + count {
+            array.turn(&mut angles);
+            array.settle();
+            array.tick = tick + 1;
+        }
+        array
+    }
+
+    // The first half of a tick: all tiles turn whose cells change. A tile does not set its parameter wires while another takes what they bring.
+    #[tactic(auto, using(sizes::proofs::Orders::order_half))]
+    fn turn(&mut self, angles: &mut Angles)
+        requires { GoesOn self.old 1 }
+        ensures { self.new ≡ record self.old { tiles = turned self.old } }
+    {
+        let processors = sizes::processors_of(self.n);
+        let steps = sizes::steps_of(self.n, self.sweeps);
+        for i in 0..processors {
+            for j in 0..processors {
+                if tile_schedule::changes(steps, self.tick, i, j) {
+                    let last = processors - 1;
+                    let tile = self.turned(steps, Place { last, i, j }, angles);
+                    self.tiles[i * MOST_PROCESSORS + j] = tile;
                 }
-                if !tile_schedule::changes(steps, tick, i, j) {
-                    continue;
-                }
-                let from = wiring::sources(last, i, j);
-                let at_row = from.row;
-                let at_column = from.column;
-                let at_alpha = from.alpha;
-                let at_beta = from.beta;
-                let at_gamma = from.gamma;
-                let at_delta = from.delta;
-                let row_tangent = array.tiles[at_row].row_wire;
-                let row = angles::known(row_tangent, tick, i, j, &mut tangents, &mut cosines);
-                let column_tangent = array.tiles[at_column].column_wire;
-                let column = angles::known(column_tangent, tick, j, i, &mut tangents, &mut cosines);
-                let alpha = array.tiles[at_alpha];
-                let beta = array.tiles[at_beta];
-                let gamma = array.tiles[at_gamma];
-                let delta = array.tiles[at_delta];
-                let brought = tile::brought(alpha, beta, gamma, delta, last, i, j);
-                let tile = array.tiles[k];
-                let turned = tile.turned(n, brought, row, column, steps, tick, i, j);
-                array.tiles[k] = turned;
-            }
-            for k in 0..MOST_PROCESSORS * processors {
-                let i = k / MOST_PROCESSORS;
-                let j = k % MOST_PROCESSORS;
-                if j >= processors {
-                    continue;
-                }
-                let tile = array.tiles[k];
-                let new = tile.after(last, steps, tick, i, j);
-                array.tiles[k] = new;
             }
         }
-        array.tick = first + count;
-        array
+    }
+
+    // A tile as it turns.
+    fn turned(&self, steps: usize, place: Place, angles: &mut Angles) -> Tile
+        requires { (place.i ≤ place.last) × (place.j ≤ place.last) × (place.last < most_processors) }
+        ensures { result ≡ tile_of (turned_in (setting self.now.n) (place.last + 1) steps self.now.tick (the_array self.now.tiles) place.i place.j) }
+    {
+        let Place { i, j, .. } = place;
+        let from = wiring::sources(place);
+        let received = Received {
+            row: angles.of(self.tiles[from.row].row_wire, self.tick, i, j),
+            column: angles.of(self.tiles[from.column].column_wire, self.tick, j, i),
+        };
+        let brought = tile::brought(from.corners.map(|at| self.tiles[at]), place);
+        let tile = self.tiles[i * MOST_PROCESSORS + j];
+        tile.turned(self.n, brought, received, steps, self.tick, place)
+    }
+
+    // The second half: all tiles set their cell wires and their marks.
+    #[tactic(auto, using(sizes::proofs::Orders::order_half))]
+    fn settle(&mut self)
+        requires { GoesOn self.old 1 }
+        ensures { self.new ≡ record self.old { tiles = settled self.old } }
+    {
+        let processors = sizes::processors_of(self.n);
+        let steps = sizes::steps_of(self.n, self.sweeps);
+        for i in 0..processors {
+            for j in 0..processors {
+                let last = processors - 1;
+                let at = i * MOST_PROCESSORS + j;
+                self.tiles[at] = self.tiles[at].after(Place { last, i, j }, steps, self.tick);
+            }
+        }
     }
 }

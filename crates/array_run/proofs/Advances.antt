@@ -147,22 +147,26 @@ next_keeps (given made) x = (refl, refl, omega arith, omega arith)
 next_keeps (given stopped) x = (refl, refl, omega arith, omega arith)
 next_keeps (refused k values) x = (refl, refl, omega arith, omega arith)
 
-ticked_keeps : (k : ℕ) (x : Array)
+ticked_within : (k : ℕ) (x : Array)
     → ((ticked k x).n ≡ x.n) × ((ticked k x).sweeps ≡ x.sweeps) × (x.tick ≤ (ticked k x).tick) × ((ticked k x).tick ≤ x.tick + k)
 unfolding ticked next_array
-ticked_keeps zero x = (refl, refl, omega arith, omega arith)
-ticked_keeps (suc k) x =
+ticked_within zero x = (refl, refl, omega arith, omega arith)
+ticked_within (suc k) x =
     let y = ticked k x in
-    let w = ticked_keeps k x in
+    let w = ticked_within k x in
     let z = next_keeps (progress_of y.n y.sweeps y.tick) y in
     (z.0 ∙ w.0, z.1 ∙ w.1, omega (arith, z.2, w.2), omega (arith, z.3, w.3))
+
+pub ticked_keeps : (k : ℕ) (x : Array) {y : Array} → y ≡ ticked k x → (y.n ≡ x.n) × (y.sweeps ≡ x.sweeps)
+ticked_keeps k x e =
+    let w = ticked_within k x in (ap (λ (y : Array). y.n) e ∙ w.0, ap (λ (y : Array). y.sweeps) e ∙ w.1)
 
 -- ticks that end no sweep
 pub advanced_plain : (k : ℕ) (x : Array) → ((t : ℕ) → x.tick ≤ t → t < x.tick + k → ends_sweep x.n x.sweeps t ≡ false) → advanced_by k x ≡ ticked k x
 unfolding advanced_by ticked
 advanced_plain zero x f = refl
 advanced_plain (suc k) x f =
-    let w = ticked_keeps k x in
+    let w = ticked_within k x in
     ap advanced (advanced_plain k x (λ t a b. f t a (omega arith)))
     ∙ plain_tick (ticked k x) (rw (w.0, w.1) (f (ticked k x).tick w.2 (omega (arith, w.3))))
 
@@ -266,9 +270,6 @@ module _ (x : Array) (order : is_order x.n ≡ true) (few : x.sweeps ≤ most_sw
           ∙ made_tick last last_made
           ∙ ap (lowered last.tick) (sym swept_ticks)
           ∙ ap (λ (t : ℕ). lowered t z) last_tick.2
-
-      pub swept_order : z.n ≡ x.n
-      swept_order = z_is.0
 
       pub swept_more : none_counted (processors_of z.n) z.tiles ≡ false → Swept x (m + 1) z
       swept_more f = record { by_ticks = swept_by_ticks; by_advances = sym (z_advances ∙ unlowered) }

@@ -2,3 +2,4 @@ pub mod Results
 pub mod Advances
 pub mod DiagonalCounts
 pub mod WholeRuns
+pub mod Ranges

@@ -1,5 +1,5 @@
 -- The end of a whole run: marks, and cells written to their rows and columns. Assumes nothing.
-use Prim.Native.Nat.{ℕ, ◌+◌, ◌-◌, ◌*◌, ◌/◌, ◌%◌, ◌<◌}
+use Prim.Native.Nat.{ℕ, ◌+◌, ◌-◌, ◌*◌, ◌/◌, ◌%◌}
 use mathlib.Core.Path.{◌≡◌, refl, sym, ap}
 use mathlib.Core.Bool.{Bool, true, false, cond}
 use mathlib.Core.List.{List}
@@ -10,38 +10,17 @@ use Rattle.refusal.specs.Answers.{Answered, given, refused_by, value_or}
 use Rattle.refusal.proofs.FirstRefusal.{refused_given}
 use Rattle.refusal.specs.declared.Refusal.TheVariants.{Spoiled}
 use Rattle.lists.proofs.Filled.{Filled, filled_all}
-use Rattle.lists.specs.Bounded.{any}
-use Rattle.lists.proofs.Bounded.{any_hit}
 use Rattle.tile_wires.specs.declared.Quad.{Quad}
 use Rattle.tile_wires.specs.Wires.{corner_of}
 use Rattle.matrix.specs.Matrix.{flat}
 use Rattle.runs.specs.Outcome.{Outcome, outcome, report}
 use Rattle.runs.specs.State.{zeros}
-use Rattle.tile.specs.declared.Tile.{Tile}
 use Rattle.array.specs.declared.Array.{Array}
-use Rattle.array.specs.Arrays.{tile_at}
 use Rattle.array_run.specs.Results.{WholeReport, reporting, report_in, rounded_pairs, joint_at, matrix_in, vectors_in, some_marked, handed_over}
 use Rattle.sizes.specs.Sizes.{processors_of}
 
--- ---- marks
--- a tile of row i before column j is marked, and one of the rows before i
-abbrev pub marked_in_row : ℕ → List Tile → ℕ → Bool
-marked_in_row j l i = any j (λ j. (tile_at l i j).mark)
-
-abbrev pub marked_before : ℕ → List Tile → ℕ → Bool
-marked_before N l i = any i (marked_in_row N l)
-
-module _ (N : ℕ) (l : List Tile) where
-  pub one_marked : (i j : ℕ) → i < N → j < N → (tile_at l i j).mark ≡ true → true ≡ some_marked N l
-  unfolding some_marked
-  one_marked i j hi hj e = sym (any_hit N (marked_in_row N l) i hi (any_hit N _ j hj e))
-
-  pub none_marked : (i : ℕ) → marked_before N l i ≡ false → i ≡ N → false ≡ some_marked N l
-  unfolding some_marked
-  none_marked i e z = sym (rw z at e)
-
 -- ---- cells
-pub joined_at : (f : ℕ → ℕ → Quad) (r c : ℕ) {b first : ℕ} → first ≡ b
+pub joined_at : (f : ℕ → ℕ → Quad Float) (r c : ℕ) {b first : ℕ} → first ≡ b
     → corner_of (eqb ((r - first) % 2) 1) (eqb ((c - first) % 2) 1) (f ((r - first) / 2) ((c - first) / 2)) ≡ joint_at b f r c
 unfolding joint_at
 joined_at f r c e = rw e

@@ -1,12 +1,12 @@
 -- A whole run, refused or not. Assumes nothing.
-use Prim.Native.Nat.{ℕ, zero, suc, ◌≤◌}
+use Prim.Native.Nat.{ℕ, zero, suc}
 use mathlib.Core.Path.{◌≡◌, refl, ◌∙◌}
 use mathlib.Core.Bool.{Bool, true, false, cond, ◌&&◌}
 use mathlib.Core.List.{List}
 use lib.ListN.{length}
 use lib.Ieee.{Float}
 use Rattle.refusal.specs.Answers.{Answered, given, refused}
-use Rattle.sizes.specs.Sizes.{most_sweeps, is_order, processors_of, ticks_of}
+use Rattle.sizes.specs.Sizes.{processors_of, ticks_of}
 use Rattle.runs.specs.Outcome.{before_run, Outcome, outcome}
 use Rattle.tile_schedule.specs.Answers.{Tick, made, stopped, progress_of}
 use Rattle.array.specs.declared.Array.{Array}
@@ -52,8 +52,8 @@ final_order n sweeps l = advanced_order (ticks_of n sweeps) (start_array n sweep
 
 -- the start that the code makes
 module _ (n sweeps : ℕ) (l : List Float) {x : Array} (e : x ≡ start_array n sweeps l) where
-  pub starts_so : is_order n ≡ true → sweeps ≤ most_sweeps → (is_order x.n ≡ true) × (x.sweeps ≤ most_sweeps) × (x.tick ≡ 0)
-  starts_so order few = rw e (unfold start_array in (order, few, refl))
+  pub starts_at : x.tick ≡ 0
+  starts_at = rw e (unfold start_array in refl)
 
   pub final_from : {z : Array} → z ≡ advanced_by (ticks_of x.n x.sweeps) x → z ≡ final_array n sweeps l
   final_from h = h ∙ rw e (unfold start_array in refl)

@@ -14,7 +14,7 @@ use Rattle.array.specs.Arrays.{tile_at}
 use Rattle.sizes.specs.Sizes.{processors_of, first_line}
 
 -- The entry in row r and column c, both from the first line b on, of the matrix whose parts are given by the tiles' rows and columns.
-unfoldable pub joint_at : ℕ → (ℕ → ℕ → Quad) → ℕ → ℕ → Float
+unfoldable pub joint_at : ℕ → (ℕ → ℕ → Quad Float) → ℕ → ℕ → Float
 joint_at b f r c = corner_of (eqb ((r - b) % 2) 1) (eqb ((c - b) % 2) 1) (f ((r - b) / 2) ((c - b) / 2))
 
 -- The matrix and the eigenvectors in the cells of the tiles of an order n.
@@ -24,9 +24,12 @@ matrix_in n l = joint_at (first_line n) (λ i j. (tile_at l i j).cells.matrix)
 abbrev pub vectors_in : ℕ → List Tile → ℕ → ℕ → Float
 vectors_in n l = joint_at (first_line n) (λ i j. (tile_at l i j).cells.vectors)
 
--- A tile in use is marked.
+-- A tile before column N of row i is marked, and one in use.
+abbrev pub marked_in_row : ℕ → List Tile → ℕ → Bool
+marked_in_row N l i = any N (λ j. (tile_at l i j).mark)
+
 unfoldable pub some_marked : ℕ → List Tile → Bool
-some_marked N l = any N (λ i. any N (λ j. (tile_at l i j).mark))
+some_marked N l = any N (marked_in_row N l)
 
 -- The pairs with a rounded root that the tiles on the diagonal count.
 unfoldable pub rounded_pairs : ℕ → List Tile → ℕ

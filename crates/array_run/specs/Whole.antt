@@ -1,18 +1,21 @@
 -- Document 01, "The array", and document 02 (vi) and (vii): the whole run. Definitions only.
-use Rattle.std.specs.Prelude.{ℕ, List, length, Float}
-use Rattle.refusal.specs.Answers.{Answered, given, refused, refused_by, unless_refused}
+use Rattle.std.specs.Prelude.{ℕ, List, Result, length, Float}
+use Rattle.refusal.specs.Answers.{Answered, given, refused, answered_as, unless_refused}
+use Rattle.refusal.specs.declared.Refusal.{Refusal}
 use Rattle.runs.specs.Outcome.{before_run, Outcome, report, results_kept}
 use Rattle.sizes.specs.Sizes.{ticks_of}
 use Rattle.array.specs.declared.Array.{Array}
 use Rattle.array.specs.Runs.{start_array}
-use Rattle.array_run.specs.declared.Completion.{Completion}
-use Rattle.array_run.specs.declared.Completion.TheVariants.{Completed, Refused}
+use Rattle.array_run.specs.declared.WholeReport as code
 use Rattle.array_run.specs.Results.{WholeReport, reporting, handed_over}
 use Rattle.array_run.specs.Advance.{advanced_by}
 
-abbrev pub completion_answered : Completion → Answered WholeReport
-completion_answered (Completed sweeps ticks rounded) = given (reporting (report sweeps rounded) ticks)
-completion_answered (Refused r) = refused_by r
+-- The code's report as the definitions'.
+abbrev pub report_of : code.WholeReport → WholeReport
+report_of r = reporting (report r.sweeps r.rounded) r.ticks
+
+abbrev pub completion_answered : Result code.WholeReport Refusal → Answered WholeReport
+completion_answered = answered_as report_of
 
 -- The ticks in an answer, 0 in a refusal.
 abbrev pub ticks_answered : Answered WholeReport → ℕ

@@ -1,22 +1,22 @@
 #![tactic(auto)]
 // The whole run on the array (document 01, "The array", and document 02 (vi) and (vii)).
-ghost use Rattle.std.specs.Prelude.{◌≡◌, length};
-ghost use Rattle.refusal.specs.Answers.{given};
-ghost use Rattle.runs.specs.Outcome.{before_run, outcome};
-ghost use Rattle.array_run.specs.Results.{handed_over};
-ghost use Rattle.array_run.specs.Whole.{completion_answered, final_array, whole_of};
+ghost use Rattle.std.specs.Prelude.{◌≡◌};
+ghost use Rattle.runs.specs.Outcome.{outcome};
+ghost use Rattle.array_run.specs.Whole.{completion_answered, whole_of};
 
-use array::Array;
-use refusal::{Answer, Refusal};
+use crate::whole::WholeRun;
+use refusal::Refusal;
 
 mod advance;
 mod ending;
+mod whole;
 
-// What a whole run answers: the numbers of sweeps and of ticks that it made and of the pairs met that had a rounded root, or a refusal.
-#[derive(Clone, Copy)]
-pub enum Completion {
-    Completed(usize, usize, usize),
-    Refused(Refusal),
+// What a whole run reports: the numbers of sweeps and of ticks that it made and of the pairs met that had a rounded root.
+#[derive(Clone, Copy, PartialEq, Eq, Debug)]
+pub struct WholeReport {
+    pub sweeps: usize,
+    pub ticks: usize,
+    pub rounded: usize,
 }
 
 // Runs a number of sweeps on a matrix of order n by the array, or fewer where one is quiet, and leaves the last matrix and the eigenvectors in
@@ -27,29 +27,12 @@ pub fn run(
     matrix: &[f64],
     res: &mut [f64],
     vectors: &mut [f64],
-) -> Completion
+) -> Result<WholeReport, Refusal>
     ensures { outcome (completion_answered result) res.new vectors.new
         ≡ whole_of n sweeps matrix.now res.old vectors.old }
 {
-    match runs::verdict(n, sweeps, matrix, res.len(), vectors.len()) {
-        Answer::Accepted => run_accepted(n, sweeps, matrix, res, vectors),
-        Answer::Refused(refused) => Completion::Refused(refused),
-    }
-}
-
-// A run that is not refused before it.
-fn run_accepted(
-    n: usize,
-    sweeps: usize,
-    matrix: &[f64],
-    res: &mut [f64],
-    vectors: &mut [f64],
-) -> Completion
-    requires { before_run n sweeps matrix.now (length res.old) (length vectors.old) ≡ given tt }
-    ensures { outcome (completion_answered result) res.new vectors.new
-        ≡ handed_over (final_array n sweeps matrix.now) }
-{
-    let start = Array::of_matrix(n, sweeps, matrix);
-    let end = advance::to_the_end(start);
-    ending::hand_over(end, res, vectors)
+    runs::verdict(n, sweeps, matrix, res.len(), vectors.len())?;
+    let mut run = WholeRun::start(n, sweeps, matrix);
+    run.to_the_end();
+    run.hand_over(res, vectors)
 }

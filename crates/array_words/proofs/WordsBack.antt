@@ -43,7 +43,7 @@ module _ (l : List ℕ) where
   unfolding value_at
   value_back k v e h = ap (of_bits binary64) e ∙ of_bits-to_bits binary64 v h
 
-  quad_back : (k : ℕ) (q : Quad) → Has k 4 (quad_word q) → Binary64Quad q → quad_in l k ≡ q
+  quad_back : (k : ℕ) (q : Quad Float) → Has k 4 (quad_word q) → Binary64Quad q → quad_in l k ≡ q
   unfolding quad_in quad_word
   quad_back k q d h =
       rw (

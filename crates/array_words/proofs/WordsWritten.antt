@@ -9,7 +9,7 @@ use native.Mathlib.Numerals.{add-one}
 use borrow.Author.Tests.{lt-ltb, le-ltb, eq-eqb, ne_eqb}
 use mir.Val.{bool_byte}
 use lib.ListN.{length, get_or, set, length-set}
-use lib.Ieee.{binary64, to_bits}
+use lib.Ieee.{Float, binary64, to_bits}
 use Rattle.lists.proofs.Filled.{Filled, filled_none, filled_next, filled_all}
 use Rattle.sizes.specs.Sizes.{most_processors}
 use Rattle.tile_wires.specs.declared.Quad.{Quad}
@@ -70,7 +70,7 @@ written_on at m (suc k) f g h l e d =
     rw (add-suc, written_on at m k f g h l e (λ w o. d w (omega arith)), d k (omega arith), i)
 
 -- ---- the words of a tile
-pub quad_written : (q : Quad) (at : ℕ) (l : List ℕ) {a b c d : ℕ} → a ≡ to_bits binary64 q.alpha → b ≡ to_bits binary64 q.beta
+pub quad_written : (q : Quad Float) (at : ℕ) (l : List ℕ) {a b c d : ℕ} → a ≡ to_bits binary64 q.alpha → b ≡ to_bits binary64 q.beta
     → c ≡ to_bits binary64 q.gamma
     → d ≡ to_bits binary64 q.delta → set (set (set (set l at a) (at + 1) b) (at + 2) c) (at + 3) d ≡ written_at at 4 (quad_word q) l
 unfolding written_at quad_word

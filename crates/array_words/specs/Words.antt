@@ -21,7 +21,7 @@ array_words = 3 + most_processors * most_processors * tile_words
 
 -- ---- the words of an array
 -- α β / γ δ, row by row
-unfoldable pub quad_word : Quad → ℕ → ℕ
+unfoldable pub quad_word : Quad Float → ℕ → ℕ
 quad_word q w =
     to_bits binary64 (cond (eqb w 0) q.alpha (cond (eqb w 1) q.beta (cond (eqb w 2) q.gamma q.delta)))
 
@@ -62,7 +62,7 @@ value_at l k = of_bits binary64 (get_or l k 0)
 unfoldable pub count_at : List ℕ → ℕ → ℕ
 count_at l k = cond (ltb most_counted (get_or l k 0)) most_counted (get_or l k 0)
 
-unfoldable pub quad_in : List ℕ → ℕ → Quad
+unfoldable pub quad_in : List ℕ → ℕ → Quad Float
 quad_in l k = record { alpha = value_at l k; beta = value_at l (k + 1); gamma = value_at l (k + 2); delta = value_at l (k + 3) }
 
 unfoldable pub part_in : List ℕ → ℕ → Part
@@ -97,7 +97,7 @@ unfoldable pub stored_in : Array → List ℕ → List ℕ
 stored_in x l = cond (eqb (length l) array_words) (words_of x) l
 
 -- ---- an array as the code has it: a tile for each place, each value one of binary64, no count above the most
-pub record Binary64Quad (q : Quad) : Type 0 where
+pub record Binary64Quad (q : Quad Float) : Type 0 where
   pub alpha_fits : T (fits binary64 q.alpha)
   pub beta_fits : T (fits binary64 q.beta)
   pub gamma_fits : T (fits binary64 q.gamma)

@@ -1,3 +1,1 @@
-pub mod CAnswers
-pub mod Listing
-pub mod ArrayByHand
+pub mod LentRecords

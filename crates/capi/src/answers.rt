@@ -2,68 +2,41 @@
 ghost use Rattle.std.specs.Prelude.{◌≡◌};
 ghost use Rattle.refusal.specs.Refusal.{number_of, values_of};
 ghost use Rattle.refusal.specs.Answers.{answered};
-ghost use Rattle.capi.specs.CAnswers.{c_answer, place_or, refused_as, c_answer_of, number_answered};
-ghost use Rattle.capi.specs.Calls.{flag_byte};
+ghost use Rattle.capi.specs.CAnswers.{c_answer, refused_as, c_answer_of};
 
-use refusal::{Answer, Place, Refusal};
+use refusal::Refusal;
 
 // The number of an answer, with the place of a refusal that has one.
-pub fn number_of(answer: Answer, row: &mut usize, column: &mut usize) -> u8
+#[tactic(auto, unfolding(crate::specs::CAnswers::c_answer_of))]
+pub fn number_of(answer: Result<(), Refusal>, row: &mut usize, column: &mut usize) -> u8
     ensures { c_answer result row.new column.new ≡ c_answer_of (answered answer) row.old column.old }
 {
     match answer {
-        Answer::Accepted => 0,
-        Answer::Refused(refused) => refuse(refused, row, column),
-    }
-}
-
-// The number of an answer alone.
-pub fn number_alone(answer: Answer) -> u8
-    ensures { result ≡ number_answered (answered answer) }
-{
-    match answer {
-        Answer::Accepted => 0,
-        Answer::Refused(refused) => refusal::number(refused),
+        Ok(()) => 0,
+        Err(refused) => refuse(refused, row, column),
     }
 }
 
 // The number of a refusal, with its place if it has one.
+#[tactic(auto, unfolding(crate::specs::CAnswers::refused_as, crate::specs::CAnswers::place_or))]
 pub fn refuse(refused: Refusal, row: &mut usize, column: &mut usize) -> u8
     ensures { c_answer result row.new column.new
         ≡ refused_as (number_of refused) (values_of refused) row.old column.old }
 {
-    set_place(refused, row, column);
-    refusal::number(refused)
-}
-
-fn set_place(refused: Refusal, row: &mut usize, column: &mut usize)
-    ensures { (row.new, column.new) ≡ place_or (values_of refused) row.old column.old }
-{
-    match refusal::place_of(refused) {
-        Place::At(i, j) => {
-            *row = i;
-            *column = j;
-        }
-        Place::Nowhere => {}
+    if let Some((i, j)) = refused.place() {
+        *row = i;
+        *column = j;
     }
-}
-
-// 1 for true, 0 for false.
-pub fn flag_byte(flag: bool) -> u8
-    ensures { result ≡ flag_byte flag }
-{
-    if flag {
-        return 1;
-    }
-    0
+    u8::from(refused)
 }
 
 // The same value. A NaN that an operation gave may have any pattern in memory; what callers in C see is that of one function.
 pub fn canonical(x: f64) -> f64
     ensures { result ≡ x }
 {
-    if x != x {
-        return float64::not_a_number();
+    if x.is_nan() {
+        float64::not_a_number()
+    } else {
+        x
     }
-    x
 }

@@ -5,9 +5,7 @@ ghost use Rattle.array_run.specs.Whole.{whole_of};
 ghost use Rattle.capi.specs.CAnswers.{c_answer};
 ghost use Rattle.capi.specs.Calls.{of_run, of_whole};
 
-use array_run::Completion;
-use plain_run::Ran;
-
+#[tactic(auto, unfolding(crate::specs::Calls::of_run, crate::specs::CAnswers::c_answer_of))]
 #[unsafe(no_mangle)]
 pub extern "C" fn weimrukas_plain_run(
     n: usize,
@@ -25,15 +23,16 @@ pub extern "C" fn weimrukas_plain_run(
         rounded.old row.old column.old }
 {
     match plain_run::run(n, sweeps, matrix, res, vectors) {
-        Ran::Made(made, counted) => {
-            *sweeps_made = made;
-            *rounded = counted;
+        Ok(report) => {
+            *sweeps_made = report.sweeps;
+            *rounded = report.rounded;
             0
         }
-        Ran::Refused(refused) => crate::answers::refuse(refused, row, column),
+        Err(refused) => crate::answers::refuse(refused, row, column),
     }
 }
 
+#[tactic(auto, unfolding(crate::specs::Calls::of_whole, crate::specs::CAnswers::c_answer_of))]
 #[unsafe(no_mangle)]
 pub extern "C" fn weimrukas_array_run(
     n: usize,
@@ -59,12 +58,12 @@ pub extern "C" fn weimrukas_array_run(
         rounded.old row.old column.old }
 {
     match array_run::run(n, sweeps, matrix, res, vectors) {
-        Completion::Completed(swept, ticked, counted) => {
-            *sweeps_made = swept;
-            *ticks = ticked;
-            *rounded = counted;
+        Ok(report) => {
+            *sweeps_made = report.sweeps;
+            *ticks = report.ticks;
+            *rounded = report.rounded;
             0
         }
-        Completion::Refused(refused) => crate::answers::refuse(refused, row, column),
+        Err(refused) => crate::answers::refuse(refused, row, column),
     }
 }

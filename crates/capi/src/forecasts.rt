@@ -3,8 +3,7 @@ ghost use Rattle.std.specs.Prelude.{◌≡◌};
 ghost use Rattle.forecast.specs.Forecast.{forecast_of};
 ghost use Rattle.capi.specs.Calls.{number_and_value, figures};
 
-use forecast::Forecast;
-
+#[tactic(auto, unfolding(crate::specs::Calls::number_and_value, crate::specs::CAnswers::number_answered))]
 #[unsafe(no_mangle)]
 pub extern "C" fn weimrukas_forecast(
     n: usize,
@@ -17,12 +16,12 @@ pub extern "C" fn weimrukas_forecast(
         ≡ number_and_value (forecast_of n sweeps) (figures ticks.old values.old parameters.old) }
 {
     match forecast::of_run(n, sweeps) {
-        Forecast::Given(figures) => {
+        Ok(figures) => {
             *ticks = figures.ticks;
             *values = figures.values;
             *parameters = figures.parameters;
             0
         }
-        Forecast::Refused(refused) => refusal::number(refused),
+        Err(refused) => u8::from(refused),
     }
 }

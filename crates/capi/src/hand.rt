@@ -7,6 +7,7 @@ use array::Array;
 use refusal::Refusal;
 use tile_schedule::Progress;
 
+#[tactic(auto, unfolding(crate::specs::Calls::of_start, array_words::specs::Words::stored_in))]
 #[unsafe(no_mangle)]
 pub extern "C" fn weimrukas_array_start(
     n: usize,
@@ -20,35 +21,31 @@ pub extern "C" fn weimrukas_array_start(
         ≡ of_start n sweeps matrix.now words.old row.old column.old }
 {
     if !array_words::is_array(words.len()) {
-        let refused = runs::verdict(n, sweeps, matrix, 0, 0);
-        return crate::answers::number_of(refused, row, column);
+        return crate::answers::number_of(runs::verdict(n, sweeps, matrix, 0, 0), row, column);
     }
     let started = Array::start(n, sweeps, matrix);
-    let array = started.array;
-    array_words::store(array, words);
-    let answer = started.answer;
-    crate::answers::number_of(answer, row, column)
+    array_words::store(&started.array, words);
+    crate::answers::number_of(started.answer, row, column)
 }
 
+#[tactic(auto, unfolding(crate::specs::Calls::of_tick, array_words::specs::Words::stored_in))]
 #[unsafe(no_mangle)]
 pub extern "C" fn weimrukas_array_tick(words: &mut [u64], made: &mut u8) -> u8
     ensures { (result, made.new, words.new) ≡ of_tick words.old }
 {
     *made = 0;
     if !array_words::is_array(words.len()) {
-        return refusal::number(Refusal::Length);
+        return u8::from(Refusal::Length);
     }
     let array = array_words::load(words);
     let ticked = array.tick();
-    let answer = ticked.answer;
-    match answer {
-        Progress::Made => {
-            let next = ticked.array;
-            array_words::store(next, words);
+    match ticked.answer {
+        Ok(Progress::Made) => {
+            array_words::store(&ticked.array, words);
             *made = 1;
             0
         }
-        Progress::Stopped => 0,
-        Progress::Refused(refused) => refusal::number(refused),
+        Ok(Progress::Stopped) => 0,
+        Err(refused) => u8::from(refused),
     }
 }

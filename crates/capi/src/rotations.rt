@@ -2,25 +2,23 @@
 ghost use Rattle.std.specs.Prelude.{◌≡◌};
 ghost use Rattle.root.specs.Exact.{sqrt_answer};
 ghost use Rattle.rotation.specs.Exact.{found_of};
-ghost use Rattle.capi.specs.Calls.{of_root, turns, of_parameters};
-
-use root::Root;
-use rotation::Parameters;
+ghost use Rattle.capi.specs.Calls.{of_root, of_parameters};
 
 #[unsafe(no_mangle)]
 pub extern "C" fn weimrukas_root(x: f64, found: &mut f64, exact: &mut u8) -> u8
     ensures { (result, found.new, exact.new) ≡ of_root (sqrt_answer x) found.old exact.old }
 {
     match root::sqrt(x) {
-        Root::Of(y, flag) => {
-            *found = y;
-            *exact = crate::answers::flag_byte(flag);
+        Ok(root) => {
+            *found = root.value;
+            *exact = root.exact as u8;
             0
         }
-        Root::Refused(refused) => refusal::number(refused),
+        Err(refused) => u8::from(refused),
     }
 }
 
+#[tactic(auto, unfolding(crate::specs::Calls::of_parameters))]
 #[unsafe(no_mangle)]
 pub extern "C" fn weimrukas_parameters(
     a: f64,
@@ -36,20 +34,9 @@ pub extern "C" fn weimrukas_parameters(
 {
     let found = rotation::of_pair(a, d, b);
     let record = step_records::of_found(found);
-    let parameters = found.parameters;
-    *turn = turns(parameters);
+    *turn = runs::is_turn(found.parameters) as u8;
     *t = crate::answers::canonical(record.t);
     *c = crate::answers::canonical(record.c);
     *s = crate::answers::canonical(record.s);
-    *exact = crate::answers::flag_byte(found.exact);
-}
-
-// 1 for a turn, 0 for still.
-fn turns(parameters: Parameters) -> u8
-    ensures { result ≡ turns parameters }
-{
-    match parameters {
-        Parameters::Still => 0,
-        Parameters::Turn(_, _, _) => 1,
-    }
+    *exact = found.exact as u8;
 }

@@ -5,9 +5,9 @@ ghost use Rattle.sizes.specs.Sizes.{is_order, processors_of};
 ghost use Rattle.capi.specs.CAnswers.{c_answer};
 ghost use Rattle.capi.specs.Calls.{records_room, records_left, flags_left, of_records};
 
-use refusal::Answer;
 use step_records::Record;
 
+#[tactic(auto, unfolding(crate::specs::Calls::of_records, crate::specs::CAnswers::c_answer_of))]
 #[unsafe(no_mangle)]
 pub extern "C" fn weimrukas_records(
     n: usize,
@@ -22,22 +22,20 @@ pub extern "C" fn weimrukas_records(
         ≡ of_records n matrix.now step values.old exact.old row.old column.old }
 {
     match step_records::verdict(n, matrix, records_room(values.len(), exact.len())) {
-        Answer::Accepted => {
+        Ok(()) => {
             put_records(n, matrix, step, values, exact);
             0
         }
-        Answer::Refused(refused) => crate::answers::refuse(refused, row, column),
+        Err(refused) => crate::answers::refuse(refused, row, column),
     }
 }
 
 // How many records there is room for in so many values and flags.
+#[tactic(auto, unfolding(crate::specs::Calls::records_room))]
 fn records_room(values: usize, flags: usize) -> usize
     ensures { result ≡ records_room values flags }
 {
-    if flags < values / 3 {
-        return flags;
-    }
-    values / 3
+    (values / 3).min(flags)
 }
 
 // Writes the values of the records one after the other, and their flags.
@@ -46,13 +44,11 @@ fn put_records(n: usize, matrix: &[f64], step: usize, values: &mut [f64], exact:
     ensures { (values.new ≡ records_left (given tt) n matrix.now step values.old)
         × (exact.new ≡ flags_left (given tt) n matrix.now step exact.old) }
 {
-    let listed = ordering::pairs(n, step);
-    let registers = listed.registers;
-    let processors = sizes::processors_of(n);
-    for k in 0..processors {
+    let registers = ordering::pairs(n, step).registers;
+    for k in 0..sizes::processors_of(n) {
         let fields = step_records::of_processor(n, matrix, registers, k);
         put_record(fields, k * 3, values);
-        exact[k] = crate::answers::flag_byte(fields.exact);
+        exact[k] = fields.exact as u8;
     }
 }
 

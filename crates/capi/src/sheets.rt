@@ -6,9 +6,9 @@ ghost use Rattle.sheet_join.specs.Join.{join_of};
 ghost use Rattle.capi.specs.CAnswers.{c_answer};
 ghost use Rattle.capi.specs.Calls.{of_reading, of_written, of_writing};
 
-use sheet_reader::Reading;
-use sheet_writer::Writing;
+use refusal::Refusal;
 
+#[tactic(auto, unfolding(crate::specs::Calls::of_reading, crate::specs::CAnswers::c_answer_of))]
 #[unsafe(no_mangle)]
 pub extern "C" fn weimrukas_read_sheet(
     sheet: &[u8],
@@ -24,15 +24,16 @@ pub extern "C" fn weimrukas_read_sheet(
         column.old }
 {
     match sheet_reader::read(sheet, codes, matrix) {
-        Reading::Read(order, count) => {
-            *n = order;
-            *sweeps = count;
+        Ok(sizes) => {
+            *n = sizes.n;
+            *sweeps = sizes.sweeps;
             0
         }
-        Reading::Refused(refused) => crate::answers::refuse(refused, row, column),
+        Err(refused) => crate::answers::refuse(refused, row, column),
     }
 }
 
+#[tactic(auto, unfolding(crate::specs::Calls::of_writing))]
 #[unsafe(no_mangle)]
 pub extern "C" fn weimrukas_write_sheet(
     n: usize,
@@ -48,10 +49,11 @@ pub extern "C" fn weimrukas_write_sheet(
         ≡ of_writing (write_of n sweeps codes.now matrix.now sheet.old) written.old row.old
         column.old }
 {
-    let writing = sheet_writer::write(n, sweeps, codes, matrix, sheet);
-    tell_written(writing, written, row, column)
+    let answer = sheet_writer::write(n, sweeps, codes, matrix, sheet);
+    tell_written(answer, written, row, column)
 }
 
+#[tactic(auto, unfolding(crate::specs::Calls::of_writing))]
 #[unsafe(no_mangle)]
 pub extern "C" fn weimrukas_join_sheets(
     first: &[u8],
@@ -65,20 +67,26 @@ pub extern "C" fn weimrukas_join_sheets(
         ≡ of_writing (join_of first.now second.now sheet.old) written.old row.old
         column.old }
 {
-    let writing = sheet_join::join(first, second, sheet);
-    tell_written(writing, written, row, column)
+    let answer = sheet_join::join(first, second, sheet);
+    tell_written(answer, written, row, column)
 }
 
 // How many bytes are written, or the number of the refusal.
-fn tell_written(writing: Writing, written: &mut usize, row: &mut usize, column: &mut usize) -> u8
+#[tactic(auto, unfolding(crate::specs::CAnswers::c_answer_of))]
+fn tell_written(
+    answer: Result<usize, Refusal>,
+    written: &mut usize,
+    row: &mut usize,
+    column: &mut usize,
+) -> u8
     ensures { (c_answer result row.new column.new, written.new)
-        ≡ of_written (writing_answered writing) written.old row.old column.old }
+        ≡ of_written (writing_answered answer) written.old row.old column.old }
 {
-    match writing {
-        Writing::Written(count) => {
+    match answer {
+        Ok(count) => {
             *written = count;
             0
         }
-        Writing::Refused(refused) => crate::answers::refuse(refused, row, column),
+        Err(refused) => crate::answers::refuse(refused, row, column),
     }
 }

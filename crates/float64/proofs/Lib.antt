@@ -1,5 +1,4 @@
 pub mod Nan
-pub mod Differences
 pub mod Zeros
 pub mod Grid
 pub mod Units

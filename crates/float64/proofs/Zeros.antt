@@ -5,13 +5,12 @@ use Prim.Native.Nat.{ℕ, zero, suc, ◌+◌, ◌*◌, ◌<◌}
 use native.Mathlib.Nat.{mul-pos, zero-lt-suc}
 use native.Mathlib.Omega.{arith}
 use borrow.Author.Tests.{lt-ltb, le-ltb, eq-eqb, ne_eqb, eqb-true}
-use lib.Dec.{T, eqb}
-use lib.IntN.{ℤ, pos}
-use lib.Ieee.{Float, nan, inf, fin, binary64, fits, up, down, neg, lt, eq, of_bits}
+use lib.Dec.{eqb}
+use lib.IntN.{ℤ}
+use lib.Ieee.{Float, nan, inf, fin, up, down, neg, lt, eq, of_bits}
 use lib.Ieee.Fits.{up_pos}
 use lib.Ieee.Positive.{above}
-use Rattle.float64.specs.Values.{plus_zero, is_zero, magnitude, sign_of, finite}
-use Rattle.float64.proofs.Units.{zero_units, same_units}
+use Rattle.float64.specs.Values.{plus_zero, is_zero, sign_of}
 
 product_above : (m : ℕ) (e : ℤ) → 0 < suc m * up e * 1
 product_above m e = mul-pos (mul-pos (zero-lt-suc m) (up_pos e)) (zero-lt-suc 0)
@@ -85,31 +84,3 @@ zero_not_above (fin false m e) h = refl
 
 pub zero_not_below : (x : Float) → is_zero x ≡ true → lt x plus_zero ≡ false
 zero_not_below x h = below_zero x ∙ zero_not_above x h
-
--- ---- the absolute value, by its two tests
-pub magnitude_below : (x : Float) → lt x plus_zero ≡ true → neg x ≡ magnitude x
-unfolding neg
-magnitude_below nan h = refl
-magnitude_below (inf true) h = refl
-magnitude_below (inf false) h = absurd (true≢false (sym h ∙ below_zero (inf false)))
-magnitude_below (fin true m e) h = refl
-magnitude_below (fin false m e) h = absurd (true≢false (sym h ∙ below_zero (fin false m e)))
-
-zero_magnitude : (s : Bool) (e : ℤ) → T (fits binary64 (fin s 0 e)) → plus_zero ≡ fin false 0 e
-unfolding finite fits of_bits
-zero_magnitude s e f = same_units plus_zero (fin false 0 e) tt tt tt f refl (zero_units false (pos 0) ∙ sym (zero_units false e))
-
-pub magnitude_zero : (x : Float) → T (fits binary64 x) → eq x plus_zero ≡ true → plus_zero ≡ magnitude x
-magnitude_zero nan f h = absurd (true≢false (sym h ∙ equal_zero nan))
-magnitude_zero (inf s) f h = absurd (true≢false (sym h ∙ equal_zero (inf s)))
-magnitude_zero (fin s zero e) f h = zero_magnitude s e f
-magnitude_zero (fin s (suc m) e) f h = absurd (true≢false (sym h ∙ equal_zero (fin s (suc m) e) ∙ ne_eqb (suc m) 0 (λ z. omega arith)))
-
-pub magnitude_above : (x : Float) → lt x plus_zero ≡ false → eq x plus_zero ≡ false → x ≡ magnitude x
-unfolding neg
-magnitude_above nan h k = refl
-magnitude_above (inf true) h k = absurd (true≢false (sym (below_zero (inf true)) ∙ h))
-magnitude_above (inf false) h k = refl
-magnitude_above (fin true zero e) h k = absurd (true≢false (sym (equal_zero (fin true zero e)) ∙ k))
-magnitude_above (fin true (suc m) e) h k = absurd (true≢false (sym (lt-ltb 0 (suc m) (zero-lt-suc m)) ∙ sym (below_zero (fin true (suc m) e)) ∙ h))
-magnitude_above (fin false m e) h k = refl

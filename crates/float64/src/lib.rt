@@ -10,24 +10,25 @@ ghost use Rattle.float64.specs.Values.{finite, magnitude, same_bits};
 pub fn is_finite(x: f64) -> bool
     ensures { result ≡ finite x }
 {
-    x - x == 0.0
+    x.is_finite()
 }
 
 // The NaN.
 pub fn not_a_number() -> f64
     ensures { result ≡ nan }
 {
-    0.0 / 0.0
+    f64::NAN
 }
 
 // The pattern of x, for the NaN 7FF8000000000000.
 pub fn to_bits(x: f64) -> u64
     ensures { result ≡ to_bits binary64 x }
 {
-    if x != x {
-        return 0x7ff8_0000_0000_0000;
+    if x.is_nan() {
+        0x7ff8_0000_0000_0000
+    } else {
+        x.to_bits()
     }
-    f64::to_bits(x)
 }
 
 // The value of the pattern b, for every NaN pattern the NaN.
@@ -35,9 +36,10 @@ pub fn from_bits(b: u64) -> f64
     ensures { result ≡ of_bits binary64 b }
 {
     if b % 0x8000_0000_0000_0000 > 0x7ff0_0000_0000_0000 {
-        return not_a_number();
+        not_a_number()
+    } else {
+        f64::from_bits(b)
     }
-    f64::from_bits(b)
 }
 
 // Whether the pattern b is that of a finite value.
@@ -58,11 +60,5 @@ pub fn same_bits(x: f64, y: f64) -> bool
 pub fn magnitude(x: f64) -> f64
     ensures { result ≡ magnitude x }
 {
-    if x < 0.0 {
-        return -x;
-    }
-    if x == 0.0 {
-        return 0.0;
-    }
-    x
+    x.abs()
 }

@@ -1,15 +1,14 @@
--- The figures of a run and the answer of a forecast, by the steps of the code. Assumes nothing.
+-- The figures of a run, by the steps of the code, and what is known where a forecast is not refused. Assumes nothing.
 use Prim.Native.Nat.{ℕ, ◌-◌, ◌*◌, ◌≤◌}
 use mathlib.Core.Path.{◌≡◌, refl}
 use mathlib.Core.Bool.{true}
-use mathlib.Core.List.{List}
 use native.Mathlib.Omega.{arith}
 use native.Mathlib.Nat.{mul_assoc, mul-le-mul}
 use Rattle.refusal.specs.Answers.{Answered, given, refused, giving}
 use Rattle.refusal.proofs.FirstRefusal.{refused_given}
 use Rattle.refusal.proofs.RefusedOutcomes.{giving_given}
 use Rattle.sizes.specs.Sizes.{most_processors, largest_order, most_sweeps, is_order, processors_of, steps_of, ticks_of, sizes_answer}
-use Rattle.sizes.proofs.Orders.{order_half, steps_few, sizes_fine, sizes_given}
+use Rattle.sizes.proofs.Orders.{order_half, steps_few, sizes_given}
 use Rattle.forecast.specs.declared.Figures.{Figures}
 use Rattle.forecast.specs.Forecast.{figures_of, forecast_of}
 
@@ -45,15 +44,6 @@ module _ (n sweeps : ℕ) where
       → ◌≡◌ {A = Figures} (record { ticks = ticks; values = values; parameters = parameters }) (figures_of n sweeps)
   unfolding figures_of
   figures_are e f g = rw (e, f, g) (simp mul_assoc)
-
-  -- ---- the answer
-  pub is_given_lem : (is_order n ≡ true) × (sweeps ≤ most_sweeps) → {x : Figures} → x ≡ figures_of n sweeps → given x ≡ forecast_of n sweeps
-  unfolding forecast_of
-  is_given_lem p e = rw (← (sizes_fine n sweeps p.0 p.1), e)
-
-  pub is_refused : {k : ℕ} {values : List ℕ} → refused k values ≡ sizes_answer n sweeps → refused k values ≡ forecast_of n sweeps
-  unfolding forecast_of
-  is_refused e = rw (← e)
 
   -- what is known where it is not refused
   pub forecast_given : {f : Figures} → forecast_of n sweeps ≡ given f → (is_order n ≡ true) × (f ≡ figures_of n sweeps)

@@ -1,14 +1,12 @@
 -- Document 02 (iii): what a run of order n takes, from n and the sweeps alone. Definitions only.
-use Rattle.std.specs.Prelude.{ℕ, ◌-◌, ◌*◌}
-use Rattle.refusal.specs.Answers.{Answered, given, refused_by, giving}
+use Rattle.std.specs.Prelude.{ℕ, ◌-◌, ◌*◌, Result}
+use Rattle.refusal.specs.Answers.{Answered, answered_as, giving}
+use Rattle.refusal.specs.declared.Refusal.{Refusal}
 use Rattle.sizes.specs.Sizes.{processors_of, steps_of, ticks_of, sizes_answer}
 use Rattle.forecast.specs.declared.Figures.{Figures}
-use Rattle.forecast.specs.declared.Forecast.{Forecast}
-use Rattle.forecast.specs.declared.Forecast.TheVariants.{Given, Refused}
 
-abbrev pub forecast_answered : Forecast → Answered Figures
-forecast_answered (Given f) = given f
-forecast_answered (Refused r) = refused_by r
+abbrev pub forecast_answered : Result Figures Refusal → Answered Figures
+forecast_answered = answered_as (λ figures. figures)
 
 -- 3 K + N ticks, 8 N N K values set on cell wires, 2 N (N - 1) K parameters received.
 unfoldable pub figures_of : ℕ → ℕ → Figures

@@ -4,7 +4,7 @@ ghost use Rattle.std.specs.Prelude.{◌≡◌, true, ◌≤◌};
 ghost use Rattle.sizes.specs.Sizes.{most_sweeps, is_order};
 ghost use Rattle.forecast.specs.Forecast.{forecast_answered, figures_of, forecast_of};
 
-use refusal::{Answer, Refusal};
+use refusal::Refusal;
 
 // The ticks, the values of the matrix and of the eigenvectors that are set on cell wires, and the parameters that tiles
 // off the diagonal receive.
@@ -15,21 +15,13 @@ pub struct Figures {
     pub parameters: usize,
 }
 
-// What a forecast answers.
-#[derive(Clone, Copy)]
-pub enum Forecast {
-    Given(Figures),
-    Refused(Refusal),
-}
-
 // The figures of a run of order n.
-pub fn of_run(n: usize, sweeps: usize) -> Forecast
+#[tactic(auto, unfolding(crate::specs::Forecast::forecast_of))]
+pub fn of_run(n: usize, sweeps: usize) -> Result<Figures, Refusal>
     ensures { forecast_answered result ≡ forecast_of n sweeps }
 {
-    match sizes::tested(n, sweeps) {
-        Answer::Accepted => Forecast::Given(figures_of(n, sweeps)),
-        Answer::Refused(refused) => Forecast::Refused(refused),
-    }
+    sizes::tested(n, sweeps)?;
+    Ok(figures_of(n, sweeps))
 }
 
 // The figures of a run that is not refused. In a step every tile rotates once and sets four wires, which carry two values each, and

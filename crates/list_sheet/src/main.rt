@@ -1,12 +1,11 @@
 #![tactic(auto)]
 // Reads a sheet on standard input, runs the array, and prints it (document 01, "The printed sheet"). Where a read or a write fails, a line on
 // standard error says so, and after a failed read nothing is printed. The exit status is 0 even then.
-ghost use Rattle.std.specs.Prelude.{◌≡◌, ◌<◌, length, take, IfOk};
-ghost use Rattle.std.specs.Io.KnownBytes.{Consumes, IsAtEnd, ReadConsumes};
+ghost use Rattle.std.specs.Prelude.{◌≡◌};
+ghost use Rattle.input_bytes.specs.Reads.{IsPrefixLen};
 ghost use Rattle.listing_text.specs.Printed.{printing};
-ghost use Rattle.list_sheet.specs.Program.{prints_of, IsPrefixLen, ReadsOn, ReadWithin};
+ghost use Rattle.list_sheet.specs.Program.{prints_of};
 
-use refusal::Answer;
 use std::env::{Env, FillError};
 use std::io::{self, Eprint, Print, Read};
 
@@ -46,42 +45,16 @@ fn explain<P: Print + Eprint>(rt: &P, asked_for: bool) -> io::Result<()> {
 }
 
 fn is_help(argument: &[u8]) -> bool {
-    argument == b"-h".as_slice() || argument == b"--help".as_slice()
+    matches!(argument, b"-h" | b"--help")
 }
 
 // Reads a sheet and lists it. If the read fails, a line on standard error says so.
 fn list_input<P: Print + Eprint, R: Read>(rt: &P, input: &mut R) -> io::Result<()> {
     let mut sheet = [0u8; INPUT];
-    match read(input, &mut sheet) {
+    match input_bytes::read_full(input, &mut sheet) {
         Ok(bytes) => list(rt, &sheet[..bytes]),
         Err(error) => eprintln!(rt; "list_sheet: standard input: {error}"),
     }
-}
-
-// Reads until the buffer is full or the input ends.
-fn read<R: Read>(input: &mut R, buffer: &mut [u8]) -> io::Result<usize>
-    ensures within { ReadWithin (length buffer.new) result }
-    ensures bytes { IfOk result (λ n. Consumes (R.remaining input.old) (R.remaining input.new) (take n buffer.new)) }
-    ensures end { IfOk result (λ n. n < length buffer.new → IsAtEnd (R.remaining input.new)) }
-    ensures reads_on { ReadsOn (R.remaining input.old) (R.remaining input.new) }
-{
-    let mut bytes = 0;
-    while bytes < buffer.len() {
-        let more = read_once(input, &mut buffer[bytes..])?;
-        if more == 0 {
-            return Ok(bytes);
-        }
-        bytes += more;
-    }
-    Ok(bytes)
-}
-
-// One read; 0 bytes are the end of the input.
-fn read_once<R: Read>(input: &mut R, buffer: &mut [u8]) -> io::Result<usize>
-    ensures within { ReadWithin (length buffer.new) result }
-    ensures bytes { ReadConsumes (R.remaining input.old) (R.remaining input.new) result buffer.new }
-{
-    input.read(buffer)
 }
 
 // Lists a sheet on standard output.
@@ -96,11 +69,9 @@ fn print(sheet: &[u8], text: &mut [u8]) -> usize
     ensures text_after { printing result text.new ≡ prints_of sheet.now text.old }
     ensures prefix_len { IsPrefixLen result text.new }
 {
-    let listed = listing::list(sheet, text);
-    let answer = listed.answer;
-    match answer {
-        Answer::Accepted => listed.count,
-        Answer::Refused(refused) => listing_text::print_refusal(refused, text),
+    match listing::list(sheet, text) {
+        Ok(count) => count,
+        Err(refused) => listing_text::print_refusal(refused, text),
     }
 }
 

@@ -1,13 +1,9 @@
 -- What the reader, the run and the printer give together. Assumes nothing.
-use Prim.Native.Nat.{ℕ, ◌*◌, ◌<◌, ◌≤◌}
-use mathlib.Core.Path.{◌≡◌, refl, sym, ap, ◌∙◌}
-use mathlib.Core.Bool.{Bool, true, false, cond}
-use mathlib.Core.List.{List, [], ◌∷◌}
-use native.Mathlib.Omega.{arith}
-use borrow.Author.Tests.{lt-ltb, le-ltb, ltb-false}
+use Rattle.std.proofs.Common.{◌≡◌, ℕ, ◌*◌, ◌<◌, ◌≤◌, Bool, true, false, List, [], ◌∷◌, Err, length, refl, sym, ap, ◌∙◌, arith}
+use Rattle.std.specs.Prelude.{Float}
+use native.Mathlib.Nat.{mul-le-mul}
+use borrow.Author.Tests.{lt-ltb, le-ltb}
 use lib.Dec.{ltb}
-use lib.ListN.{length}
-use lib.Ieee.{Float}
 use Rattle.refusal.specs.Answers.{Answered, given, refused, refused_by, giving, value_or, unless_refused, or_else, row, table}
 use Rattle.refusal.specs.declared.Refusal.{Refusal}
 use Rattle.refusal.specs.declared.Refusal.TheVariants.{TooShort}
@@ -18,54 +14,34 @@ use Rattle.matrix.specs.Matrix.{flat}
 use Rattle.matrix.proofs.Flat.{flat_length}
 use Rattle.runs.specs.Outcome.{Outcome, outcome, results_kept, before_run}
 use Rattle.runs.specs.State.{zeros}
-use Rattle.array_run.specs.declared.Completion.{Completion}
-use Rattle.array_run.specs.declared.Completion.TheVariants as completion
+use Rattle.array_run.specs.declared.WholeReport as code
 use Rattle.array_run.specs.Results.{WholeReport}
-use Rattle.array_run.specs.Whole.{completion_answered, ticks_answered, whole_of}
+use Rattle.array_run.specs.Whole.{report_of, ticks_answered, whole_of}
 use Rattle.sheet.specs.Format.{order_in, sweeps_in, codes_in, entry_in}
-use Rattle.sheet_reader.specs.declared.Reading.{Reading}
-use Rattle.sheet_reader.specs.declared.Reading.TheVariants as reading
 use Rattle.sheet_reader.specs.Reader.{sheet_answer, read_answer, ReadOutcome, read_outcome, reading_answered, content_of, read_of}
 use Rattle.sheet_reader.proofs.Tables.{lent_right, readable}
 use Rattle.listing_text.specs.Printed.{Printing, printing, print_of, room_for}
 use Rattle.listing_text.proofs.Room.{Within, print_within}
-use Rattle.listing.specs.Listing.{ListingOutcome, listed, listed_unless, list_of}
+use Rattle.listing.specs.Listing.{ListingOutcome, listed, listing_answered, listed_unless, list_of}
 
--- ---- the order
-module _ (b : List ℕ) where
-  pub too_large : {n : ℕ} → n ≡ order_in b → largest_order < n → 0 ≡ cond (ltb largest_order (order_in b)) 0 (order_in b)
-  too_large e h = rw (lt-ltb largest_order (order_in b) (omega arith))
-
-  pub not_too_large : {n : ℕ} → n ≡ order_in b → n ≤ largest_order → n ≡ cond (ltb largest_order (order_in b)) 0 (order_in b)
-  not_too_large e h = rw (le-ltb largest_order (order_in b) (omega arith)) e
-
-  pub order_few : {n : ℕ} → n ≡ cond (ltb largest_order (order_in b)) 0 (order_in b) → n ≤ largest_order
-  order_few e = rw e (go (ltb largest_order (order_in b)) refl)
-    where
-      go : (a : Bool) → ltb largest_order (order_in b) ≡ a → cond a 0 (order_in b) ≤ largest_order
-      go true z = omega arith
-      go false z = ltb-false largest_order (order_in b) z
-
-  pub order_there : {n : ℕ} → n ≡ cond (ltb largest_order (order_in b)) 0 (order_in b) → is_order (order_in b) ≡ true → n ≡ order_in b
-  order_there e z = e ∙ sym (not_too_large refl (order_is (order_in b) z).1)
+pub few_entries : (n : ℕ) → n ≤ largest_order → n * n ≤ 1024
+few_entries n h = mul-le-mul h h
 
 -- ---- the run
 module _ (n sweeps : ℕ) (codes t : List ℕ) (o : Outcome WholeReport) where
-  pub no_room : {a : Answered Unit} {k : ℕ} → length t < room_for n → a ≡ refused_by TooShort → k ≡ 0
-      → listed a (printing k t) ≡ listed_unless (given tt) n sweeps codes o t
+  pub no_room : length t < room_for n → listing_answered (Err TooShort) t ≡ listed_unless (given tt) n sweeps codes o t
   unfolding listed_unless
-  no_room h e z = rw (lt-ltb _ _ h, e, z)
+  no_room h = rw (lt-ltb _ _ h)
 
-  module _ (room : room_for n ≤ length t) (x : Completion) {l e : List Float} where
-    pub run_printed : (made ticks rounded : ℕ) {p : Printing} → x ≡ completion.Completed made ticks rounded → outcome (completion_answered x) l e ≡ o
-        → p ≡ print_of n sweeps ticks codes l e t → listed (given tt) p ≡ listed_unless (given tt) n sweeps codes o t
+  module _ (room : room_for n ≤ length t) {l e : List Float} where
+    pub run_printed : (r : code.WholeReport) {p : Printing} → outcome (given (report_of r)) l e ≡ o → p ≡ print_of n sweeps r.ticks codes l e t
+        → listed (given tt) p ≡ listed_unless (given tt) n sweeps codes o t
     unfolding listed_unless
-    run_printed made ticks rounded z h k = rw (le-ltb _ _ room, k, ← h, z)
+    run_printed r h k = rw (le-ltb _ _ room, k, ← h)
 
-    pub run_not_printed : (r : Refusal) {a : Answered Unit} {k : ℕ} → x ≡ completion.Refused r → outcome (completion_answered x) l e ≡ o
-        → a ≡ refused_by r → k ≡ 0 → listed a (printing k t) ≡ listed_unless (given tt) n sweeps codes o t
+    pub run_refused : (r : Refusal) → outcome (refused_by r) l e ≡ o → listing_answered (Err r) t ≡ listed_unless (given tt) n sweeps codes o t
     unfolding listed_unless
-    run_not_printed r z h e' k = rw (le-ltb _ _ room, e', k, ← h, z)
+    run_refused r h = rw (le-ltb _ _ room, ← h)
 
 -- a refusal leaves nothing to be seen of what would be printed
 unseen_if_refused : (a : Answered Unit) (k : ℕ) (values : List ℕ) (p q : ListingOutcome) (left : Answered Unit → ListingOutcome)
@@ -82,7 +58,7 @@ module _ (n sweeps : ℕ) (codes t : List ℕ) (l : List Float) where
   unseen r v r' v' (given x) o = refl
   unseen r v r' v' (refused k values) o = unseen_if_refused (row (ltb (length t) (room_for n)) TooShort) k values _ _ _
 
-  pub by_zeros : (r v : List Float) → length r ≡ n * n → length v ≡ n * n
+  by_zeros : (r v : List Float) → length r ≡ n * n → length v ≡ n * n
       → listed_unless (given tt) n sweeps codes (whole_of n sweeps l r v) t
       ≡ listed_unless (given tt) n sweeps codes (whole_of n sweeps l (zeros n) (zeros n)) t
   unfolding whole_of zeros
@@ -90,46 +66,49 @@ module _ (n sweeps : ℕ) (codes t : List ℕ) (l : List Float) where
 
 -- ---- the reading
 module _ (b : List ℕ) where
-  -- the buffers of a reader have the lengths that the order asks for, where there is one
-  abbrev pub Fitting : ℕ → ℕ → Type 0
-  Fitting lc lm = is_order (order_in b) ≡ true → (lc ≡ order_in b) × (lm ≡ order_in b * order_in b)
+  -- the buffers of a listing have the lengths that the order asks for, where there is one
+  abbrev pub Fitting : (codes matrix result vectors : ℕ) → Type 0
+  Fitting codes matrix result vectors =
+      is_order (order_in b) ≡ true
+      → (codes ≡ order_in b) × (matrix ≡ order_in b * order_in b) × (result ≡ order_in b * order_in b) × (vectors ≡ order_in b * order_in b)
 
-  answers_alike : (lc lm : ℕ) → Fitting lc lm → read_answer b lc lm ≡ sheet_answer b
-  answers_alike lc lm fit = go (is_order (order_in b)) refl ∙ lent_right b
-    where
-      go : (o : Bool) → is_order (order_in b) ≡ o → read_answer b lc lm ≡ read_answer b (order_in b) (order_in b * order_in b)
-      go true e = rw ((fit e).0, (fit e).1)
-      go false e = unfold read_answer in (rw e)
+  module _ (lc lm lr lv : ℕ) (fit : Fitting lc lm lr lv) where
+    answers_alike : read_answer b lc lm ≡ sheet_answer b
+    answers_alike = go (is_order (order_in b)) refl ∙ lent_right b
+      where
+        go : (o : Bool) → is_order (order_in b) ≡ o → read_answer b lc lm ≡ read_answer b (order_in b) (order_in b * order_in b)
+        go true e = rw ((fit e).0, (fit e).1)
+        go false e = unfold read_answer in (rw e)
 
-  -- the order and the sweeps, the codes and the matrix that were read
-  pub record Content (n sweeps : ℕ) (codes : List ℕ) (l : List Float) : Type 0 where
+  -- what was read: the order and the sweeps, the codes and the matrix
+  pub record Content (lc lm n sweeps : ℕ) (codes : List ℕ) (l : List Float) : Type 0 where
+    pub accepted : read_answer b lc lm ≡ given tt
     pub as_order : n ≡ order_in b
     pub as_sweeps : sweeps ≡ sweeps_in b
     pub as_codes : codes ≡ codes_in b
     pub as_matrix : l ≡ flat (order_in b) (entry_in b)
 
-  module _ (c : List ℕ) (m : List Float) (x : Reading) {codes : List ℕ} {l : List Float} (h : read_outcome (reading_answered x) codes l ≡ read_of b c m) where
-    pub was_read : (n sweeps : ℕ) → x ≡ reading.Read n sweeps → (read_answer b (length c) (length m) ≡ given tt) × Content n sweeps codes l
+  module _ (c : List ℕ) (m : List Float) {codes : List ℕ} {l : List Float} where
+    pub was_read : (n sweeps : ℕ) → read_outcome (given (n, sweeps)) codes l ≡ read_of b c m → Content (length c) (length m) n sweeps codes l
     unfolding read_of content_of
-    was_read n sweeps z = go (read_answer b (length c) (length m)) refl (rw z at h)
+    was_read n sweeps h = go (read_answer b (length c) (length m)) refl h
       where
         go : (a : Answered Unit) → read_answer b (length c) (length m) ≡ a
             → read_outcome (given (n, sweeps)) codes l ≡ unless_refused a (content_of b) (λ (x : Answered (ℕ × ℕ)). read_outcome x c m)
-            → (read_answer b (length c) (length m) ≡ given tt) × Content n sweeps codes l
-        go (given tt) e k = (
-          e,
-          record {
-            as_order = ap (λ (o : ReadOutcome). (value_or o.answer (0, 0)).0) k;
-            as_sweeps = ap (λ (o : ReadOutcome). (value_or o.answer (0, 0)).1) k;
-            as_codes = ap (λ (o : ReadOutcome). o.codes) k;
-            as_matrix = ap (λ (o : ReadOutcome). o.matrix) k;
-          },
-        )
+            → Content (length c) (length m) n sweeps codes l
+        go (given tt) e k =
+            record {
+              accepted = e;
+              as_order = ap (λ (o : ReadOutcome). (value_or o.answer (0, 0)).0) k;
+              as_sweeps = ap (λ (o : ReadOutcome). (value_or o.answer (0, 0)).1) k;
+              as_codes = ap (λ (o : ReadOutcome). o.codes) k;
+              as_matrix = ap (λ (o : ReadOutcome). o.matrix) k;
+            }
         go (refused j values) e k = refused_given (sym (ap (λ (o : ReadOutcome). o.answer) k))
 
-    was_refused : (r : Refusal) → x ≡ reading.Refused r → read_answer b (length c) (length m) ≡ refused_by r
+    was_refused : (r : Refusal) → read_outcome (reading_answered (Err r)) codes l ≡ read_of b c m → read_answer b (length c) (length m) ≡ refused_by r
     unfolding read_of content_of
-    was_refused r z = go (read_answer b (length c) (length m)) refl (rw z at h)
+    was_refused r h = go (read_answer b (length c) (length m)) refl h
       where
         go : (a : Answered Unit) → read_answer b (length c) (length m) ≡ a
             → read_outcome (refused_by r) codes l ≡ unless_refused a (content_of b) (λ (x : Answered (ℕ × ℕ)). read_outcome x c m)
@@ -137,29 +116,22 @@ module _ (b : List ℕ) where
         go (given tt) e k = refused_given (ap (λ (o : ReadOutcome). o.answer) k)
         go (refused j values) e k = e ∙ sym (ap (λ (o : ReadOutcome). giving tt o.answer) k)
 
-  pub within_limit : (lc lm n : ℕ) → read_answer b lc lm ≡ given tt → n ≡ order_in b → n ≤ largest_order
-  within_limit lc lm n e z = rw z (order_is (order_in b) (readable b lc lm e).order).1
+  pub within_limit : (lc lm n sweeps : ℕ) {codes : List ℕ} {l : List Float} → Content lc lm n sweeps codes l → n ≤ largest_order
+  within_limit lc lm n sweeps q = rw q.as_order (order_is (order_in b) (readable b lc lm q.accepted).order).1
 
   -- ---- the listing
-  module _ (c : List ℕ) (m : List Float) (t : List ℕ) (fit : Fitting (length c) (length m)) where
-    pub sheet_refused : (x : Reading) (r : Refusal) {a : Answered Unit} {k : ℕ} {codes : List ℕ} {l : List Float}
-        → read_outcome (reading_answered x) codes l ≡ read_of b c m
-        → x ≡ reading.Refused r → a ≡ refused_by r → k ≡ 0 → listed a (printing k t) ≡ list_of b t
+  module _ (c : List ℕ) (m r v : List Float) (t : List ℕ) (fit : Fitting (length c) (length m) (length r) (length v)) {codes : List ℕ} {l : List Float} where
+    pub sheet_refused : (x : Refusal) → read_outcome (reading_answered (Err x)) codes l ≡ read_of b c m → listing_answered (Err x) t ≡ list_of b t
     unfolding list_of listed_unless
-    sheet_refused x r h z e k = rw (← (answers_alike (length c) (length m) fit), was_refused c m x h r z, e, k)
+    sheet_refused x h = rw (← (answers_alike _ _ _ _ fit), was_refused c m x h)
 
-    -- the results have their lengths too
-    abbrev pub Results : List Float → List Float → Type 0
-    Results r v = is_order (order_in b) ≡ true → (length r ≡ order_in b * order_in b) × (length v ≡ order_in b * order_in b)
-
-    pub sheet_listed : (n sweeps : ℕ) {y : ListingOutcome} {codes : List ℕ} {l : List Float} (r v : List Float) → Results r v
-        → read_answer b (length c) (length m) ≡ given tt → Content n sweeps codes l
+    pub sheet_listed : (n sweeps : ℕ) {y : ListingOutcome} → Content (length c) (length m) n sweeps codes l
         → y ≡ listed_unless (given tt) n sweeps codes (whole_of n sweeps l r v) t → y ≡ list_of b t
     unfolding list_of
-    sheet_listed n sweeps {codes = codes} {l = l} r v long e q k =
-        let z = (readable b (length c) (length m) e).order in
-        let same = by_zeros n sweeps codes t l r v (rw q.as_order (long z).0) (rw q.as_order (long z).1) in
-        rw (← (answers_alike (length c) (length m) fit), e) (rw (q.as_matrix, q.as_codes, q.as_sweeps, q.as_order) at (k ∙ same))
+    sheet_listed n sweeps q k =
+        let long = fit (readable b (length c) (length m) q.accepted).order in
+        let same = by_zeros n sweeps codes t l r v (rw q.as_order long.2) (rw q.as_order long.3) in
+        rw (← (answers_alike _ _ _ _ fit), q.accepted) (rw (q.as_matrix, q.as_codes, q.as_sweeps, q.as_order) at (k ∙ same))
 
 -- ---- what is printed lies within the lent bytes
 either_within : (a : Answered Unit) (p : Printing) (t : List ℕ) → Within p

@@ -1,6 +1,7 @@
 -- Document 01, "The printed sheet": what comes of a sheet that is read, run by the array and printed. Definitions only.
-use Rattle.std.specs.Prelude.{ℕ, List, [], ◌∷◌, ltb, length}
-use Rattle.refusal.specs.Answers.{Answered, given, giving, unless_refused, row, table}
+use Rattle.std.specs.Prelude.{ℕ, List, [], ◌∷◌, Result, Ok, Err, ltb, length}
+use Rattle.refusal.specs.Answers.{Answered, given, refused_by, giving, unless_refused, row, table}
+use Rattle.refusal.specs.declared.Refusal.{Refusal}
 use Rattle.refusal.specs.declared.Refusal.TheVariants.{TooShort}
 use Rattle.matrix.specs.Matrix.{flat}
 use Rattle.runs.specs.Outcome.{Outcome}
@@ -19,6 +20,11 @@ pub record ListingOutcome : Type 0 where
 
 abbrev pub listed : Answered Unit → Printing → ListingOutcome
 listed a p = record { answer = a; count = p.count; bytes = p.bytes }
+
+-- What comes of a listing that answers r, where the lent bytes hold t after it. A refusal prints nothing.
+abbrev pub listing_answered : Result ℕ Refusal → List ℕ → ListingOutcome
+listing_answered (Ok count) t = listed (given tt) (printing count t)
+listing_answered (Err r) t = listed (refused_by r) (printing 0 t)
 
 -- A sheet whose own refusals answer a, and whose run has the outcome o, printed into the lent bytes t: the sweeps that it asks for, the ticks that
 -- were made. After its refusals come refusal 7 and those of the run. A refusal of any number prints nothing and leaves the bytes.

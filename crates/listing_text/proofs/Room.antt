@@ -3,13 +3,12 @@ use Prim.Native.Nat.{ℕ, ◌+◌, ◌*◌, ◌<◌, ◌≤◌}
 use mathlib.Core.Path.{◌≡◌}
 use mathlib.Core.Bool.{Bool, true, false, cond}
 use mathlib.Core.List.{List, ◌++◌}
-use native.Mathlib.Nat.{suc-mul, mul-le-mul, mul-le-mul_right}
+use native.Mathlib.Nat.{suc-mul, mul-le-mul_right}
 use native.Mathlib.Numerals.{add-one}
 use native.Mathlib.Omega.{arith}
 use lib.Dec.{ltb}
 use lib.ListN.{length, drop, length-append}
 use lib.Ieee.{Float}
-use Rattle.sizes.specs.Sizes.{largest_order}
 use Rattle.matrix.specs.Matrix.{at}
 use Rattle.listing_text.specs.Printed.{text_line_room, printable, Printing, printing, printed_of, print_of, refused_text, refusal_of}
 
@@ -19,9 +18,6 @@ text_line_more k n = rw add-one (suc-mul k (text_line_room n))
 -- while text lines are left there is room for one
 pub text_line_fits : (k n : ℕ) → k < n → k * text_line_room n + text_line_room n ≤ n * text_line_room n
 text_line_fits k n h = rw (suc-mul k (text_line_room n)) at (mul-le-mul_right (text_line_room n) h)
-
-pub text_lines_fit : (n : ℕ) → n ≤ largest_order → n * text_line_room n ≤ largest_order * text_line_room largest_order
-text_lines_fit n h = let w : text_line_room n ≤ text_line_room largest_order = omega arith in mul-le-mul h w
 
 -- ---- within the lent bytes
 abbrev pub Within : Printing → Type 0

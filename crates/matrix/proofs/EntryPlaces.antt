@@ -1,30 +1,15 @@
 -- When there is an entry. Assumes nothing.
-use Prim.Native.Nat.{ℕ, ◌+◌, ◌-◌, ◌*◌, ◌^◌, ◌≤◌, ◌<◌}
+use Prim.Native.Nat.{ℕ, ◌+◌, ◌-◌, ◌*◌, ◌≤◌, ◌<◌}
 use mathlib.Core.Path.{◌≡◌, refl, sym}
 use mathlib.Core.Bool.{Bool, true, false, cond, ◌&&◌, true≢false}
 use mathlib.Core.List.{List}
 use native.Mathlib.Omega.{arith}
-use native.Mathlib.Nat.{mul-le-mul}
 use borrow.Author.Tests.{eqb-true, eqb-false, eq-eqb, ne_eqb, leb-true, le-leb}
 use lib.Arith.{digits_lt}
 use lib.Dec.{eqb, leb}
-use lib.ListN.{length, get_or}
-use lib.Ieee.{Float, nan}
+use lib.ListN.{length}
+use lib.Ieee.{Float}
 use Rattle.matrix.specs.Matrix.{at, is_line, is_place, entry_of}
-
--- ---- the length of a matrix
-pub too_large : (n d : ℕ) → 0xffff_ffff < n → d < 2 ^ 64 → false ≡ eqb d (n * n)
-too_large n d h k = let w : 0x1_0000_0000 * 0x1_0000_0000 ≤ n * n = mul-le-mul h h in sym (ne_eqb d (n * n) (λ e. omega arith))
-
-pub square_fits : (n : ℕ) → n ≤ 0xffff_ffff → n * n < 2 ^ 64
-square_fits n h = let w : n * n ≤ 0xffff_ffff * 0xffff_ffff = mul-le-mul h h in omega arith
-
--- ---- one line
-pub line_zero : (n p : ℕ) → p ≡ 0 → false ≡ is_line n p
-line_zero n p e = rw e
-
-pub line_other : (n p : ℕ) → ¬ (p ≡ 0) → leb p n ≡ is_line n p
-line_other n p e = rw (ne_eqb p 0 e)
 
 -- ---- a place
 pub line_is : (n p : ℕ) → is_line n p ≡ true → (1 ≤ p) × (p ≤ n)
@@ -45,18 +30,6 @@ pub record Place (n r c d : ℕ) : Type 0 where
   pub square : d ≡ n * n
 
 module _ (n r c d : ℕ) where
-  pub no_row : is_line n r ≡ false → false ≡ is_place n r c d
-  unfolding is_place
-  no_row e = rw e
-
-  pub no_column : is_line n r ≡ true → is_line n c ≡ false → false ≡ is_place n r c d
-  unfolding is_place
-  no_column e f = rw (e, f)
-
-  pub by_length : is_line n r ≡ true → is_line n c ≡ true → eqb d (n * n) ≡ is_place n r c d
-  unfolding is_place
-  by_length e f = rw (e, f)
-
   pub are_place : is_place n r c d ≡ true → Place n r c d
   unfolding is_place
   are_place e = go (is_line n r) (is_line n c) (eqb d (n * n)) refl refl refl e
@@ -76,25 +49,18 @@ module _ (n r c d : ℕ) where
 
 -- ---- an entry
 module _ (n r c : ℕ) (l : List Float) where
-  pub entry_none : is_place n r c (length l) ≡ false → nan ≡ entry_of n l r c
-  unfolding entry_of
-  entry_none e = rw e
-
   pub entry_at : is_place n r c (length l) ≡ true → entry_of n l r c ≡ at n l r c
   unfolding entry_of
   entry_at e = rw e
 
-  pub entry_read : is_place n r c (length l) ≡ true → get_or l ((r - 1) * n + (c - 1)) nan ≡ entry_of n l r c
-  unfolding at
-  entry_read e = sym (entry_at e)
-
-  pub place_within : Place n r c (length l) → (r - 1) * n + (c - 1) < length l
-  place_within t =
-      let a = t.row_above in
-      let b = t.row_within in
-      let f = t.column_above in
-      let g = t.column_within in
-      rw t.square (digits_lt {q = r - 1} {m = n} {r = c - 1} {c = n} (omega arith) (omega arith))
+pub place_within : (n r c d : ℕ) → is_place n r c d ≡ true → ((r - 1) * n + (c - 1) < d) × (1 ≤ r) × (1 ≤ c)
+place_within n r c d e =
+    let t = are_place n r c d e in
+    let a = t.row_above in
+    let b = t.row_within in
+    let f = t.column_above in
+    let g = t.column_within in
+    (rw t.square (digits_lt {q = r - 1} {m = n} {r = c - 1} {c = n} (omega arith) (omega arith)), a, f)
 
 pub entry_in : (n i j : ℕ) (l : List Float) → length l ≡ n * n → i < n → j < n → entry_of n l (i + 1) (j + 1) ≡ at n l (i + 1) (j + 1)
 entry_in n i j l long hi hj =

@@ -12,6 +12,8 @@ use lib.Dec.{eqb, leb}
 use lib.ListN.{length, get_or, length-set}
 use lib.Seq.{get_or-set_same, get_or-set_other, lt-length-set}
 use lib.Ieee.{Float, nan}
+use Rattle.std.specs.List.{swap}
+use Rattle.std.proofs.lemmas.List.Edits.{swap_is}
 use Rattle.matrix.specs.Matrix.{at, flat}
 use Rattle.matrix.specs.Transposed.{transposed, transposed_in, across, up_to, exchanged}
 use Rattle.matrix.proofs.Flat.{index_one, at_offset, flat_length, at_flat, flat_is}
@@ -34,6 +36,10 @@ module _ (p q : ℕ) (l : List Float) where
   exchanged_other : (k : ℕ) → k ≢ p → k ≢ q → get_or (exchanged p q l) k nan ≡ get_or l k nan
   unfolding exchanged
   exchanged_other k h g = rw (get_or-set_other, get_or-set_other)
+
+  swapped : p < length l → q < length l → swap l p q ≡ exchanged p q l
+  unfolding exchanged
+  swapped h k = sym (swap_is l p q nan h k)
 
 -- ---- which entries are exchanged: x is the larger line, y the smaller
 abbrev reached : ℕ → ℕ → ℕ → ℕ → Bool
@@ -147,8 +153,8 @@ module _ (n i j : ℕ) (inside : i < n) (below : j < i) where
             exchanged_other _ _ before _ (eqb-false _ _ e) (eqb-false _ _ f) ∙ stood r c hr hc
             ∙ unfold across in (rw (elsewhere r c (eqb-false _ _ e) (eqb-false _ _ f)))
 
-    pub exchange_next : {l l' : List Float} → l ≡ before → l' ≡ exchanged (i * n + j) (j * n + i) l → l' ≡ flat n (across (up_to i (j + 1)) A)
-    exchange_next e f = f ∙ ap (exchanged (i * n + j) (j * n + i)) e ∙ pair_crossed
+    pub exchange_next : {l l' : List Float} → l ≡ before → l' ≡ swap l (i * n + j) (j * n + i) → l' ≡ flat n (across (up_to i (j + 1)) A)
+    exchange_next e f = rw e at f ∙ swapped _ _ before (rw long first_within) (rw long second_within) ∙ pair_crossed
 
 -- ---- no line, one line more, all lines
 module _ (n : ℕ) (A : ℕ → ℕ → Float) where

@@ -4,7 +4,7 @@ use mathlib.Core.Path.{◌≡◌, refl, sym}
 use mathlib.Core.Bool.{Bool, true, false, not, ◌&&◌, true≢false}
 use mathlib.Core.List.{List}
 use mathlib.Core.Logic.{◌≢◌}
-use borrow.Author.Tests.{eqb-false, eq-eqb, ne_eqb}
+use borrow.Author.Tests.{eqb-false, ne_eqb}
 use lib.Dec.{eqb}
 use lib.ListN.{length}
 use lib.Ieee.{Float}
@@ -22,14 +22,6 @@ pub record Two (n p q d : ℕ) : Type 0 where
   pub long : d ≡ n * n
 
 module _ (n p q d : ℕ) where
-  pub one_line : p ≡ q → false ≡ two_lines n p q d
-  unfolding two_lines
-  one_line z = rw (eq-eqb p q z)
-
-  pub by_place : ¬ (p ≡ q) → is_place n p q d ≡ two_lines n p q d
-  unfolding two_lines
-  by_place z = rw (ne_eqb p q z)
-
   pub are_two : two_lines n p q d ≡ true → Two n p q d
   unfolding two_lines
   are_two e = go (eqb p q) (is_place n p q d) refl refl e

@@ -9,11 +9,10 @@ use native.Mathlib.Omega.{arith}
 use native.Mathlib.Nat.{le_of_suc-le-suc, eq-or-lt_of_le}
 use borrow.Author.Tests.{eqb-true, eqb-false}
 use lib.Dec.{eqb}
-use lib.ListN.{length, get_or, set, length-set}
+use lib.ListN.{length, get_or, length-set}
 use lib.Seq.{get_or-set_same, get_or-set_other, lt-length-set}
 use lib.Ieee.{Float, nan}
 use Rattle.rotation.specs.declared.Parameters.{Parameters}
-use Rattle.rotation.specs.declared.Sides.{Sides}
 use Rattle.rotation.specs.Rotation.{turn_of}
 use Rattle.matrix_turns.specs.Turns.{turned_at, places_turned, turn_lines}
 
@@ -35,10 +34,6 @@ module _ (P : Parameters) (i j : ℕ) (l : List Float) where
   unfolding places_turned
   places_second b = rw (get_or-set_same, lt-length-set)
 
-  pub places_are : (s : Sides) → s ≡ turn_of P (get_or l i nan) (get_or l j nan) → set (set l i s.left) j s.right ≡ places_turned P i j l
-  unfolding places_turned
-  places_are s e = rw e
-
 -- ---- all lines
 module _ (f g : ℕ → ℕ) (P : Parameters) (l : List Float) where
   pub no_lines : l ≡ turn_lines f g P 0 l
@@ -56,6 +51,9 @@ module _ (f g : ℕ → ℕ) (P : Parameters) (l : List Float) where
   unfolding turn_lines
   turned_length zero = refl
   turned_length (suc r) = places_length P (f r) (g r) (turn_lines f g P r l) ∙ turned_length r
+
+-- What the loop over the lines is proved by.
+pub ruleset line_steps = (no_lines, next_line, turned_length)
 
 -- places of different lines below n are apart, and all are below N
 pub record Grid (n N : ℕ) (ix : ℕ → ℕ → ℕ) : Type 0 where

@@ -1,5 +1,5 @@
 -- What the loops over the lines leave is the row turn and the column turn. Assumes nothing.
-use Prim.Native.Nat.{ℕ, ◌+◌, ◌-◌, ◌*◌, ◌<◌}
+use Prim.Native.Nat.{ℕ, ◌+◌, ◌-◌, ◌*◌, ◌<◌, ◌≤◌}
 use mathlib.Core.Path.{◌≡◌, refl, sym, ap, ◌∙◌}
 use mathlib.Core.Bool.{Bool, true, false}
 use mathlib.Core.List.{List}
@@ -13,9 +13,9 @@ use lib.ListN.{length, get_or}
 use lib.Ieee.{Float, nan}
 use Rattle.rotation.specs.declared.Parameters.{Parameters}
 use Rattle.matrix.specs.Matrix.{at, flat}
-use Rattle.matrix_turns.specs.Turns.{turned_at, on_lines, row_turn_all, column_turn_all, turn_lines}
+use Rattle.matrix_turns.specs.Turns.{two_lines, turned_at, on_lines, row_turn_all, column_turn_all, turn_lines}
 use Rattle.matrix.proofs.Flat.{index_one, at_offset, flat_is}
-use Rattle.matrix_turns.proofs.LinePairs.{Two, two_are, on_lines_lem}
+use Rattle.matrix_turns.proofs.LinePairs.{Two, are_two, left_alone, on_lines_lem}
 use Rattle.matrix_turns.proofs.TurnedLines.{Grid, turned_length, lines_done}
 
 -- ---- where the places of a line are
@@ -62,13 +62,14 @@ turned_from_1 : (P : Parameters) (p q i : ℕ) (x y z : Float) → turned_at P (
 unfolding turned_at
 turned_from_1 P p q i x y z = rw (from_1 i p, from_1 i q)
 
-module _ (P : Parameters) (n p q : ℕ) (l : List Float) (long : length l ≡ n * n) (pn : p < n) (qn : q < n) (pq : p ≢ q) where
+module _ (n p q : ℕ) (l : List Float) (long : length l ≡ n * n) (pn : p < n) (qn : q < n) where
   columns_within : (r : ℕ) → r < n → (in_column n r p < length l) × (in_column n r q < length l)
   columns_within r h = rw long ((columns n).inside r p h pn, (columns n).inside r q h qn)
 
   rows_within : (r : ℕ) → r < n → (in_row n r p < length l) × (in_row n r q < length l)
   rows_within r h = rw long ((rows n).inside r p h pn, (rows n).inside r q h qn)
 
+module _ (P : Parameters) (n p q : ℕ) (l : List Float) (long : length l ≡ n * n) (pn : p < n) (qn : q < n) (pq : p ≢ q) where
   rows_from_0 : turn_lines (λ r. in_column n r p) (λ r. in_column n r q) P n l ≡ flat n (row_turn_all P (p + 1) (q + 1) (at n l))
   unfolding row_turn_all
   rows_from_0 =
@@ -84,7 +85,10 @@ module _ (P : Parameters) (n p q : ℕ) (l : List Float) (long : length l ≡ n 
       ∙ rw (turned_from_1 P p q j, at_row n l i j, at_row n l i p, at_row n l i q))
 
 -- ---- the lines p and q, from 1
-module _ (P : Parameters) (n p q : ℕ) (l : List Float) (t : Two n p q (length l)) where
+module _ (n p q : ℕ) (l : List Float) (there : two_lines n p q (length l) ≡ true) where
+  t : Two n p q (length l)
+  t = are_two n p q (length l) there
+
   first_below : p - 1 < n
   first_below = let a = t.first_above in let b = t.first_within in omega arith
 
@@ -100,24 +104,31 @@ module _ (P : Parameters) (n p q : ℕ) (l : List Float) (t : Two n p q (length 
   second_again : q - 1 + 1 ≡ q
   second_again = let a = t.second_above in omega arith
 
-  pub offsets_within : ((p - 1) * n < length l) × ((q - 1) * n < length l)
-  offsets_within = rw t.long (below (p - 1) first_below, below (q - 1) second_below)
+  -- where the lines begin, as rows and as columns
+  pub begin_within : ((p - 1) * n < length l) × ((q - 1) * n < length l) × (1 ≤ p) × (1 ≤ q)
+  begin_within = (rw t.long (below (p - 1) first_below), rw t.long (below (q - 1) second_below), t.first_above, t.second_above)
     where
       below : (i : ℕ) → i < n → i * n < n * n
       below i h = let w = digits_lt {q = i} {m = n} {r = 0} {c = n} h (omega arith) in omega arith
 
   pub in_columns : (r : ℕ) → r < n → (in_column n r (p - 1) < length l) × (in_column n r (q - 1) < length l)
-  in_columns = columns_within P n (p - 1) (q - 1) l t.long first_below second_below offsets_apart
+  in_columns = columns_within n (p - 1) (q - 1) l t.long first_below second_below
 
   pub in_rows : (r : ℕ) → r < n → (in_row n r (p - 1) < length l) × (in_row n r (q - 1) < length l)
-  in_rows = rows_within P n (p - 1) (q - 1) l t.long first_below second_below offsets_apart
+  in_rows = rows_within n (p - 1) (q - 1) l t.long first_below second_below
 
-  pub rows_turned_lem : turn_lines (λ r. in_column n r (p - 1)) (λ r. in_column n r (q - 1)) P n l ≡ on_lines n p q (row_turn_all P p q) l
-  rows_turned_lem =
-      rw (first_again, second_again) at (rows_from_0 P n (p - 1) (q - 1) l t.long first_below second_below offsets_apart)
-      ∙ on_lines_lem n p q (row_turn_all P p q) l (two_are n p q (length l) t)
+  module _ (P : Parameters) {l' : List Float} where
+    pub rows_turned_lem : l' ≡ turn_lines (λ r. in_column n r (p - 1)) (λ r. in_column n r (q - 1)) P n l → l' ≡ on_lines n p q (row_turn_all P p q) l
+    rows_turned_lem e =
+        e ∙ rw (first_again, second_again) at (rows_from_0 P n (p - 1) (q - 1) l t.long first_below second_below offsets_apart)
+        ∙ on_lines_lem n p q (row_turn_all P p q) l there
 
-  pub columns_turned_lem : turn_lines (λ r. in_row n r (p - 1)) (λ r. in_row n r (q - 1)) P n l ≡ on_lines n p q (column_turn_all P p q) l
-  columns_turned_lem =
-      rw (first_again, second_again) at (columns_from_0 P n (p - 1) (q - 1) l t.long first_below second_below offsets_apart)
-      ∙ on_lines_lem n p q (column_turn_all P p q) l (two_are n p q (length l) t)
+    pub columns_turned_lem : l' ≡ turn_lines (λ r. in_row n r (p - 1)) (λ r. in_row n r (q - 1)) P n l → l' ≡ on_lines n p q (column_turn_all P p q) l
+    columns_turned_lem e =
+        e ∙ rw (first_again, second_again) at (columns_from_0 P n (p - 1) (q - 1) l t.long first_below second_below offsets_apart)
+        ∙ on_lines_lem n p q (column_turn_all P p q) l there
+
+-- What a row turn and a column turn are proved by.
+pub ruleset row_turns = (left_alone, begin_within, in_columns, rows_turned_lem)
+
+pub ruleset column_turns = (left_alone, begin_within, in_rows, columns_turned_lem)

@@ -3,14 +3,14 @@
 use Rattle.std.specs.Prelude.{ℕ, zero, suc, Bool, not, cond, ◌||◌, ◌&&◌, List, eqb, length, get_or, set, Float}
 use Rattle.std.specs.Float.{nan}
 use Rattle.rotation.specs.declared.Parameters.{Parameters}
-use Rattle.rotation.specs.declared.Rooted.{Rooted}
+use Rattle.root.specs.declared.Root.{Root}
 use Rattle.rotation.specs.declared.Found.{Found}
 use Rattle.rotation.specs.Rotation.{of_pair, turn_of}
 use Rattle.rotation.specs.Exact.{exact_pair, tangent_found}
 use Rattle.matrix.specs.Matrix.{at, flat, is_place}
 
 -- The tangent of the pair of the lines p and q and whether its root is exact, its parameters, and whether both of its roots are exact.
-abbrev pub tangent_at : ℕ → ℕ → (ℕ → ℕ → Float) → Rooted
+abbrev pub tangent_at : ℕ → ℕ → (ℕ → ℕ → Float) → Root
 tangent_at p q A = tangent_found (A p p) (A q q) (A p q)
 
 abbrev pub parameters_of : ℕ → ℕ → (ℕ → ℕ → Float) → Parameters

@@ -6,7 +6,7 @@ use mathlib.Core.List.{List}
 use native.Mathlib.Omega.{arith}
 use borrow.Author.Tests.{ltb-true, ltb-false, lt-ltb, le-ltb}
 use lib.Dec.{ltb}
-use lib.ListN.{length, get_or, set, get_or-eq_default}
+use lib.ListN.{length, get_or, set, replicate, get_or-eq_default}
 use Rattle.lists.specs.Tabulate.{tabulate}
 use Rattle.lists.proofs.Tabulated.{length_tabulate, get_d_tabulate, tabulate_ext, set_tabulate}
 use Rattle.systolic.specs.Slots.{left, right, Slot, slot}
@@ -43,11 +43,11 @@ column_ext N f g e = tabulate_ext most_processors _ _ (λ k _. go k (ltb k N) re
     go k false z = refl
 
 -- no processor yet, and one more
-pub column_none : (f : ℕ → ℕ) → tabulate most_processors (λ k. 0) ≡ column 0 f
-unfolding column
-column_none f = tabulate_ext most_processors _ _ (λ k _. sym (ap (λ (b : Bool). cond b (f k) 0) (le-ltb k 0 (omega arith))))
+column_none : (f : ℕ → ℕ) → replicate most_processors 0 ≡ column 0 f
+unfolding column tabulate
+column_none f = refl
 
-pub column_next : (xs : List ℕ) (N : ℕ) (f : ℕ → ℕ) (v : ℕ) → xs ≡ column N f → N < most_processors → v ≡ f N → set xs N v ≡ column (N + 1) f
+column_next : (xs : List ℕ) (N : ℕ) (f : ℕ → ℕ) (v : ℕ) → xs ≡ column N f → N < most_processors → v ≡ f N → set xs N v ≡ column (N + 1) f
 unfolding column
 column_next xs N f v z l e =
     rw z (set_tabulate most_processors _ _ N v l (e ∙ sym (ap (λ (b : Bool). cond b (f N) 0) (lt-ltb N (N + 1) (omega arith)))) (λ i _ n. other i n))
@@ -60,11 +60,19 @@ column_next xs N f v z l e =
         go false z = let w : N ≤ i = ltb-false _ _ z in sym (ap (λ (b : Bool). cond b (f i) 0) (le-ltb i (N + 1) (omega arith)))
 
 -- two columns are the registers that they tabulate
-pub registers_are : {ls rs : List ℕ} (N k : ℕ) (L : Slot → ℕ) → k ≡ N → ls ≡ column k (λ i. L (slot i left)) → rs ≡ column k (λ i. L (slot i right))
+registers_are : {ls rs : List ℕ} (N : ℕ) (L : Slot → ℕ) → ls ≡ column N (λ i. L (slot i left)) → rs ≡ column N (λ i. L (slot i right))
     → ◌≡◌ {A = Registers} (record { left = ls; right = rs }) (registers_of N L)
 unfolding registers_of
-registers_are N k L z e f = rw (e, f, z)
+registers_are N L e f = rw (e, f)
 
-pub none_are : ◌≡◌ {A = Registers} (record { left = tabulate most_processors (λ k. 0); right = tabulate most_processors (λ k. 0) }) no_registers
+pub none_are : ◌≡◌ {A = Registers} (record { left = replicate most_processors 0; right = replicate most_processors 0 }) no_registers
 unfolding no_registers
-none_are = registers_are 0 0 (λ u. 0) refl (column_none _) (column_none _)
+none_are = registers_are 0 (λ u. 0) (column_none _) (column_none _)
+
+-- the registers of one processor more
+pub registers_next : (ls rs : List ℕ) (k : ℕ) (L : Slot → ℕ) (x y : ℕ) → ◌≡◌ {A = Registers} (record { left = ls; right = rs }) (registers_of k L)
+    → k < most_processors → x ≡ L (slot k left) → y ≡ L (slot k right)
+    → ◌≡◌ {A = Registers} (record { left = set ls k x; right = set rs k y }) (registers_of (k + 1) L)
+unfolding registers_of
+registers_next ls rs k L x y e l a b =
+    registers_are (k + 1) L (column_next ls k _ x (ap (λ (r : Registers). r.left) e) l a) (column_next rs k _ y (ap (λ (r : Registers). r.right) e) l b)

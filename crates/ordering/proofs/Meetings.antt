@@ -1,7 +1,7 @@
 -- The lists of an order: they repeat, each line stands in one register, and two lines meet once in each sweep. Assumes nothing.
 use Prim.Native.Nat.{ℕ, suc, ◌+◌, ◌-◌, ◌*◌, ◌≤◌, ◌<◌}
 use mathlib.Core.Path.{◌≡◌, refl, sym, ap, ◌∙◌}
-use mathlib.Core.Bool.{Bool, true, false, cond, ◌||◌, ◌&&◌, true≢false}
+use mathlib.Core.Bool.{Bool, true, false, cond, ◌||◌, ◌&&◌}
 use native.Mathlib.Omega.{arith}
 use borrow.Author.Tests.{eqb-true, eq-eqb, ne_eqb, ltb-true, ltb-false}
 use lib.Dec.{eqb, ltb}
@@ -39,20 +39,16 @@ module _ (N : ℕ) (f : ℕ → ℕ) (h : N ≤ most_processors) (p : ℕ) (P : 
       (λ i l. ne_eqb (get_or (column N f) i 0) p (λ z. let w = found i (eq-eqb _ _ z) in none i w.0 w.1))
 
 -- ---- registers of N processors
-abbrev is_left : Side → Bool
-is_left left = true
-is_left right = false
-
 module _ (N : ℕ) (L : Slot → ℕ) (h : N ≤ most_processors) where
   stands_once_at : (p : ℕ) → 1 ≤ p → (r : Side) (k : ℕ) → k < N → L (slot k r) ≡ p → ((t : Side) (i : ℕ) → i < N → L (slot i t) ≡ p → (t ≡ r) × (i ≡ k))
       → stands_in (registers_of N L) p ≡ 1
   unfolding stands_in registers_of
   stands_once_at p P left k l e one =
       let a = column_once N (λ i. L (slot i left)) h p P k l e (λ i o z. (one left i o z).1) in
-      let b = column_never N (λ i. L (slot i right)) h p P (λ i o z. true≢false (sym (ap is_left (one right i o z).0))) in
+      let b = column_never N (λ i. L (slot i right)) h p P (λ i o z. let e = (one right i o z).0 in cc) in
       rw (a, b)
   stands_once_at p P right k l e one =
-      let a = column_never N (λ i. L (slot i left)) h p P (λ i o z. true≢false (ap is_left (one left i o z).0)) in
+      let a = column_never N (λ i. L (slot i left)) h p P (λ i o z. let e = (one left i o z).0 in cc) in
       let b = column_once N (λ i. L (slot i right)) h p P k l e (λ i o z. (one right i o z).1) in
       rw (a, b)
 

@@ -1,12 +1,12 @@
 -- The registers of an order. Assumes nothing.
+use Rattle.std.specs.Prelude.{Ok, Err}
 use Prim.Native.Nat.{ℕ, ◌+◌, ◌-◌, ◌*◌, ◌%◌, ◌≤◌, ◌<◌}
-use mathlib.Core.Path.{◌≡◌, refl, ◌∙◌}
+use mathlib.Core.Path.{◌≡◌, refl, sym}
 use mathlib.Core.Bool.{true, false}
 use native.Mathlib.Omega.{arith}
 use Rattle.refusal.specs.declared.Refusal.TheVariants.{Order}
-use Rattle.refusal.specs.declared.Answer.TheVariants.{Accepted, Refused}
 use Rattle.sizes.specs.Sizes.{is_order, processors_of, sweep_steps, first_line}
-use Rattle.sizes.proofs.Orders.{order_half, sweep_is}
+use Rattle.sizes.proofs.Orders.{order_is, order_half, sweep_is}
 use Rattle.systolic.specs.Slots.{Side, slot, line_at, ordered_line, prior}
 use Rattle.systolic.proofs.Lines.{line_within}
 use Rattle.ordering.specs.declared.Registers.{Registers}
@@ -31,25 +31,18 @@ registers_again n step e = registers_ext (processors_of n) _ _ (λ r k h. again 
         rw p (line_within (ordered_line (first_line n)) (processors_of n - 1) step (slot k r) (below k r h))
 
 -- the two answers
-module _ (n step : ℕ) where
-  pub refused_lists : {r : Registers} → is_order n ≡ false → r ≡ no_registers → Lists n step (record { answer = Refused Order; registers = r })
+module _ (n step : ℕ) {r : Registers} where
+  pub refused_lists : is_order n ≡ false → r ≡ no_registers → Lists n step (record { answer = Err Order; registers = r })
   refused_lists e z = record { answers = rw e; lists = rw e z }
 
-  pub given_lists : {r : Registers} {N first steps : ℕ} → is_order n ≡ true → N ≡ processors_of n → first ≡ first_line n → steps ≡ sweep_steps n
-      → r ≡ registers_of N (line_at (ordered_line first) (N - 1) (step % steps)) → Lists n step (record { answer = Accepted; registers = r })
-  given_lists e a b d z = record { answers = rw e; lists = rw e ((rw (a, b, d) at z) ∙ registers_again n step e) }
+  pub given_lists : is_order n ≡ true → r ≡ registers_at n step → Lists n step (record { answer = Ok tt; registers = r })
+  given_lists e z = record { answers = rw e; lists = rw e z }
 
 -- ---- the registers at first and after each step
 module _ (n : ℕ) where
-  pub none_beside : {r : Registers} (s : Registers) → is_order n ≡ false → r ≡ no_registers → r ≡ or_none n s
-  none_beside s e z = rw e z
-
-  pub order_beside : {r : Registers} (s : Registers) → is_order n ≡ true → r ≡ s → r ≡ or_none n s
-  order_beside s e z = rw e z
-
-  pub first_at : {r : Registers} {N first : ℕ} → N ≡ processors_of n → first ≡ first_line n → r ≡ registers_of N (ordered_line first) → r ≡ registers_at n 0
+  pub first_at : registers_at n 0 ≡ registers_of (processors_of n) (ordered_line (first_line n))
   unfolding registers_at
-  first_at a b z = (rw (a, b) at z) ∙ at_start (processors_of n) (ordered_line (first_line n))
+  first_at = sym (at_start (processors_of n) (ordered_line (first_line n)))
 
   pub after_at : {r : Registers} (s : Registers) {N : ℕ} → N ≡ processors_of n → r ≡ registers_of N (λ u. in_slot s (prior (N - 1) u)) → r ≡ after_step n s
   unfolding after_step
@@ -60,4 +53,7 @@ module _ (n : ℕ) where
 
   pub next_at : (k : ℕ) → is_order n ≡ true → after_step n (registers_at n k) ≡ registers_at n (k + 1)
   unfolding after_step registers_at
-  next_at k e = let h = order_half n e in next_step (processors_of n) (ordered_line (first_line n)) k h.0 h.1 refl
+  next_at k e = let h = order_half n e in next_step (processors_of n) (ordered_line (first_line n)) k h.0 h.1 refl refl
+
+-- What the calls for an order are proved by.
+pub ruleset order_steps = (order_half, order_is, first_at, after_at, registers_again, refused_lists, given_lists)

@@ -2,7 +2,7 @@
 -- nothing.
 use Prim.Native.Nat.{ℕ, zero, suc, ◌-◌, ◌≤◌, ◌<◌}
 use mathlib.Core.Path.{◌≡◌, refl, ap, ◌∙◌}
-use mathlib.Core.Bool.{Bool, true, false, true≢false}
+use mathlib.Core.Bool.{true}
 use native.Mathlib.Nat.{le_refl}
 use native.Mathlib.Omega.{arith}
 use lib.ListN.{get_or}
@@ -57,14 +57,10 @@ module _ (n : ℕ) (order : is_order n ≡ true) (s k : ℕ) (below : k < proces
       (unfold slot in (omega arith)) (last t) e
 
   pub lines_differ : ¬ (line_of n s k left ≡ line_of n s k right)
-  lines_differ e = true≢false (sides (one_slot left right k (le_refl k) e))
+  lines_differ e = sides (one_slot left right k (le_refl k) e)
     where
-      is_left : Side → Bool
-      is_left left = true
-      is_left right = false
-
-      sides : slot k left ≡ slot k right → true ≡ false
-      sides e = unfold slot in (ap (λ (u : Slot). is_left u.side) e)
+      sides : slot k left ≡ slot k right → ⊥
+      sides e = unfold slot in (let s : left ≡ right = ap (λ (u : Slot). u.side) e in cc)
 
   -- no line stands in two processors
   pub lines_apart : (r t : Side) (i : ℕ) → i < k → ¬ (line_of n s i r ≡ line_of n s k t)

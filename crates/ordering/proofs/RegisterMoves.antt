@@ -29,20 +29,20 @@ module _ (n : ℕ) (order : is_order n ≡ true) (list : ℕ → PairList) (list
   begins : (r : Side) (k : ℕ) → k < processors_of n → in_slot (list 0).registers (slot k r) ≡ ordered_line (first_line n) (slot k r)
   unfolding slot
   begins r k h =
-      ap (λ (l : Registers). in_slot l (slot k r)) (the_list 0 ∙ sym (first_at n refl refl refl))
+      ap (λ (l : Registers). in_slot l (slot k r)) (the_list 0 ∙ first_at n)
       ∙ stands (processors_of n) (ordered_line (first_line n)) (order_half n order).1 (slot k r) h
 
   pub left_at_first : (k : ℕ) → 1 ≤ k → k ≤ processors_of n → get_or (list 0).registers.left (k - 1) 0 ≡ 2 * k - 2 + first_line n
   unfolding in_slot standing slot
   left_at_first k a b =
       let e : 2 * (k - 1) + first_line n ≡ 2 * k - 2 + first_line n = omega arith in
-      begins left (k - 1) (omega arith) ∙ sym (start_left (first_line n) (k - 1)) ∙ e
+      begins left (k - 1) (omega arith) ∙ (start_left (first_line n) (k - 1)) ∙ e
 
   pub right_at_first : (k : ℕ) → 1 ≤ k → k ≤ processors_of n → get_or (list 0).registers.right (k - 1) 0 ≡ 2 * k - 1 + first_line n
   unfolding in_slot standing slot
   right_at_first k a b =
       let e : 2 * (k - 1) + 1 + first_line n ≡ 2 * k - 1 + first_line n = omega arith in
-      begins right (k - 1) (omega arith) ∙ sym (start_right (first_line n) (k - 1)) ∙ e
+      begins right (k - 1) (omega arith) ∙ (start_right (first_line n) (k - 1)) ∙ e
 
   pub zeros_above : (s k : ℕ) → processors_of n < k → (get_or (list s).registers.left (k - 1) 0 ≡ 0) × (get_or (list s).registers.right (k - 1) 0 ≡ 0)
   unfolding registers_at registers_of
@@ -78,29 +78,29 @@ module _ (n : ℕ) (order : is_order n ≡ true) (list : ℕ → PairList) (list
 
     pub left_1_stays : get_or next_lefts 0 0 ≡ get_or lefts 0 0
     unfolding standing
-    left_1_stays = comes left 0 some ∙ sym (left_first lefts rights (processors_of n - 1) 0 refl)
+    left_1_stays = comes left 0 some ∙ (left_first lefts rights (processors_of n - 1) 0 refl)
 
     pub right_1_to_left_2 : 2 ≤ processors_of n → get_or next_lefts 1 0 ≡ get_or rights 0 0
     unfolding standing
-    right_1_to_left_2 h = comes left 1 h ∙ sym (left_second lefts rights (processors_of n - 1) 1 refl)
+    right_1_to_left_2 h = comes left 1 h ∙ (left_second lefts rights (processors_of n - 1) 1 refl)
 
     pub left_to_the_next : (k : ℕ) → 2 ≤ k → k < processors_of n → get_or next_lefts (k + 1 - 1) 0 ≡ get_or lefts (k - 1) 0
     unfolding standing
     left_to_the_next k a b =
         let e : k + 1 - 1 ≡ k = omega arith in
-        rw e (comes left k b ∙ sym (left_other lefts rights (processors_of n - 1) k (λ z. omega arith) (λ z. omega arith)))
+        rw e (comes left k b ∙ (left_other lefts rights (processors_of n - 1) k (λ z. omega arith) (λ z. omega arith)))
 
     pub last_left_to_right : 2 ≤ processors_of n → get_or next_rights (processors_of n - 1) 0 ≡ get_or lefts (processors_of n - 1) 0
     unfolding standing
     last_left_to_right h = comes right (processors_of n - 1) (omega arith)
-        ∙ sym (right_last lefts rights (processors_of n - 1) (processors_of n - 1) (λ z. omega arith) refl)
+        ∙ (right_last lefts rights (processors_of n - 1) (processors_of n - 1) (λ z. omega arith) refl)
 
     pub right_to_the_one_before : (k : ℕ) → 2 ≤ k → k ≤ processors_of n → get_or next_rights (k - 1 - 1) 0 ≡ get_or rights (k - 1) 0
     unfolding standing
     right_to_the_one_before k a b =
         let e : k - 1 - 1 + 1 ≡ k - 1 = omega arith in
-        comes right (k - 1 - 1) (omega arith) ∙ sym (right_other lefts rights (processors_of n - 1) (k - 1 - 1) (omega arith)) ∙ rw e
+        comes right (k - 1 - 1) (omega arith) ∙ (right_other lefts rights (processors_of n - 1) (k - 1 - 1) (omega arith)) ∙ rw e
 
     pub nothing_moves_for_2 : n ≡ 2 → get_or next_rights 0 0 ≡ get_or rights 0 0
     unfolding standing
-    nothing_moves_for_2 e = comes right 0 some ∙ sym (right_only lefts rights (processors_of n - 1) 0 (omega arith) (omega arith))
+    nothing_moves_for_2 e = comes right 0 some ∙ (right_only lefts rights (processors_of n - 1) 0 (omega arith) (omega arith))

@@ -77,11 +77,12 @@ module _ (n p q : ℕ) where
       unfold matrix_block pair_block in (sym (placed (matrix_block P (pair_block p q A)) p q pq (column_turn_all P p q (row_turn_all P p q A)) r c))
       ∙ turned_whole P p q A r c
 
-  pub turn_made : (P : Parameters) (l l₁ l₂ l₃ : List Float) (s : Sides) → two_lines n p q (length l) ≡ true
+  pub turn_made : (P : Parameters) (l l₁ l₂ l₃ : List Float) (s : Sides) → two_lines n p q (n * n) ≡ true → length l ≡ n * n
       → s ≡ diagonal_of P (entry_of n l p p) (entry_of n l q q) (entry_of n l p q)
       → l₁ ≡ on_lines n p q (row_turn_all P p q) l → l₂ ≡ on_lines n p q (column_turn_all P p q) l₁
       → l₃ ≡ flat n (with_pair s.left s.right (at n l₂)) → l₃ ≡ flat n (pair_turned P p q (at n l))
-  turn_made P l l₁ l₂ l₃ s two d e₁ e₂ e₃ =
+  turn_made P l l₁ l₂ l₃ s square long d e₁ e₂ e₃ =
+      let two = two_as n p q square long in
       let t = are_two n p q (length l) two in
       let z = pair_entries n p q l two in
       let f₁ : l₁ ≡ flat n (row_turn_all P p q (at n l)) = e₁ ∙ turned_flat n p q (row_turn_all P p q) l two in
@@ -98,15 +99,15 @@ module _ (n p q : ℕ) where
   row_as_column P A r c = refl
 
   -- ---- both lists, turned or still
-  pub turn_held : (P : Parameters) {Q : Parameters} (l l' e e' : List Float) → two_lines n p q (length l) ≡ true → length e ≡ n * n → P ≡ Q
-      → l' ≡ flat n (pair_turned P p q (at n l)) → e' ≡ on_lines n p q (row_turn_all P p q) e → Held n l' e' (state_turned Q p q (state_of n l e))
+  pub turn_held : (P : Parameters) (l l' e e' : List Float) → two_lines n p q (n * n) ≡ true → length l ≡ n * n → length e ≡ n * n
+      → l' ≡ flat n (pair_turned P p q (at n l)) → e' ≡ on_lines n p q (row_turn_all P p q) e → Held n l' e' (state_turned P p q (state_of n l e))
   unfolding state_of
-  turn_held P l l' e e' two long z f g =
-      let t = are_two n p q (length l) two in
-      let two' : two_lines n p q (length e) ≡ true = two_as n p q two (long ∙ sym t.long) in
+  turn_held P l l' e e' square long long' f g =
       record {
-        matrix_held = rw z at f;
-        vectors_held = rw z at (g ∙ turned_flat n p q (row_turn_all P p q) e two' ∙ flat_same n _ _ (λ r c hr hc. row_as_column P (at n e) r c));
+        matrix_held = f;
+        vectors_held =
+            g ∙ turned_flat n p q (row_turn_all P p q) e (two_as n p q square long')
+            ∙ flat_same n _ _ (λ r c hr hc. row_as_column P (at n e) r c);
       }
 
   pub still_turned : (A : ℕ → ℕ → Float) → p ≢ q → (r c : ℕ) → pair_turned Still p q A r c ≡ with_entry q p plus_zero (with_entry p q plus_zero A) r c
@@ -126,11 +127,11 @@ module _ (n p q : ℕ) where
           ≡ column_turn Still p q (row_turn Still p q A) r c
       diagonal_kept r c = entry_kept q q (A q q) _ r c (sym (first_kept q q ∙ turns_kept q q)) ∙ first_kept r c
 
-  pub still_held : {Q : Parameters} (l l' e : List Float) → two_lines n p q (length l) ≡ true → length e ≡ n * n → Still ≡ Q
+  pub still_held : {Q : Parameters} (l l' e : List Float) → two_lines n p q (n * n) ≡ true → length l ≡ n * n → length e ≡ n * n → Still ≡ Q
       → l' ≡ flat n (with_entry q p plus_zero (with_entry p q plus_zero (at n l))) → Held n l' e (state_turned Q p q (state_of n l e))
   unfolding state_of
-  still_held l l' e two long z f =
+  still_held l l' e square long long' z f =
       record {
-        matrix_held = f ∙ flat_same n _ _ (λ r c hr hc. rw (← z) (sym (still_turned (at n l) (are_two n p q (length l) two).apart r c)));
-        vectors_held = flat_again n e long ∙ flat_same n _ _ (λ r c hr hc. rw (← z) (sym (still_all_columns p q (transposed (at n e)) c r)));
+        matrix_held = f ∙ flat_same n _ _ (λ r c hr hc. rw (← z) (sym (still_turned (at n l) (are_two n p q (n * n) square).apart r c)));
+        vectors_held = flat_again n e long' ∙ flat_same n _ _ (λ r c hr hc. rw (← z) (sym (still_all_columns p q (transposed (at n e)) c r)));
       }

@@ -1,24 +1,25 @@
 -- The turns and the rounded pairs as the code counts them, step by step and sweep by sweep. Assumes nothing.
 use Prim.Native.Nat.{ℕ, suc, ◌+◌, ◌*◌, ◌≤◌, ◌<◌}
 use mathlib.Core.Path.{◌≡◌, refl, sym, ap, ◌∙◌}
-use mathlib.Core.Bool.{Bool, true, false, not}
+use mathlib.Core.Bool.{Bool, true, false, not, cond}
 use mathlib.Core.List.{List}
 use native.Mathlib.Nat.{suc-mul, le_refl, mul-le-mul}
 use native.Mathlib.Numerals.{add-one}
 use native.Mathlib.Omega.{arith}
 use borrow.Author.Tests.{eq-eqb, ne_eqb}
 use lib.Dec.{eqb}
+use mir.Val.{bool_byte}
 use lib.ListN.{get_or}
 use lib.Ieee.{Float}
 use Rattle.lists.specs.Bounded.{count, total}
-use Rattle.lists.proofs.Bounded.{count_below, count_most}
+use Rattle.lists.proofs.Bounded.{count_below, count_more, count_most}
 use Rattle.lists.proofs.Sums.{total_most}
 use Rattle.sizes.specs.Sizes.{most_processors, most_sweeps, largest_order, is_order, processors_of, sweep_steps, still_of, steps_of}
 use Rattle.sizes.proofs.Orders.{order_half, steps_few}
 use Rattle.ordering.specs.declared.Registers.{Registers}
 use Rattle.ordering.specs.Pairs.{registers_at}
 use Rattle.rotation.specs.declared.Found.{Found}
-use Rattle.rotation.specs.declared.Rooted.{Rooted}
+use Rattle.root.specs.declared.Root.{Root}
 use Rattle.rotation.specs.declared.Angle.{Angle}
 use Rattle.rotation.specs.Rotation.{of_angle}
 use Rattle.matrix_turns.specs.Turns.{exact_of}
@@ -31,9 +32,17 @@ use Rattle.plain_run.specs.State.{pairs_rotated, after}
 use Rattle.plain_run.specs.Met.{pair_met, turns_in, rounded_in, pairs_by, turns_by, rounded_by}
 use Rattle.plain_run.specs.Quiet.{quiet}
 use Rattle.plain_run.specs.Angles.{no_tangent, no_angle, exact_by}
-use Rattle.plain_run.proofs.HeldStates.{no_steps, after_alike}
 use Rattle.plain_run.proofs.StepParameters.{Angled}
 use Rattle.plain_run.proofs.CountedPairs.{pairs_same, pairs_more, after_sweeps, rounded_repeat, counted_quiet, met_as, turns_alike, rounded_alike}
+use Rattle.plain_run.proofs.HeldStates.{no_steps, after_alike}
+
+-- ---- one more of a count, by a test as a number
+pub flag_counted : (f : ℕ → Bool) (k : ℕ) {t : ℕ} {b : Bool} → t ≡ count f k → b ≡ f k → t + bool_byte b ≡ count f (k + 1)
+flag_counted f k {b} e g = count_more f k e (as_number b ∙ ap (λ (b : Bool). cond b 1 0) g)
+  where
+    as_number : (b : Bool) → bool_byte b ≡ cond b 1 0
+    as_number true = refl
+    as_number false = refl
 
 -- ---- the first steps
 module _ (n : ℕ) (test : ℕ → ℕ → Bool) where
@@ -57,7 +66,7 @@ module _ (n : ℕ) (test : ℕ → ℕ → Bool) where
       omega arith
 
 -- ---- step k, by what is found of its pairs in lists that hold the state before it
-module _ (n : ℕ) (order : is_order n ≡ true) (R : Registers) (k : ℕ) (X : State) (angles : List Angle) (tangents : List Rooted) (l e : List Float)
+module _ (n : ℕ) (order : is_order n ≡ true) (R : Registers) (k : ℕ) (X : State) (angles : List Angle) (tangents : List Root) (l e : List Float)
     (stand : R ≡ registers_at n k) (held : Held n l e (after n k X)) (angled : Angled n angles R.left R.right (state_of n l e) (processors_of n))
     (exact : (i : ℕ) → still_of n ≤ i → i < processors_of n → exact_by (get_or tangents i no_tangent)
     ≡ exact_of (get_or R.left i 0) (get_or R.right i 0) (pairs_rotated n R.left R.right i (state_of n l e)).matrix) where

@@ -1,13 +1,12 @@
-pub mod CopiedLists
 pub mod ProcessorPairs
 pub mod HeldStates
+pub mod HeldMatrices
 pub mod StillPairs
 pub mod QuietSweeps
 pub mod SweepsMade
 pub mod CountedPairs
 pub mod CountedSteps
 pub mod StepParameters
-pub mod RunEnd
 pub mod MirrorEntries
 pub mod SpoiledRuns
 pub mod FiniteLines

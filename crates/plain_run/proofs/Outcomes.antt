@@ -1,6 +1,6 @@
 -- From the parts of a run to its outcome. Assumes nothing.
 use Prim.Native.Nat.{ℕ, ◌+◌, ◌-◌, ◌*◌, ◌/◌, ◌%◌, ◌<◌}
-use mathlib.Core.Path.{◌≡◌, sym, ap, ◌∙◌}
+use mathlib.Core.Path.{◌≡◌, refl, sym, ap, ◌∙◌}
 use mathlib.Core.Bool.{true, false, not, ◌||◌}
 use mathlib.Core.List.{List}
 use native.Mathlib.Omega.{arith}
@@ -27,7 +27,7 @@ use Rattle.plain_run.specs.State.{after, not_finite_from, spoiled}
 use Rattle.runs.specs.Outcome.{before_run, Outcome, outcome, Report, report, answering}
 use Rattle.plain_run.specs.Run.{some_not_finite, finish_of, ran_of, run_of}
 use Rattle.plain_run.specs.Quiet.{sweeps_made, report_of, answered_run_of}
-use Rattle.runs.proofs.Verdicts.{Begins}
+use Rattle.runs.proofs.Verdicts.{Begins, begins}
 use Rattle.plain_run.proofs.HeldStates.{after_alike}
 use Rattle.plain_run.proofs.FiniteLines.{finite_state, state_finite}
 use Rattle.plain_run.proofs.VanishingLine.{spoiled_at_end}
@@ -82,30 +82,30 @@ module _ (n : ℕ) where
 -- ---- the outcome
 module _ (n sweeps : ℕ) (l : List Float) (fitting : (k : ℕ) → T (fits binary64 (get_or l k nan))) (lr lv : ℕ) (b : Begins n sweeps l lr lv) where
   -- m sweeps are the start, the steps, the eigenvectors as columns, and the end
-  ran_of_lem : (m : ℕ) (l₀ e₀ l₁ e₁ e₂ : List Float) → l₀ ≡ l → e₀ ≡ flat n identity → Held n l₁ e₁ (after n (steps_of n m) (state_of n l₀ e₀))
-      → e₂ ≡ transposed_in n e₁ → finish_of n l₁ e₂ ≡ ran_of n m l
+  ran_of_lem : (m : ℕ) (l₀ e₀ l₁ e₁ : List Float) → l₀ ≡ l → e₀ ≡ flat n identity → Held n l₁ e₁ (after n (steps_of n m) (state_of n l₀ e₀))
+      → finish_of n l₁ (transposed_in n e₁) ≡ ran_of n m l
   unfolding finish_of ran_of
-  ran_of_lem m l₀ e₀ l₁ e₁ e₂ z y h t =
+  ran_of_lem m l₀ e₀ l₁ e₁ z y h =
       let K = steps_of n m in
       let X = start_of n l in
       let held : Held n l₁ e₁ (after n K X) = held_alike n l₁ e₁ _ _ (rw z at h) (after_alike n b.order K _ _ (start_alike n l e₀ y)) in
-      let columns : e₂ ≡ flat n (after n K X).vectors = transposed_again n _ held.vectors_held t in
-      let s : (some_not_finite l₁ || some_not_finite e₂) ≡ spoiled n K X =
-      lists_finite n l₁ e₂ _ held.matrix_held columns
+      let columns : transposed_in n e₁ ≡ flat n (after n K X).vectors = transposed_again n _ held.vectors_held refl in
+      let s : (some_not_finite l₁ || some_not_finite (transposed_in n e₁)) ≡ spoiled n K X =
+      lists_finite n l₁ _ _ held.matrix_held columns
       ∙ sym (spoiled_at_end n b.order X (start_mirrored n l fitting b.entries) (start_vanishes n l) (start_finite n l fitting b.entries) K) in
       rw (← s, ← held.matrix_held, ← columns)
 
   -- the sweeps made leave what all sweeps leave
-  pub run_made : {o : Outcome Report} (made rounded : ℕ) (l₀ e₀ l₁ e₁ e₂ : List Float) → l₀ ≡ l → e₀ ≡ flat n identity
-      → (report made rounded ≡ report_of n sweeps (state_of n l₀ e₀)) × Held n l₁ e₁ (after n (steps_of n made) (state_of n l₀ e₀))
-      → e₂ ≡ transposed_in n e₁ → o ≡ answering (report made rounded) (finish_of n l₁ e₂)
-      → o ≡ answering (report_of n sweeps (start_of n l)) (ran_of n sweeps l)
-  run_made made rounded l₀ e₀ l₁ e₁ e₂ z y h t f =
-      let told : report made rounded ≡ report_of n sweeps (start_of n l) =
-      h.0 ∙ ap (λ (k : List Float). report_of n sweeps (state_of n k e₀)) z ∙ report_alike n b.order _ _ (start_alike n l e₀ y) sweeps in
-      let m : made ≡ sweeps_made n sweeps (start_of n l) = ap (λ (r : Report). r.sweeps) told ∙ report_sweeps n sweeps (start_of n l) in
-      f ∙ ap (answering (report made rounded)) (ran_of_lem made l₀ e₀ l₁ e₁ e₂ z y h.1 t ∙ ap (λ (k : ℕ). ran_of n k l) m ∙ sym (ran_made n sweeps l b.order))
-      ∙ ap (λ (r : Report). answering r (ran_of n sweeps l)) told
+  all_made : {o : Outcome Unit} (made rounded : ℕ) (l₀ e₀ l₁ e₁ : List Float) → l₀ ≡ l → e₀ ≡ flat n identity
+      → report made rounded ≡ report_of n sweeps (state_of n l₀ e₀) → Held n l₁ e₁ (after n (steps_of n made) (state_of n l₀ e₀))
+      → o ≡ finish_of n l₁ (transposed_in n e₁)
+      → answering (report made rounded) o ≡ answering (report_of n sweeps (start_of n l)) (ran_of n sweeps l)
+  all_made made rounded l₀ e₀ l₁ e₁ z y told h f =
+      let all : report made rounded ≡ report_of n sweeps (start_of n l) =
+      told ∙ ap (λ (k : List Float). report_of n sweeps (state_of n k e₀)) z ∙ report_alike n b.order _ _ (start_alike n l e₀ y) sweeps in
+      let m : made ≡ sweeps_made n sweeps (start_of n l) = ap (λ (r : Report). r.sweeps) all ∙ report_sweeps n sweeps (start_of n l) in
+      ap (answering (report made rounded)) (f ∙ ran_of_lem made l₀ e₀ l₁ e₁ z y h ∙ ap (λ (k : ℕ). ran_of n k l) m ∙ sym (ran_made n sweeps l b.order))
+      ∙ ap (λ (r : Report). answering r (ran_of n sweeps l)) all
 
 -- no sweeps: the matrix as lent, and the identity
 pub no_sweeps : (n : ℕ) (l : List Float) → length l ≡ n * n → ran_of n 0 l ≡ outcome (given tt) l (flat n identity)
@@ -121,7 +121,10 @@ module _ (n sweeps : ℕ) (l r v : List Float) where
   unfolding answered_run_of run_of
   run_refused e = rw (← e)
 
-  pub run_accepted_as : {o : Outcome Report} → given tt ≡ before_run n sweeps l (length r) (length v)
-      → o ≡ answering (report_of n sweeps (start_of n l)) (ran_of n sweeps l) → o ≡ answered_run_of n sweeps l r v
+  pub run_made : ((k : ℕ) → T (fits binary64 (get_or l k nan))) → given tt ≡ before_run n sweeps l (length r) (length v) → {o : Outcome Unit}
+      (made rounded : ℕ) (l₀ e₀ l₁ e₁ : List Float) → l₀ ≡ l → e₀ ≡ flat n identity → report made rounded ≡ report_of n sweeps (state_of n l₀ e₀)
+      → Held n l₁ e₁ (after n (steps_of n made) (state_of n l₀ e₀)) → o ≡ finish_of n l₁ (transposed_in n e₁)
+      → answering (report made rounded) o ≡ answered_run_of n sweeps l r v
   unfolding answered_run_of run_of
-  run_accepted_as e f = rw (← e) f
+  run_made fitting e made rounded l₀ e₀ l₁ e₁ z y told h f =
+      rw (← e) (all_made n sweeps l fitting _ _ (begins n sweeps l _ _ (sym e)) made rounded l₀ e₀ l₁ e₁ z y told h f)

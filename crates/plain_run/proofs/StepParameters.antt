@@ -14,7 +14,7 @@ use Rattle.ordering.specs.Registers.{standing}
 use Rattle.sizes.specs.Sizes.{is_order, processors_of, still_of}
 use Rattle.ordering.specs.Pairs.{registers_at}
 use Rattle.ordering.proofs.RegisterLines.{stands, lines_apart}
-use Rattle.rotation.specs.declared.Rooted.{Rooted}
+use Rattle.root.specs.declared.Root.{Root}
 use Rattle.rotation.specs.declared.Angle.{Angle}
 use Rattle.rotation.specs.Rotation.{angle_of, of_angle, of_tangent, of_pair}
 use Rattle.rotation.specs.Exact.{exact_pair}
@@ -76,7 +76,7 @@ module _ (n : ℕ) (ls rs : List ℕ) (N : ℕ) (paired : Paired n ls rs N) (apa
       stays r c = entry_stays (state_of n l e) k k (le_refl k) below r c
 
 -- ---- the step s, by the tangents of its pairs
-module _ (n : ℕ) (order : is_order n ≡ true) (s : ℕ) (R : Registers) (stand : R ≡ registers_at n s) (tangents : List Rooted) (l e : List Float)
+module _ (n : ℕ) (order : is_order n ≡ true) (s : ℕ) (R : Registers) (stand : R ≡ registers_at n s) (tangents : List Root) (l e : List Float)
     (long : length l ≡ n * n)
     (f : (k : ℕ) → still_of n ≤ k → k < processors_of n
     → get_or tangents k no_tangent ≡ tangent_at (get_or R.left k 0) (get_or R.right k 0) (entry_of n l)) where
@@ -91,7 +91,7 @@ module _ (n : ℕ) (order : is_order n ≡ true) (s : ℕ) (R : Registers) (stan
       → Angled n angles R.left R.right (state_of n l e) (processors_of n)
   unfolding of_tangent
   step_angles angles g k w below =
-      ap of_angle (g k w below) ∙ by_tangent _ _ _ (ap (λ (t : Rooted). t.value) (f k w below)) ∙ before of_pair k w below
+      ap of_angle (g k w below) ∙ by_tangent _ _ _ (ap (λ (t : Root). t.value) (f k w below)) ∙ before of_pair k w below
 
   pub step_exact : (k : ℕ) → still_of n ≤ k → k < processors_of n
       → exact_by (get_or tangents k no_tangent)

@@ -3,3 +3,4 @@ pub mod Run
 pub mod Met
 pub mod Quiet
 pub mod Angles
+pub mod Matrices

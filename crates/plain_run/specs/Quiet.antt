@@ -1,15 +1,15 @@
 -- Document 02 (vi) and (vii): quiet sweeps, the sweeps that a run makes, and what it reports. Sweeps count from 1, steps and processors from 0. Definitions
 -- only.
-use Rattle.std.specs.Prelude.{ℕ, zero, suc, ◌+◌, ◌-◌, ◌*◌, Bool, not, cond, List, Float}
-use Rattle.refusal.specs.Answers.{Answered, given, refused_by}
+use Rattle.std.specs.Prelude.{ℕ, zero, suc, ◌+◌, ◌-◌, ◌*◌, Bool, not, cond, List, Result, Float}
+use Rattle.refusal.specs.declared.Refusal.{Refusal}
+use Rattle.refusal.specs.Answers.{Answered, answered_as}
 use Rattle.lists.specs.Bounded.{any}
 use Rattle.sizes.specs.Sizes.{processors_of, sweep_steps, steps_of}
 use Rattle.runs.specs.State.{State, start_of}
 use Rattle.runs.specs.Outcome.{Outcome, Report, report, answering}
 use Rattle.plain_run.specs.Run.{run_of}
 use Rattle.plain_run.specs.Met.{turns_in, rounded_by}
-use Rattle.plain_run.specs.declared.Ran.{Ran}
-use Rattle.plain_run.specs.declared.Ran.TheVariants.{Made, Refused}
+use Rattle.plain_run.specs.declared.Report as code
 
 -- Every pair of sweep m is still.
 unfoldable pub quiet : ℕ → ℕ → State → Bool
@@ -24,9 +24,8 @@ sweeps_made n (suc m) X = cond (any m (λ j. quiet n (suc j) X)) (sweeps_made n 
 unfoldable pub report_of : ℕ → ℕ → State → Report
 report_of n S X = let made = sweeps_made n S X in report made (rounded_by n (steps_of n made) X)
 
-abbrev pub ran_answered : Ran → Answered Report
-ran_answered (Made sweeps rounded) = given (report sweeps rounded)
-ran_answered (Refused r) = refused_by r
+abbrev pub ran_answered : Result code.Report Refusal → Answered Report
+ran_answered = answered_as (λ x. report x.sweeps x.rounded)
 
 -- What a run leaves, with its report in the answer.
 unfoldable pub answered_run_of : ℕ → ℕ → List Float → List Float → List Float → Outcome Report

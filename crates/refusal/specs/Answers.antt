@@ -1,8 +1,6 @@
 -- What a call answers, and the first refusal of a table. Definitions only.
-use Rattle.std.specs.Prelude.{ℕ, zero, suc, Bool, cond, List, [], ◌∷◌}
+use Rattle.std.specs.Prelude.{ℕ, zero, suc, Bool, cond, List, [], ◌∷◌, Result, Ok, Err}
 use Rattle.refusal.specs.declared.Refusal.{Refusal}
-use Rattle.refusal.specs.declared.Answer.{Answer}
-use Rattle.refusal.specs.declared.Answer.TheVariants.{Accepted, Refused}
 use Rattle.refusal.specs.Refusal.{number_of, values_of}
 
 -- A value, or the number of a refusal and the values beside it.
@@ -13,10 +11,14 @@ pub data Answered (A : Type 0) : Type 0 where
 abbrev pub refused_by : {A : Type 0} → Refusal → Answered A
 refused_by r = refused (number_of r) (values_of r)
 
+-- What a call answers whose value stands for f of it.
+abbrev pub answered_as : {A B : Type 0} → (A → B) → Result A Refusal → Answered B
+answered_as f (Ok x) = given (f x)
+answered_as f (Err r) = refused_by r
+
 -- An answer that gives no value of its own gives the unit value.
-abbrev pub answered : Answer → Answered Unit
-answered Accepted = given tt
-answered (Refused r) = refused_by r
+abbrev pub answered : Result Unit Refusal → Answered Unit
+answered = answered_as (λ x. x)
 
 -- ---- from one answer to another
 -- The same with the value x.

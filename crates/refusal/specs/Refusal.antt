@@ -1,9 +1,7 @@
 -- The refusals in the numbers of document 01, "Refused, by place", and of document 02. Definitions only.
-use Rattle.std.specs.Prelude.{ℕ, List, [], ◌∷◌}
+use Rattle.std.specs.Prelude.{ℕ, List, [], ◌∷◌, Option, Some, None}
 use Rattle.refusal.specs.declared.Refusal.{Refusal}
 use Rattle.refusal.specs.declared.Refusal.TheVariants.{Order, Sweeps, Length, Code, NotFinite, NotMirrored, TooShort, Spoiled, NoRoot, SharedCode}
-use Rattle.refusal.specs.declared.Place.{Place}
-use Rattle.refusal.specs.declared.Place.TheVariants.{Nowhere, At}
 
 -- The number of each refusal, and the values beside it: 1 to 9 by document 01's table, 10 by document 02 (viii).
 abbrev pub number_and_values : Refusal → ℕ × List ℕ
@@ -25,6 +23,6 @@ abbrev pub values_of : Refusal → List ℕ
 values_of r = (number_and_values r).1
 
 -- The values of a place: a row and a column, or none.
-abbrev pub place_values : Place → List ℕ
-place_values Nowhere = []
-place_values (At row column) = row ∷ column ∷ []
+abbrev pub place_values : Option (ℕ × ℕ) → List ℕ
+place_values None = []
+place_values (Some place) = place.0 ∷ place.1 ∷ []

@@ -3,8 +3,8 @@
 ghost use Rattle.std.specs.Prelude.{◌≡◌};
 ghost use Rattle.refusal.specs.Refusal.{number_of, values_of, place_values};
 
-// 5 and 6 carry the row and the column, from 1, of the entry that is refused.
-#[derive(Clone, Copy)]
+// What a call is refused by. 5 and 6 carry the row and the column, from 1, of the entry that is refused.
+#[derive(Clone, Copy, Debug, PartialEq, Eq)]
 pub enum Refusal {
     Order,
     Sweeps,
@@ -18,52 +18,35 @@ pub enum Refusal {
     SharedCode,
 }
 
-// What a call answers that gives no value of its own.
-#[derive(Clone, Copy)]
-pub enum Answer {
-    Accepted,
-    Refused(Refusal),
-}
-
-// The row and the column beside a refusal, if it has them.
-#[derive(Clone, Copy)]
-pub enum Place {
-    Nowhere,
-    At(usize, usize),
-}
-
 // The number that documents 01 and 02 give the refusal.
-pub fn number(refusal: Refusal) -> u8
-    ensures { result ≡ number_of refusal }
-{
-    match refusal {
-        Refusal::Order => 1,
-        Refusal::Sweeps => 2,
-        Refusal::Length => 3,
-        Refusal::Code => 4,
-        Refusal::NotFinite(_, _) => 5,
-        Refusal::NotMirrored(_, _) => 6,
-        Refusal::TooShort => 7,
-        Refusal::Spoiled => 8,
-        Refusal::NoRoot => 9,
-        Refusal::SharedCode => 10,
+impl From<Refusal> for u8 {
+    ghost from_gives = { λ refusal number. number ≡ number_of refusal };
+
+    fn from(refusal: Refusal) -> u8 {
+        match refusal {
+            Refusal::Order => 1,
+            Refusal::Sweeps => 2,
+            Refusal::Length => 3,
+            Refusal::Code => 4,
+            Refusal::NotFinite(_, _) => 5,
+            Refusal::NotMirrored(_, _) => 6,
+            Refusal::TooShort => 7,
+            Refusal::Spoiled => 8,
+            Refusal::NoRoot => 9,
+            Refusal::SharedCode => 10,
+        }
     }
 }
 
-// The place that the refusal carries.
-pub fn place_of(refusal: Refusal) -> Place
-    ensures { place_values result ≡ values_of refusal }
-{
-    match refusal {
-        Refusal::Order => Place::Nowhere,
-        Refusal::Sweeps => Place::Nowhere,
-        Refusal::Length => Place::Nowhere,
-        Refusal::Code => Place::Nowhere,
-        Refusal::NotFinite(row, column) => Place::At(row, column),
-        Refusal::NotMirrored(row, column) => Place::At(row, column),
-        Refusal::TooShort => Place::Nowhere,
-        Refusal::Spoiled => Place::Nowhere,
-        Refusal::NoRoot => Place::Nowhere,
-        Refusal::SharedCode => Place::Nowhere,
+impl Refusal {
+    // The row and the column that the refusal carries.
+    pub fn place(self) -> Option<(usize, usize)>
+        ensures { place_values result ≡ values_of self }
+    {
+        match self {
+            Refusal::NotFinite(row, column) => Some((row, column)),
+            Refusal::NotMirrored(row, column) => Some((row, column)),
+            _ => None,
+        }
     }
 }

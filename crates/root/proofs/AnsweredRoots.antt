@@ -42,7 +42,7 @@ root_other x h k = given_other x h (sym (below_zero x) ∙ k)
 
 -- ---- of a finite value above zero, one that is not below zero
 pub root_above : (x : Float) → T (finite x) → T (fits binary64 x) → lt plus_zero x ≡ true → (r : Float) × RootOf x r
-root_above x f t h = root_of_lem x (finite_positive x t h f) t
+root_above x f t h = root_of_lem x (finite_positive x h f) t
 
 pub root_not_below : (x r : Float) → RootOf x r → lt r plus_zero ≡ false
 root_not_below x r h = unsigned_not_below r h.root.unsigned

@@ -10,13 +10,11 @@ pub record At (k left rest root i : ℕ) : Type 0 where
   pub left_lt : left < 2 ^ 64
   pub rest_le : rest ≤ 2 * root
   pub root_lt : root < 2 ^ i
+  pub root_max : root < 2 ^ 54
   pub value : 4 ^ i * k * 1024 ≡ (root * root + rest) * 2 ^ 64 + left
 
-pub root_bound : {k left rest root i : ℕ} → At k left rest root i → root < 2 ^ 54
-root_bound a = let p = pow_mono a.turn in omega arith
-
 pub start : (k : ℕ) → k < 2 ^ 54 → At k (k * 1024) 0 0 0
-start k h = record { turn = omega arith; left_lt = omega arith; rest_le = omega arith; root_lt = omega arith; value = omega (arith, one-mul k) }
+start k h = record { turn = omega arith; left_lt = omega arith; rest_le = omega arith; root_lt = omega arith; root_max = omega arith; value = omega (arith, one-mul k) }
 
 two_next : (i : ℕ) → 2 ^ (i + 1) ≡ 2 * 2 ^ i
 two_next i = ap (λ (x : ℕ). 2 ^ x) (add-one i) ∙ pow-succ' 2 i
@@ -32,7 +30,9 @@ module _ (k left rest root i : ℕ) (a : At k left rest root i) (h : i < 54) whe
       let e = two_next i in
       let f = four_next k i in
       let s : root' * root' ≡ 4 * (root * root) + 4 * root + 1 = ap (λ (x : ℕ). x * x) (q ∙ ap (λ (x : ℕ). x + 1) (mul_comm root 2)) ∙ twice_next_square root in
-      record { turn = omega arith; left_lt = omega arith; rest_le = omega arith; root_lt = omega arith; value = omega arith }
+      let j : i + 1 ≤ 54 = omega arith in
+      let m = pow_mono j in
+      record { turn = omega arith; left_lt = omega arith; rest_le = omega arith; root_lt = omega arith; root_max = omega arith; value = omega arith }
 
   -- a digit 0
   pub passed : (rest' root' : ℕ) → rest * 4 + left / 2 ^ 62 < root * 4 + 1 → rest' ≡ rest * 4 + left / 2 ^ 62 → root' ≡ root * 2
@@ -41,7 +41,9 @@ module _ (k left rest root i : ℕ) (a : At k left rest root i) (h : i < 54) whe
       let e = two_next i in
       let f = four_next k i in
       let s : root' * root' ≡ 4 * (root * root) = ap (λ (x : ℕ). x * x) (q ∙ mul_comm root 2) ∙ twice_square root in
-      record { turn = omega arith; left_lt = omega arith; rest_le = omega arith; root_lt = omega arith; value = omega arith }
+      let j : i + 1 ≤ 54 = omega arith in
+      let m = pow_mono j in
+      record { turn = omega arith; left_lt = omega arith; rest_le = omega arith; root_lt = omega arith; root_max = omega arith; value = omega arith }
 
 pub done : {k left rest root i : ℕ} → At k left rest root i → 54 ≤ i → Floor (k * 2 ^ 54) root
 done {k} {left} {rest} {root} {i} a h =

@@ -3,12 +3,12 @@ use Rattle.std.proofs.Common.{◌≡◌, ℕ, zero, suc, ◌+◌, ◌*◌, ◌/�
 use Rattle.std.proofs.Common.{arith, eq-eqb, ne_eqb, eqb-true}
 use native.Mathlib.Nat.{mul-mul-mul_comm, pow-succ'}
 use borrow.Author.Tests.{eqb-false}
-use lib.Ieee.{Float, odd}
+use lib.Ieee.{odd}
 use Rattle.float64.specs.Units.{units_of}
 use Rattle.float64.proofs.Patterns.{odd_units}
-use Rattle.root.specs.Sqrt.{nearest_root, root_units}
-use Rattle.root.specs.Exact.{exact_units}
-use Rattle.root.specs.declared.Root.TheVariants.{Of}
+use Rattle.root.specs.Sqrt.{nearest_root}
+use Rattle.root.specs.Exact.{exact_units, root_of_units}
+use Rattle.root.specs.declared.Root.{Root}
 use Rattle.root.proofs.Squares.{twice_square, twice_next_square}
 use Rattle.root.proofs.Floors.{found}
 use Rattle.root.proofs.Scales.{k_of, digits_of, root_units_at}
@@ -78,10 +78,7 @@ exact_units_at n m z e lo hi p =
     same_test (q * q) (k_of m z * 2 ^ 52) (q * 2 ^ k * (q * 2 ^ k)) (n * 2 ^ 1074) d.0 d.1
     ∙ ap (λ (x : ℕ). eqb (x * x) (n * 2 ^ 1074)) (sym (odd_units q k) ∙ ap units_of (root_units_at n m z e lo hi p))
 
-pub of_both : {a b : Float} {t u : Bool} → a ≡ b → t ≡ u → Of a t ≡ Of b u
-of_both f g = cc
-
 -- the root of n units with its exactness, from its digits
-pub root_at : (n m z : ℕ) → n * 2 ^ 53 ≡ m * 2 ^ z → 2 ^ 52 ≤ m → m < 2 ^ 53 → 1 ≤ z
-    → Of (odd 53 false (digits_of m z) (484 + (z + 1) / 2) 1074) (eqb (digits_of m z * digits_of m z) (k_of m z * 2 ^ 52)) ≡ Of (root_units n) (exact_units n)
-root_at n m z e lo hi p = of_both (root_units_at n m z e lo hi p) (exact_units_at n m z e lo hi p)
+pub root_at : (n m z : ℕ) → n * 2 ^ 53 ≡ m * 2 ^ z → 2 ^ 52 ≤ m → m < 2 ^ 53 → 1 ≤ z → (r : Root)
+    → r.value ≡ odd 53 false (digits_of m z) (484 + (z + 1) / 2) 1074 → r.exact ≡ eqb (digits_of m z * digits_of m z) (k_of m z * 2 ^ 52) → r ≡ root_of_units n
+root_at n m z e lo hi p r f g = rw (sym (root_units_at n m z e lo hi p), sym (exact_units_at n m z e lo hi p), sym f, sym g)

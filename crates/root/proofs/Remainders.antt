@@ -1,16 +1,18 @@
 -- Which of q - 1, q and q + 1 is the whole number nearest to the root of w, by what is left of w. Assumes nothing.
 use Rattle.std.proofs.Common.{◌≡◌, ℕ, ◌+◌, ◌-◌, ◌*◌, ◌%◌, ◌^◌, ◌<◌, ◌≤◌, Bool, true, false, not, T, ltb, subst, arith, ltb→lt, nltb→le}
+use Rattle.std.specs.Bool.{then_some}
+use Rattle.std.specs.Option.{IfSome}
 use mir.Val.{bool_byte}
 use Rattle.root.proofs.Squares.{next_square, previous_square}
 use Rattle.root.proofs.Floors.{Nearest}
 
 -- a difference that did not wrap
-pub unwrapped : (r b a : ℕ) → (r + b) % 2 ^ 64 ≡ a → r + b < 2 ^ 64 → r + b ≡ a
-unwrapped r b a e h = omega arith
+pub unwrapped : (a b : ℕ) → a < 2 ^ 64 → b ≤ 2 ^ 64 → (a + (2 ^ 64 - b)) % 2 ^ 64 + b < 2 ^ 64 → (a + (2 ^ 64 - b)) % 2 ^ 64 + b ≡ a
+unwrapped a b h k l = omega arith
 
-pub bit_le : (b : Bool) → bool_byte b ≤ 1
-bit_le true = omega arith
-bit_le false = omega arith
+pub some_if : (P : ℕ → Type 0) (b : Bool) (x : ℕ) → (T b → P x) → IfSome (then_some b x) P
+some_if P true x f = f tt
+some_if P false x f = tt
 
 module _ (w q left : ℕ) (e : left + q * q ≡ w + 3 * q) where
   above : q * 4 < left → left ≤ q * 6 + 2 → Nearest w (q + 1)

@@ -4,6 +4,8 @@ use Rattle.std.proofs.Common.{mul-lt-mul_of_pos_right, mul-div_cancel, arith, po
 use native.Mathlib.Nat.{pow-succ'}
 use lib.Ieee.{odd, size}
 use lib.Ieee.Digits.{size-lt, size-le}
+use Rattle.std.specs.Int.Count.{count_leading_zeros}
+use Rattle.std.proofs.lemmas.Nat.{leading_top}
 use Rattle.float64.proofs.Grid.{power_lt_back}
 use Rattle.root.specs.Sqrt.{nearest_root, root_units}
 use Rattle.root.proofs.Squares.{twice_square}
@@ -82,31 +84,39 @@ root_units_at n m z e lo hi p =
     ∙ ap (λ (x : ℕ). odd 53 false (nearest_root x) (484 + (z + 1) / 2) 1074)
     (ap (λ (x : ℕ). x / 4 ^ ((z + 1) / 2)) (scaled_by_four n m z e) ∙ mul-div_cancel (k_of m z * 2 ^ 52) (four_above ((z + 1) / 2))))
 
--- ---- bringing the digits of n to the top, one place a turn
-pub record Raising (n m z : ℕ) : Type 0 where
-  pub value : n * 2 ^ 53 ≡ m * 2 ^ z
-  pub z_ge : 1 ≤ z
-  pub z_le : z ≤ 53
+-- ---- bringing the digits of n to the top, by s places
+pub record Raised (n m s : ℕ) : Type 0 where
+  pub value : n * 2 ^ 53 ≡ m * 2 ^ (53 - s)
+  pub m_ge : 2 ^ 52 ≤ m
   pub m_lt : m < 2 ^ 53
+  pub s_ge : 1 ≤ s
+  pub s_le : s ≤ 52
 
-pub raising_start : (n : ℕ) → n < 2 ^ 52 → Raising n n 53
-raising_start n h = record { value = refl; z_ge = omega arith; z_le = omega arith; m_lt = omega arith }
+whole : (a b c : ℕ) → a + b ≡ c → 2 ^ a * 2 ^ b ≡ 2 ^ c
+whole a b c e = sym (pow-add 2 a b) ∙ ap (λ (x : ℕ). 2 ^ x) e
 
-pub raising_more : (n m z : ℕ) → 0 < n → m < 2 ^ 52 → Raising n m z → 2 ≤ z
-raising_more n m z h l r = unless (λ e. let v : n * 2 ^ 53 ≡ m * 2 = r.value ∙ ap (λ (x : ℕ). m * 2 ^ x) e in omega arith)
-  where
-    unless : (z ≡ 1 → ⊥) → 2 ≤ z
-    unless f = omega arith
-
-pub raising_next : (n m z : ℕ) → 0 < n → m < 2 ^ 52 → Raising n m z → Raising n (m * 2) (z - 1)
-raising_next n m z h l r =
-    let g = raising_more n m z h l r in
+raised_by : (n j s : ℕ) → j + s ≡ 52 → 1 ≤ s → 2 ^ j ≤ n → n < 2 ^ suc j → Raised n (n * 2 ^ s % 2 ^ 64) s
+raised_by n j s e g lo hi =
+    let a : 2 ^ j * 2 ^ s ≤ n * 2 ^ s = mul-le-mul_right (2 ^ s) lo in
+    let b : n * 2 ^ s < 2 ^ suc j * 2 ^ s = mul-lt-mul_of_pos_right hi (pow_pos s) in
+    let low = whole j s 52 e in
+    let high = whole (suc j) s 53 (omega arith) in
+    let m : n * 2 ^ s ≡ n * 2 ^ s % 2 ^ 64 = omega arith in
     record {
-      value = r.value ∙ ap (λ (x : ℕ). m * 2 ^ x) next ∙ ap (λ (x : ℕ). m * x) (pow-succ' 2 (z - 1)) ∙ sym (mul_assoc m 2 (2 ^ (z - 1)));
-      z_ge = omega arith;
-      z_le = omega arith;
+      value =
+          sym (mul_assoc n (2 ^ s) (2 ^ (53 - s)) ∙ ap (λ (x : ℕ). n * x) (whole s (53 - s) 53 (omega arith)))
+          ∙ ap (λ (x : ℕ). x * 2 ^ (53 - s)) m;
+      m_ge = omega arith;
       m_lt = omega arith;
+      s_ge = g;
+      s_le = omega arith;
     }
-  where
-    next : z ≡ suc (z - 1)
-    next = omega arith
+
+-- the s that leaves 11 leading zeros of 64
+pub raised : (n : ℕ) → 0 < n → n < 2 ^ 52
+    → let s = count_leading_zeros 64 n - 11 in Raised n (n * 2 ^ s % 2 ^ 64) s
+raised n h l =
+    let t = leading_top 64 n h (omega arith) in
+    let u = t.1 in
+    let j : t.0 < 52 = power_lt_back t.0 52 (omega arith) in
+    raised_by n t.0 (count_leading_zeros 64 n - 11) (omega arith) (omega arith) t.2 t.3

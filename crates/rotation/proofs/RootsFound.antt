@@ -8,27 +8,35 @@ use lib.IntN.{ℤ}
 use lib.Ieee.{Float, nan, inf, fin, binary64, up, down, unlike, round, add, mul, div, eq, is_nan, of_bits}
 use lib.Ieee.Fits.{down_pos}
 use lib.Ieee.Scale.{round_same}
+use Rattle.std.specs.Prelude.{Result, Ok, Err}
+use Rattle.std.specs.Result.{result_unwrap_or}
+use Rattle.refusal.specs.declared.Refusal.{Refusal}
 use Rattle.refusal.specs.Answers.{Answered, given, refused, value_or}
 use Rattle.float64.specs.Values.{plus_zero, one, is_zero}
 use Rattle.float64.proofs.Zeros.{equal_zero}
 use Rattle.root.specs.Sqrt.{sqrt_of}
-use Rattle.root.specs.Exact.{exact_root, flagged, sqrt_answer}
+use Rattle.root.specs.Exact.{exact_root, flagged, sqrt_answer, root_answered}
 use Rattle.root.proofs.RootCases.{refused_flag}
 use Rattle.rotation.specs.declared.Parameters.{Parameters}
 use Rattle.rotation.specs.declared.Parameters.TheVariants.{Still, Turn}
-use Rattle.rotation.specs.declared.Rooted.{Rooted}
+use Rattle.root.specs.declared.Root.{Root}
 use Rattle.rotation.specs.Rotation.{root_of, tangent_of, cosine_of, angle_of, of_tangent, quotient, tangent_of_pair, of_pair}
 use Rattle.rotation.specs.Exact.{under_root, exact_pair, found_of, exact_tangent, rooted_of, tangent_rooted, cosine_rooted, tangent_found}
 use Rattle.rotation.proofs.ParameterCases.{still_at, turn_at, still_pair, other_pair}
 
 -- ---- what is found by an answer of the square root
-abbrev pub rooted_by : Answered (Float × Bool) → Rooted
+abbrev rooted_by : Answered (Float × Bool) → Root
 rooted_by (given y) = record { value = y.0; exact = y.1 }
 rooted_by (refused k values) = record { value = nan; exact = false }
 
-pub rooted_answer : (x : Float) → rooted_by (sqrt_answer x) ≡ rooted_of x
+unwrapped : (r : Result Root Refusal) → result_unwrap_or r (record { value = nan; exact = false }) ≡ rooted_by (root_answered r)
+unwrapped (Ok r) = refl
+unwrapped (Err e) = refl
+
+pub rooted_answer : (x : Float) (r : Result Root Refusal) → root_answered r ≡ sqrt_answer x
+    → result_unwrap_or r (record { value = nan; exact = false }) ≡ rooted_of x
 unfolding root_of
-rooted_answer x = go (sqrt_of x) refl
+rooted_answer x r h = unwrapped r ∙ ap rooted_by h ∙ go (sqrt_of x) refl
   where
     go : (a : Answered Float) → sqrt_of x ≡ a → rooted_by (flagged (exact_root x) a) ≡ record { value = value_or a nan; exact = exact_root x }
     go (given y) e = refl
@@ -89,7 +97,7 @@ module _ (a d b : Float) where
   unfolding tangent_of_pair exact_tangent
   zero_found h = rw (sym (equal_zero b) ∙ h)
 
-  pub other_found : (t : Rooted) → eq b plus_zero ≡ false → t ≡ tangent_rooted (quotient a d b) → t ≡ tangent_found a d b
+  pub other_found : (t : Root) → eq b plus_zero ≡ false → t ≡ tangent_rooted (quotient a d b) → t ≡ tangent_found a d b
   unfolding tangent_of_pair exact_tangent
   other_found t h e = e ∙ (rw (sym (equal_zero b) ∙ h))
 
@@ -131,7 +139,7 @@ module _ (a d b : Float) where
   pub zero_pair_found : eq b plus_zero ≡ true → record { parameters = Still; exact = true } ≡ found_of a d b
   zero_pair_found h = found_both (still_pair a d b h) (zero_pair_exact h)
 
-  module _ (h : eq b plus_zero ≡ false) (t : Rooted) (e : t ≡ tangent_rooted (quotient a d b)) where
+  module _ (h : eq b plus_zero ≡ false) (t : Root) (e : t ≡ tangent_rooted (quotient a d b)) where
     flags : (x : Bool) → x ≡ exact_root (under_root t.value) → t.exact && x ≡ exact_pair a d b
     flags x f = rw (f, e) (other_pair_exact h)
 
@@ -148,7 +156,12 @@ module _ (a d b : Float) where
         whole true = refl
         whole false = refl
 
-    pub turn_found : (c : Rooted) → eq t.value plus_zero ≡ false → c ≡ cosine_rooted t.value
+    pub turn_found : (c : Root) → eq t.value plus_zero ≡ false → c ≡ cosine_rooted t.value
         → record { parameters = Turn t.value c.value (mul binary64 t.value c.value); exact = t.exact && c.exact } ≡ found_of a d b
     unfolding of_tangent
     turn_found c z f = found_both (rw f (turn_at (angle_of t.value) z ∙ value)) (flags c.exact (rw f))
+
+    -- the same, of a flag that is found by a test of the first
+    pub turn_flagged : (c : Root) → eq t.value plus_zero ≡ false → c ≡ cosine_rooted t.value → (x : Bool) → x ≡ t.exact && c.exact
+        → record { parameters = Turn t.value c.value (mul binary64 t.value c.value); exact = x } ≡ found_of a d b
+    turn_flagged c z f x g = rw g (turn_found c z f)

@@ -4,7 +4,7 @@ use Rattle.std.specs.Float.{binary64}
 use Rattle.std.specs.Float.Ieee.{add, mul, is_nan}
 use Rattle.float64.specs.Values.{one, is_zero}
 use Rattle.root.specs.Exact.{exact_root}
-use Rattle.rotation.specs.declared.Rooted.{Rooted}
+use Rattle.root.specs.declared.Root.{Root}
 use Rattle.rotation.specs.declared.Found.{Found}
 use Rattle.rotation.specs.Rotation.{root_of, tangent_of, cosine_of, quotient, tangent_of_pair, of_pair}
 
@@ -23,21 +23,21 @@ abbrev pub found_of : Float → Float → Float → Found
 found_of a d b = record { parameters = of_pair a d b; exact = exact_pair a d b }
 
 -- ---- what is found on the way
-abbrev pub rooted_of : Float → Rooted
+abbrev pub rooted_of : Float → Root
 rooted_of x = record { value = root_of x; exact = exact_root x }
 
-abbrev pub tangent_rooted : Float → Rooted
+abbrev pub tangent_rooted : Float → Root
 tangent_rooted ξ = record { value = tangent_of ξ; exact = exact_root (under_root ξ) }
 
 abbrev pub exact_cosine : Float → Bool
 exact_cosine t = exact_root (under_root t)
 
-abbrev pub cosine_rooted : Float → Rooted
+abbrev pub cosine_rooted : Float → Root
 cosine_rooted t = record { value = cosine_of t; exact = exact_cosine t }
 
 -- The root of a pair's tangent is exact, or there is none.
 unfoldable pub exact_tangent : Float → Float → Float → Bool
 exact_tangent a d b = cond (is_zero b) true (exact_root (under_root (quotient a d b)))
 
-abbrev pub tangent_found : Float → Float → Float → Rooted
+abbrev pub tangent_found : Float → Float → Float → Root
 tangent_found a d b = record { value = tangent_of_pair a d b; exact = exact_tangent a d b }

@@ -7,17 +7,11 @@ ghost use Rattle.rotation.specs.Exact.{found_of, rooted_of, tangent_rooted, cosi
 use root::Root;
 
 // Still, or a turn with the tangent, the cosine and the sine of its angle.
+// Stays an enum: document 01 names the form "an enum with a bare case and a case of three f64".
 #[derive(Clone, Copy)]
 pub enum Parameters {
     Still,
     Turn(f64, f64, f64),
-}
-
-// A value that is found by a root, and whether the root is exact.
-#[derive(Clone, Copy)]
-pub struct Rooted {
-    pub value: f64,
-    pub exact: bool,
 }
 
 // The parameters of a pair, and whether both of its roots are exact.
@@ -44,6 +38,7 @@ pub struct Sides {
 // The parameters of a pair, from a = a_pp, d = a_qq and b = a_pq, in the steps of document 003, (5.1), where the quotient is ξ. Document 02 (v) has ξ by
 // halves, and no double. Document 01 completes the steps: a pair is still where b is zero, and where t is; the sign of zero is 1 (`sign`); and where ξ isn't
 // a number, t, c and s aren't either (`root_or_nan`), which finite entries never make. Where t is zero the root in the cosine would be that of 1.
+// Stays three numbers and no struct: the six steps that document 01 names are written in them, and `found_of`, `tangent_found` and `diagonal_of` take them.
 pub fn of_pair(a: f64, d: f64, b: f64) -> Found
     ensures { result ≡ found_of a d b }
 {
@@ -68,16 +63,17 @@ pub fn of_pair(a: f64, d: f64, b: f64) -> Found
     let sine = tangent.value * cosine.value;
     Found {
         parameters: Parameters::Turn(tangent.value, cosine.value, sine),
-        exact: tangent.exact & cosine.exact,
+        exact: tangent.exact && cosine.exact,
     }
 }
 
 // The tangent of a pair, +0 where b is zero: the steps of `of_pair` as far as the tangent, for a caller that finds many before any cosine.
-pub fn tangent_of_pair(a: f64, d: f64, b: f64) -> Rooted
+// Stays a second place with these steps: document 01 names the six steps of `of_pair`, which has to show each of them in its own body.
+pub fn tangent_of_pair(a: f64, d: f64, b: f64) -> Root
     ensures { result ≡ tangent_found a d b }
 {
     if b == 0.0 {
-        return Rooted {
+        return Root {
             value: 0.0,
             exact: true,
         };
@@ -94,10 +90,11 @@ pub fn of_angle(x: Angle) -> Parameters
     ensures { result ≡ of_angle x }
 {
     if x.tangent == 0.0 {
-        return Parameters::Still;
+        Parameters::Still
+    } else {
+        let sine = x.tangent * x.cosine;
+        Parameters::Turn(x.tangent, x.cosine, sine)
     }
-    let sine = x.tangent * x.cosine;
-    Parameters::Turn(x.tangent, x.cosine, sine)
 }
 
 impl Angle {
@@ -105,10 +102,9 @@ impl Angle {
     pub fn of_tangent(t: f64) -> Angle
         ensures { result ≡ angle_of t }
     {
-        let cosine = cosine_of(t);
         Angle {
             tangent: t,
-            cosine: cosine.value,
+            cosine: cosine_of(t).value,
         }
     }
 }
@@ -150,55 +146,47 @@ pub fn turn(p: Parameters, x: f64, y: f64) -> Sides
 }
 
 // t = sign(ξ) / (|ξ| + √(1 + ξ ξ))
-fn tangent_of(xi: f64) -> Rooted
+fn tangent_of(xi: f64) -> Root
     ensures { result ≡ tangent_rooted xi }
 {
     let root = root_or_nan(1.0 + xi * xi);
-    Rooted {
+    Root {
         value: sign(xi) / (float64::magnitude(xi) + root.value),
-        exact: root.exact,
+        ..root
     }
 }
 
 // cos θ = 1 / √(1 + t t), where t is zero without a root
-pub fn cosine_of(t: f64) -> Rooted
+pub fn cosine_of(t: f64) -> Root
     ensures { result ≡ cosine_rooted t }
 {
     if t == 0.0 {
-        return Rooted {
+        return Root {
             value: 1.0,
             exact: true,
         };
     }
     let root = root_or_nan(1.0 + t * t);
-    Rooted {
+    Root {
         value: 1.0 / root.value,
-        exact: root.exact,
+        ..root
     }
 }
 
 // -1 below zero and otherwise 1, for a zero of either sign too.
+// Stays a test: `f64::signum` is -1 at -0 and not a number at the NaN, where `signum` of the contract is 1.
 fn sign(xi: f64) -> f64
     ensures { result ≡ signum xi }
 {
-    if xi < 0.0 {
-        return -1.0;
-    }
-    1.0
+    if xi < 0.0 { -1.0 } else { 1.0 }
 }
 
 // The root of x, or the NaN where x has none, which is not exact.
-fn root_or_nan(x: f64) -> Rooted
+fn root_or_nan(x: f64) -> Root
     ensures { result ≡ rooted_of x }
 {
-    match root::sqrt(x) {
-        Root::Of(y, exact) => Rooted {
-            value: y,
-            exact: exact,
-        },
-        Root::Refused(_) => Rooted {
-            value: float64::not_a_number(),
-            exact: false,
-        },
-    }
+    root::sqrt(x).unwrap_or(Root {
+        value: float64::not_a_number(),
+        exact: false,
+    })
 }

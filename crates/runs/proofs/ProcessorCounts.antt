@@ -1,9 +1,9 @@
 -- What a processor counts. Assumes nothing.
-use Prim.Native.Nat.{ℕ, ◌+◌, ◌*◌, ◌/◌, ◌%◌, ◌≤◌, ◌<◌}
-use mathlib.Core.Path.{◌≡◌, sym, ap, subst, ◌∙◌}
-use native.Mathlib.Nat.{add_comm, zero-add, add-zero, zero-mul, mul_comm, mod-add-div, mul-add-mod_self_left, mod-eq_of_lt}
+use Prim.Native.Nat.{ℕ, ◌+◌, ◌*◌, ◌%◌, ◌<◌}
+use mathlib.Core.Path.{◌≡◌, sym, ap, ◌∙◌}
+use native.Mathlib.Nat.{add_comm, zero-add, mul_comm, mul-add-mod_self_left, mod-eq_of_lt}
 use mathlib.Core.Bool.{Bool, true, false, cond, ◌&&◌}
-use borrow.Author.Tests.{lt-ltb, le-ltb}
+use borrow.Author.Tests.{lt-ltb}
 use lib.Dec.{eqb}
 use Rattle.rotation.specs.declared.Parameters.{Parameters}
 use Rattle.sizes.specs.Sizes.{most_counted, sweep_steps}
@@ -14,14 +14,6 @@ module _ (more : Bool) (d : ℕ) where
   unfolding counted
   counts_none e = rw e
 
-  pub counts_more : more ≡ true → d < most_counted → d + 1 ≡ counted more d
-  unfolding counted
-  counts_more e l = rw (e, lt-ltb d most_counted l)
-
-  pub counts_most : more ≡ true → most_counted ≤ d → d ≡ counted more d
-  unfolding counted
-  counts_most e l = rw (e, le-ltb d most_counted l)
-
 -- the turns begin anew with a sweep
 module _ (P : Parameters) (n k d : ℕ) where
   pub counts_anew : begins_sweep n k ≡ true → {c : ℕ} → c ≡ counted (is_turn P) 0 → c ≡ turns_after n k P d
@@ -31,18 +23,6 @@ module _ (P : Parameters) (n k d : ℕ) where
   pub counts_on : begins_sweep n k ≡ false → {c : ℕ} → c ≡ counted (is_turn P) d → c ≡ turns_after n k P d
   unfolding turns_after
   counts_on e h = rw e h
-
-mod_none : (k : ℕ) → k % 0 ≡ k
-mod_none k = sym (add-zero (k % 0)) ∙ ap (λ (x : ℕ). k % 0 + x) (sym (zero-mul (k / 0))) ∙ mod-add-div k 0
-
-module _ (n k : ℕ) {steps : ℕ} (h : steps ≡ sweep_steps n) where
-  pub begins_none : steps ≡ 0 → eqb k 0 ≡ begins_sweep n k
-  unfolding begins_sweep
-  begins_none e = let z : k % steps ≡ k = subst (λ (x : ℕ). k % x ≡ k) (sym e) (mod_none k) in rw (← h, z)
-
-  pub begins_by : eqb (k % steps) 0 ≡ begins_sweep n k
-  unfolding begins_sweep
-  begins_by = rw h
 
 -- of the steps of a sweep the first alone
 pub begins_at : (n j s : ℕ) → s < sweep_steps n → begins_sweep n (j * sweep_steps n + s) ≡ eqb s 0

@@ -6,7 +6,7 @@ use mathlib.Core.List.{List, [], ◌∷◌}
 use borrow.Author.Tests.{eqb-true, eq-eqb}
 use lib.ListN.{length}
 use lib.Ieee.{Float}
-use Rattle.refusal.specs.Answers.{Answered, given, refused, refused_by, or_else, row, table}
+use Rattle.refusal.specs.Answers.{given, refused_by, or_else, row, table}
 use Rattle.refusal.specs.declared.Refusal.TheVariants.{Length}
 use Rattle.refusal.proofs.FirstRefusal.{refused_given, both_given}
 use Rattle.sizes.specs.Sizes.{most_sweeps, is_order, sizes_answer}
@@ -16,29 +16,26 @@ use Rattle.runs.specs.Outcome.{slices_answer, before_run}
 
 -- ---- the slices
 module _ (n : ℕ) (l : List Float) (lr lv : ℕ) where
-  pub refused_3 : is_square n lr ≡ false → refused_by Length ≡ slices_answer n l lr lv
+  pub refused_3 : is_square n lr ≡ false → slices_answer n l lr lv ≡ refused_by Length
   unfolding slices_answer
   refused_3 e = rw e
 
-  pub refused_3_too : is_square n lr ≡ true → is_square n lv ≡ false → refused_by Length ≡ slices_answer n l lr lv
+  pub refused_3_too : is_square n lr ≡ true → is_square n lv ≡ false → slices_answer n l lr lv ≡ refused_by Length
   unfolding slices_answer
   refused_3_too e f = rw (e, f)
 
-  pub by_entries : {a : Answered Unit} → is_square n lr ≡ true → is_square n lv ≡ true → a ≡ entries_of n l → a ≡ slices_answer n l lr lv
+  pub by_entries : is_square n lr ≡ true → is_square n lv ≡ true → slices_answer n l lr lv ≡ entries_of n l
   unfolding slices_answer entries_of
-  by_entries e f z = rw (e, f) z
+  by_entries e f = rw (e, f)
 
 -- ---- sizes first, then the slices
 module _ (n sweeps : ℕ) (l : List Float) (lr lv : ℕ) where
-  by_sizes : or_else (sizes_answer n sweeps) (slices_answer n l lr lv) ≡ before_run n sweeps l lr lv
+  pub by_sizes : before_run n sweeps l lr lv ≡ or_else (sizes_answer n sweeps) (slices_answer n l lr lv)
   unfolding before_run slices_answer
-  by_sizes = sizes_first n sweeps _
+  by_sizes = sym (sizes_first n sweeps _)
 
-  pub sizes_refused : {k : ℕ} {values : List ℕ} → refused k values ≡ sizes_answer n sweeps → refused k values ≡ before_run n sweeps l lr lv
-  sizes_refused e = rw (← by_sizes, ← e)
-
-  pub by_slices : {a : Answered Unit} → given tt ≡ sizes_answer n sweeps → a ≡ slices_answer n l lr lv → a ≡ before_run n sweeps l lr lv
-  by_slices e z = rw (← by_sizes, ← e) z
+-- What a verdict is proved by.
+pub ruleset run_tests = (refused_3, refused_3_too, by_entries, by_sizes)
 
 -- ---- nothing is refused
 pub record Begins (n sweeps : ℕ) (l : List Float) (lr lv : ℕ) : Type 0 where
@@ -52,7 +49,7 @@ pub begins : (n sweeps : ℕ) (l : List Float) (lr lv : ℕ) → before_run n sw
 begins n sweeps l lr lv e = go (is_square n lr) (is_square n lv) refl refl (unfold slices_answer in w.1)
   where
     w : (sizes_answer n sweeps ≡ given tt) × (slices_answer n l lr lv ≡ given tt)
-    w = both_given _ _ (by_sizes n sweeps l lr lv ∙ e)
+    w = both_given _ _ (sym (by_sizes n sweeps l lr lv) ∙ e)
 
     s : (is_order n ≡ true) × (sweeps ≤ most_sweeps)
     s = sizes_given n sweeps w.0
@@ -66,5 +63,8 @@ begins n sweeps l lr lv e = go (is_square n lr) (is_square n lv) refl refl (unfo
 -- and the other way round
 pub begun : (n sweeps : ℕ) (l : List Float) (lr lv : ℕ) → Begins n sweeps l lr lv → before_run n sweeps l lr lv ≡ given tt
 begun n sweeps l lr lv b =
-    sym (by_slices n sweeps l lr lv (sizes_fine n sweeps b.order b.few)
-    (by_entries n l lr lv (eq-eqb lr (n * n) b.result_long) (eq-eqb lv (n * n) b.vectors_long) (sym b.entries)))
+    by_sizes n sweeps l lr lv
+    ∙ rw (
+      ← sizes_fine n sweeps b.order b.few,
+      by_entries n l lr lv (eq-eqb lr (n * n) b.result_long) (eq-eqb lv (n * n) b.vectors_long),
+    ) b.entries

@@ -6,7 +6,7 @@ use mathlib.Core.List.{List}
 use native.Mathlib.Omega.{arith}
 use borrow.Author.Tests.{eq-eqb, ne_eqb, lt-ltb, le-ltb, eqb-true, eqb-false, ltb-false}
 use lib.Dec.{eqb, ltb}
-use lib.ListN.{length, get_or, get_or-eq_default}
+use lib.ListN.{length, get_or}
 use Rattle.lists.specs.Bounded.{any}
 use Rattle.lists.proofs.Bounded.{any_to, any_from}
 use Rattle.sheet.proofs.BadCodes.{one_long}
@@ -48,16 +48,6 @@ module _ (b : List ℕ) where
   pub order_long : long_form ≤ get_or b 0 0 → get_or b 0 0 - long_form ≡ order_in b
   unfolding order_in
   order_long h = rw (le-ltb (get_or b 0 0) long_form h)
-
-  -- without a first byte
-  none : length b ≡ 0 → get_or b 0 0 ≡ 0
-  none e = get_or-eq_default b 0 (omega arith)
-
-  pub width_none : length b ≡ 0 → 1 ≡ width_in b
-  width_none e = width_short (let z = none e in omega arith)
-
-  pub order_none : length b ≡ 0 → 0 ≡ order_in b
-  order_none e = sym (none e) ∙ order_short (let z = none e in omega arith)
 
   pub order_within : order_in b ≤ get_or b 0 0
   unfolding order_in

@@ -1,3 +1,4 @@
+pub mod ListTests
 pub mod BadCodes
 pub mod Forms
 pub mod Triangle

@@ -37,6 +37,8 @@ few_entries n h =
 pub few_codes : (w n : ℕ) → w ≤ 2 → n ≤ largest_order → w * n ≤ 2 * largest_order
 few_codes w n h k = mul-le-mul h k
 
+pub ruleset small_lengths = (few_entries, few_codes)
+
 -- code k ends before the entries begin
 pub code_ends : (w n k : ℕ) → k < n → 2 + w * k + w ≤ entries_from w n
 code_ends w n k h =

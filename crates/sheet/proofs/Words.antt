@@ -2,31 +2,18 @@
 use Prim.Native.Nat.{ℕ, zero, suc, ◌+◌, ◌-◌, ◌*◌, ◌/◌, ◌%◌, ◌^◌, ◌<◌, ◌≤◌}
 use mathlib.Core.Path.{◌≡◌, refl, sym, ap, ◌∙◌}
 use mathlib.Core.List.{List}
-use native.Mathlib.Nat.{pow-suc, pow-le-pow_right, mul_comm, div-div-eq-div-mul, div-eq_of_lt}
+use native.Mathlib.Nat.{pow-suc, mul_comm, div-div-eq-div-mul, div-eq_of_lt}
 use native.Mathlib.Numerals.{add-one}
 use native.Mathlib.Omega.{arith}
 use lib.Dec.{lit<}
-use lib.ListN.{get_or}
+use lib.ListN.{get_or, take, drop}
+use Rattle.std.proofs.lemmas.List.{get_or-take, get_or-drop}
+use Rattle.std.specs.Int.{w16, w64, from_be_bytes}
 use Rattle.sheet.specs.Format.{byte_of, word_from}
 
-module _ (b : List ℕ) (o : ℕ) where
-  pub word_none : 0 ≡ word_from b o 0
-  unfolding word_from
-  word_none = refl
-
-  pub word_next : (k : ℕ) {w : ℕ} → w ≡ word_from b o k → w * 256 + get_or b (o + k) 0 ≡ word_from b o (k + 1)
-  unfolding word_from
-  word_next k e = rw (add-one, e)
-
--- a word of k bytes is below 256 ^ k, so there is room for one more
-pub word_grows : (w d k : ℕ) → w < 256 ^ k → d < 256 → w * 256 + d < 256 ^ (k + 1)
+-- a word of k bytes is below 256 ^ k
+word_grows : (w d k : ℕ) → w < 256 ^ k → d < 256 → w * 256 + d < 256 ^ (k + 1)
 word_grows w d k h b = rw (add-one, pow-suc) (omega arith)
-
-pub word_room : (w k : ℕ) → k < 8 → w < 256 ^ k → w * 256 + 255 < 2 ^ 64
-word_room w k h b =
-    let p : 256 ^ suc k ≡ 256 ^ k * 256 = pow-suc 256 k in
-    let q : 256 ^ suc k ≤ 256 ^ 8 = pow-le-pow_right (lit< tt) h in
-    omega arith
 
 -- ---- a word from its bytes, and the bytes of a word
 -- without the last of d + 1 bytes, and without d more
@@ -82,3 +69,23 @@ module _ (b : List ℕ) (o : ℕ) where
         let f : word_from b o m / 256 ^ (m - 1 - k) ≡ word_from b o (k + 1)
         = ap (λ (x : ℕ). word_from b o x / 256 ^ (m - 1 - k)) (sym e) ∙ word_front (m - 1 - k) (k + 1) in
         rw f (last_of k)
+
+-- ---- words as the library has them
+pub word_two : (b : List ℕ) → from_be_bytes w16 b ≡ word_from b 0 2
+unfolding word_from
+word_two b = omega arith
+
+pub word_eight : (b : List ℕ) → from_be_bytes w64 b ≡ word_from b 0 8
+unfolding word_from
+word_eight b = omega arith
+
+word_copied : (b b' : List ℕ) (o m : ℕ) → ((k : ℕ) → k < m → get_or b' k 0 ≡ get_or b (o + k) 0) → word_from b' 0 m ≡ word_from b o m
+unfolding word_from
+word_copied b b' o zero e = refl
+word_copied b b' o (suc m) e =
+    let z : 0 + m ≡ m = omega arith in
+    rw (word_copied b b' o m (λ k h. e k (omega arith)), z, e m (omega arith))
+
+-- of the slice of m bytes from o on
+pub word_sliced : (b : List ℕ) (o m n : ℕ) → n ≡ m → word_from (take n (drop o b)) 0 m ≡ word_from b o m
+word_sliced b o m n e = word_copied b _ o m (λ k h. get_or-take n (drop o b) k 0 (omega arith) ∙ get_or-drop o b k 0)

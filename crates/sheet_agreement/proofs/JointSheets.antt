@@ -23,7 +23,7 @@ use Rattle.sheet_reader.proofs.AcceptedSheets.{readable_alone, entries_finite, e
 use Rattle.sheet_reader.proofs.Tables.{Readable, lent_right}
 use Rattle.sheet_writer.specs.Writer.{write_answer, write_of}
 use Rattle.sheet_writer.proofs.SheetBytes.{write_accepted_as}
-use Rattle.sheet_writer.proofs.Tables.{write_all}
+use Rattle.sheet_writer.proofs.Tables.{writable_accepted}
 use Rattle.sheet_join.specs.Join.{joint_order, joint_sweeps, joint_codes, joint_matrix, joint_length, blocks, join_answer, joined_of, join_of}
 use Rattle.sheet_join.proofs.JoinOutcomes.{join_answers}
 use Rattle.sheet_join.proofs.JointContents.{joint_count, placed}
@@ -105,8 +105,15 @@ module _ (b d : List ℕ) (small : Bytes b) (small' : Bytes d) (lb : ℕ) (accep
   -- the writer accepts the joint content
   pub joint_writable : write_answer (joint_order b d) (joint_sweeps b d) (joint_codes b d) (joint_matrix b d) lb ≡ given tt
   joint_writable =
-      sym (write_all n (joint_sweeps b d) (joint_codes b d) (joint_matrix b d) lb known.order few_sweeps (joint_count b d) matrix_long codes_good
-      (sym (accepted_if n (joint_matrix b d) matrix_long all_finite all_mirrored)) known.room)
+      writable_accepted n (joint_sweeps b d) (joint_codes b d) (joint_matrix b d) lb (record {
+        order = known.order;
+        few = few_sweeps;
+        codes_long = joint_count b d;
+        matrix_long = matrix_long;
+        codes_good = codes_good;
+        entries_good = accepted_if n (joint_matrix b d) matrix_long all_finite all_mirrored;
+        room = known.room;
+      })
 
   below : n < long_form
   below = let o = order_is n known.order in omega (arith, o.1)

@@ -14,7 +14,6 @@ use lib.Ieee.Bits.{of_bits-to_bits, to_bits-lt}
 use Rattle.float64.specs.Values.{finite}
 use Rattle.refusal.specs.Answers.{Answered, given, refused, unless_refused, value_or, first}
 use Rattle.lists.specs.Tabulate.{tabulate}
-use Rattle.lists.proofs.Bounded.{false_or}
 use Rattle.lists.proofs.Tabulated.{get_d_tabulate, tabulated}
 use Rattle.sizes.proofs.Orders.{order_is}
 use Rattle.matrix.specs.Matrix.{at, flat}
@@ -31,9 +30,9 @@ use Rattle.sheet.proofs.Forms.{width_fits, first_kept, width_for_fits, codes_fit
 use Rattle.sheet_reader.specs.Reader.{long_in_vain, not_finite_in, stored_row, read_answer, read_outcome, content_of, read_of}
 use Rattle.sheet_reader.proofs.AcceptedSheets.{pattern_kept, width_kept, entries_finite, entries_mirrored}
 use Rattle.sheet_reader.proofs.SheetContents.{is_finite, codes_count, code_at, all_read, read_accepted_as}
-use Rattle.sheet_reader.proofs.Tables.{read_5, Readable, readable}
+use Rattle.sheet_reader.proofs.Tables.{Readable, readable, readable_accepted}
 use Rattle.sheet_writer.specs.Writer.{write_answer, write_outcome, overwritten, written_of, write_of}
-use Rattle.sheet_writer.proofs.Tables.{write_all, Writable, writable}
+use Rattle.sheet_writer.proofs.Tables.{Writable, writable, writable_accepted}
 use Rattle.sheet_writer.proofs.SheetBytes.{sheet_long, byte_0, byte_1, byte_code, byte_entry, write_accepted_as}
 
 -- every code is a number of two bytes, as those of a lent slice are
@@ -183,10 +182,17 @@ read_back n sweeps codes l lb fit fitting e c m lc lm = sym (read_accepted_as b 
     accepted : read_answer b (length c) (length m) ≡ given tt
     accepted =
         let z = sheet_long n sweeps codes (at n l) in
-        sym (read_5 b (length c) (length m) (omega arith) (sym order_is_n) v.order (rw sweeps_is v.few) lc lm
-        (sym (width_back n sweeps codes (at n l) below)) z
-        (false_or _ _ (ap bad_codes codes_are ∙ v.codes_good) (form_fine n sweeps codes (at n l) below fit v.codes_long))
-        (sym (stored_fine n sweeps codes (at n l) below (fit_at n l fitting) (accepted_finite n l fitting v.entries_good))))
+        readable_accepted b (length c) (length m) (record {
+          head = omega arith;
+          order = rw order_is_n v.order;
+          few = rw sweeps_is v.few;
+          codes_long = lc ∙ sym order_is_n;
+          matrix_long = rw order_is_n lm;
+          sheet_long = rw (width_back n sweeps codes (at n l) below, order_is_n) z;
+          codes_good = ap bad_codes codes_are ∙ v.codes_good;
+          form_good = form_fine n sweeps codes (at n l) below fit v.codes_long;
+          entries_good = stored_fine n sweeps codes (at n l) below (fit_at n l fitting) (accepted_finite n l fitting v.entries_good);
+        })
 
 -- ---- a sheet that is accepted
 module _ (b : List ℕ) (small : (i : ℕ) → get_or b i 0 < 256) (lc lm : ℕ) (r : Readable b lc lm) where
@@ -262,10 +268,16 @@ module _ (b : List ℕ) (small : (i : ℕ) → get_or b i 0 < 256) (lc lm : ℕ)
 
   write_accepts : (lb : ℕ) → length b ≤ lb → given tt ≡ write_answer n (sweeps_in b) (codes_in b) matrix lb
   write_accepts lb o =
-      write_all n (sweeps_in b) (codes_in b) matrix lb r.order r.few (codes_count b) (flat_length n (entry_in b)) r.codes_good
-      (sym (accepted_if n matrix (flat_length n (entry_in b)) (λ i j hi hj. ap finite (entry_value i j hi hj) ∙ entries_finite b lc lm r i j hi hj)
-      (λ i j hi hj. entry_value i j hi hj ∙ entries_mirrored b n i j hi hj ∙ sym (entry_value j i hj hi))))
-      (rw (width_kept b lc lm r small) (let z = r.sheet_long in omega arith))
+      sym (writable_accepted n (sweeps_in b) (codes_in b) matrix lb (record {
+        order = r.order;
+        few = r.few;
+        codes_long = codes_count b;
+        matrix_long = flat_length n (entry_in b);
+        codes_good = r.codes_good;
+        entries_good = accepted_if n matrix (flat_length n (entry_in b)) (λ i j hi hj. ap finite (entry_value i j hi hj) ∙ entries_finite b lc lm r i j hi hj)
+            (λ i j hi hj. entry_value i j hi hj ∙ entries_mirrored b n i j hi hj ∙ sym (entry_value j i hj hi));
+        room = rw (width_kept b lc lm r small) (let z = r.sheet_long in omega arith);
+      }))
 
 -- A sheet that is accepted is written again as the same bytes.
 pub write_back : (b : List ℕ) → ((i : ℕ) → get_or b i 0 < 256) → (lc lm : ℕ) → read_answer b lc lm ≡ given tt → (lent : List ℕ) → length b ≤ length lent

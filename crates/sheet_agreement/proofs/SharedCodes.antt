@@ -13,7 +13,8 @@ use Rattle.lists.proofs.Bounded.{same_bool, or_false, false_or, any_to, any_from
 use Rattle.sheet.specs.Codes.{long_codes, width_for}
 use Rattle.sheet.specs.Format.{length_for}
 use Rattle.sheet_join.specs.Join.{has_code, shared_code}
-use Rattle.sheet_join.proofs.JointContents.{any_either, any_same, long_either}
+use Rattle.sheet_join.proofs.JointContents.{any_either, long_either}
+use Rattle.sheet.proofs.ListTests.{any_same}
 
 -- ---- shared codes
 module _ (l m : List ℕ) where

@@ -1,33 +1,18 @@
 -- A refused joining, and one that is not. Assumes nothing.
-use Prim.Native.Nat.{ℕ, ◌≤◌}
-use mathlib.Core.Path.{◌≡◌, refl, sym, ap, ◌∙◌}
+use Prim.Native.Nat.{ℕ}
+use mathlib.Core.Path.{◌≡◌, refl, ap}
 use mathlib.Core.List.{List}
-use lib.ListN.{length, set, drop}
+use lib.ListN.{length, drop}
 use lib.Seq.{drop_at}
 use Rattle.refusal.specs.Answers.{Answered, given, refused, giving, unless_refused}
 use Rattle.refusal.proofs.RefusedOutcomes.{outcome_answers, outcome_left}
 use Rattle.matrix.specs.Matrix.{at}
-use Rattle.sheet.specs.Codes.{width_for}
-use Rattle.sheet.specs.Format.{first_byte, sheet_length, entries_to, sheet_of}
-use Rattle.sheet_writer.specs.Steps.{with_codes, with_entries}
+use Rattle.sheet.specs.Format.{sheet_of}
 use Rattle.sheet_writer.specs.Writer.{WriteOutcome, write_outcome, overwritten}
-use Rattle.sheet_writer.proofs.SheetBytes.{sheet_long, written_over}
+use Rattle.sheet_writer.proofs.SheetBytes.{sheet_long}
 use Rattle.sheet_join.specs.Join.{joint_order, joint_sweeps, joint_codes, joint_matrix, joint_length, join_answer, joined_of, join_of}
-use Rattle.sheet_join.proofs.JointContents.{joint_count}
 
 module _ (b d l : List ℕ) where
-  -- the steps of a joining leave the joint sheet, and the tail
-  pub joined_over : {n w first sweeps count : ℕ} {l₁ l₂ : List ℕ} → joint_length b d ≤ length l → n ≡ joint_order b d → w ≡ width_for (joint_codes b d)
-      → first ≡ first_byte w n → sweeps ≡ joint_sweeps b d → l₁ ≡ with_codes w (joint_codes b d) n (set (set l 0 first) 1 sweeps)
-      → l₂ ≡ with_entries w n (at n (joint_matrix b d)) (entries_to n) l₁ → count ≡ sheet_length w n → write_outcome (given count) l₂ ≡ joined_of b d l
-  joined_over room e w f s g h c =
-      written_over (joint_order b d) (joint_sweeps b d) (joint_codes b d) (joint_matrix b d) l (joint_count b d) room w (rw e at f)
-      (rw (e ∙ sym (joint_count b d), s) at g) (rw e at h) (rw e at c)
-
-  pub join_refused : {k : ℕ} {values : List ℕ} → refused k values ≡ join_answer b d (length l) → write_outcome (refused k values) l ≡ join_of b d l
-  unfolding join_of
-  join_refused e = rw (← e)
-
   pub join_accepted_as : {o : WriteOutcome} → given tt ≡ join_answer b d (length l) → o ≡ joined_of b d l → o ≡ join_of b d l
   unfolding join_of
   join_accepted_as e f = rw (← e) f

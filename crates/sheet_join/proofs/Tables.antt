@@ -1,6 +1,6 @@
 -- The refusals of a joining, in their order. Assumes nothing.
 use Prim.Native.Nat.{ℕ, ◌<◌, ◌≤◌}
-use mathlib.Core.Path.{◌≡◌, refl, sym}
+use mathlib.Core.Path.{◌≡◌, refl, ◌∙◌}
 use mathlib.Core.Bool.{Bool, true, false, not}
 use mathlib.Core.List.{List, [], ◌∷◌}
 use native.Mathlib.Omega.{arith}
@@ -11,39 +11,44 @@ use Rattle.refusal.specs.declared.Refusal.TheVariants.{Order, TooShort, SharedCo
 use Rattle.refusal.proofs.FirstRefusal.{refused_given, both_given, row_given}
 use Rattle.sizes.specs.Sizes.{largest_order, is_order, order_row}
 use Rattle.sizes.proofs.Orders.{order_is, by_largest}
+use Rattle.sheet.specs.Codes.{width_for}
 use Rattle.sheet.specs.Format.{codes_in}
+use Rattle.sheet.proofs.Forms.{width_for_fits}
 use Rattle.sheet_reader.specs.Reader.{sheet_answer}
 use Rattle.sheet_reader.proofs.AcceptedSheets.{readable_alone}
 use Rattle.sheet_join.specs.Join.{joint_order, joint_length, shared_code, join_answer}
 
 module _ (b d : List ℕ) (lb : ℕ) where
-  pub first_refused : {k : ℕ} {values : List ℕ} → refused k values ≡ sheet_answer b → refused k values ≡ join_answer b d lb
+  -- the rows below those of the two sheets
+  abbrev joint_rows : List (Answered Unit)
+  joint_rows = row (shared_code (codes_in b) (codes_in d)) SharedCode ∷ order_row (joint_order b d) ∷ row (ltb lb (joint_length b d)) TooShort ∷ []
+
+  pub by_sheets : join_answer b d lb ≡ or_else (sheet_answer b) (or_else (sheet_answer d) (table joint_rows))
   unfolding join_answer
-  first_refused e = rw (← e)
+  by_sheets = refl
 
-  module _ (first : given tt ≡ sheet_answer b) where
-    pub second_refused : {k : ℕ} {values : List ℕ} → refused k values ≡ sheet_answer d → refused k values ≡ join_answer b d lb
-    unfolding join_answer
-    second_refused e = rw (← first, ← e)
+  pub shared_refused : shared_code (codes_in b) (codes_in d) ≡ true → table joint_rows ≡ refused_by SharedCode
+  shared_refused e = rw e
 
-    module _ (second : given tt ≡ sheet_answer d) where
-      pub join_10 : shared_code (codes_in b) (codes_in d) ≡ true → refused_by SharedCode ≡ join_answer b d lb
-      unfolding join_answer
-      join_10 e = rw (← first, ← second, e)
+  pub order_refused : shared_code (codes_in b) (codes_in d) ≡ false → is_order (joint_order b d) ≡ false → table joint_rows ≡ refused_by Order
+  order_refused e f = rw (e, f)
 
-      module _ (apart : shared_code (codes_in b) (codes_in d) ≡ false) where
-        pub join_1 : is_order (joint_order b d) ≡ false → refused_by Order ≡ join_answer b d lb
-        unfolding join_answer
-        join_1 e = rw (← first, ← second, apart, e)
+  pub no_room : shared_code (codes_in b) (codes_in d) ≡ false → is_order (joint_order b d) ≡ true → lb < joint_length b d
+      → table joint_rows ≡ refused_by TooShort
+  no_room e f h = rw (e, f, lt-ltb lb (joint_length b d) h)
 
-        module _ (order : is_order (joint_order b d) ≡ true) where
-          pub join_7 : lb < joint_length b d → refused_by TooShort ≡ join_answer b d lb
-          unfolding join_answer
-          join_7 h = rw (← first, ← second, apart, order, lt-ltb lb (joint_length b d) h)
+  pub room_enough : shared_code (codes_in b) (codes_in d) ≡ false → is_order (joint_order b d) ≡ true → joint_length b d ≤ lb → table joint_rows ≡ given tt
+  room_enough e f h = rw (e, f, le-ltb lb (joint_length b d) h)
 
-          pub join_all : joint_length b d ≤ lb → given tt ≡ join_answer b d lb
-          unfolding join_answer
-          join_all h = rw (← first, ← second, apart, order, le-ltb lb (joint_length b d) h)
+-- what the test of the joint order says of it, and the form of the joint sheet
+pub order_small : (n : ℕ) → is_order n ≡ true → n ≤ largest_order
+order_small n e = (order_is n e).1
+
+pub width_most : (codes : List ℕ) → width_for codes ≤ 2
+width_most codes = (width_for_fits codes).1
+
+-- What a verdict is proved by.
+pub ruleset join_tests = (by_sheets, shared_refused, order_refused, no_room, room_enough, order_small, width_most)
 
 -- what is known of two sheets that are joined
 pub record Joinable (b d : List ℕ) (lb : ℕ) : Type 0 where
@@ -74,7 +79,7 @@ joinable b d lb e =
     }
 
 pub joined : (b d : List ℕ) (lb : ℕ) → Joinable b d lb → join_answer b d lb ≡ given tt
-joined b d lb j = sym (join_all b d lb (sym j.first_good) (sym j.second_good) j.apart j.order j.room)
+joined b d lb j = by_sheets b d lb ∙ rw (j.first_good, j.second_good) (room_enough b d lb j.apart j.order j.room)
 
 -- ---- the joint order by the limit
 -- what is below a row counts where that row refuses nothing

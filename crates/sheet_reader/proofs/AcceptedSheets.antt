@@ -1,5 +1,5 @@
 -- What a sheet holds that is accepted: finite entries in both triangles, patterns that are kept, and codes of its form. Assumes nothing.
-use Prim.Native.Nat.{ℕ, ◌+◌, ◌*◌, ◌<◌, ◌≤◌}
+use Prim.Native.Nat.{ℕ, ◌+◌, ◌*◌, ◌^◌, ◌<◌, ◌≤◌}
 use mathlib.Core.Path.{◌≡◌, refl, sym, ◌∙◌}
 use mathlib.Core.Bool.{Bool, true, false, not, cond, true≢false}
 use mathlib.Core.List.{List}
@@ -76,12 +76,13 @@ module _ (b : List ℕ) (lc lm : ℕ) (r : Readable b lc lm) where
       go true e = let u : i < j = ltb-true _ _ e in stored_finite_lem j i hi.0 (omega arith) hj.1
       go false e = let u : j ≤ i = ltb-false _ _ e in stored_finite_lem i j hj.0 (omega arith) hi.1
 
+  -- its patterns are those of the values read
+  pub pattern_fits : (i j : ℕ) → 1 ≤ j → j ≤ i → i ≤ n → pattern_in b i j < 2 ^ 64 → to_bits binary64 (of_bits binary64 (pattern_in b i j)) ≡ pattern_in b i j
+  pattern_fits i j h k o below = to_bits-of_bits binary64 (pattern_in b i j) below (no_nan (of_bits binary64 (pattern_in b i j)) (stored_finite_lem i j h k o))
+
   module _ (small : (i : ℕ) → get_or b i 0 < 256) where
-    -- its patterns are those of the values read
     pub pattern_kept : (i j : ℕ) → 1 ≤ j → j ≤ i → i ≤ n → to_bits binary64 (of_bits binary64 (pattern_in b i j)) ≡ pattern_in b i j
-    pattern_kept i j h k o =
-        to_bits-of_bits binary64 (pattern_in b i j) (unfold pattern_in in (word_below b _ small 8))
-        (no_nan (of_bits binary64 (pattern_in b i j)) (stored_finite_lem i j h k o))
+    pattern_kept i j h k o = pattern_fits i j h k o (unfold pattern_in in (word_below b _ small 8))
 
     -- its codes have its form
     pub width_kept : width_for (codes_in b) ≡ width_in b

@@ -13,7 +13,7 @@ use lib.Ieee.{Float, nan}
 use Rattle.matrix.specs.Matrix.{flat}
 use Rattle.matrix.proofs.Flat.{index_one, at_offset, flat_is}
 use Rattle.sheet.specs.Format.{entry_place, entries_to}
-use Rattle.sheet.proofs.Triangle.{place_at, rows_below}
+use Rattle.sheet.proofs.Triangle.{place_at, rows_below, row_more}
 
 -- ---- one value in two places
 module _ (m : List Float) (a b : ℕ) (x : Float) where
@@ -102,3 +102,6 @@ module _ (n : ℕ) (A : ℕ → ℕ → Float) where
       go : (i j : ℕ) → i < n → j < n → (z : Bool) → ltb i j ≡ z → get_or m (i * n + j) nan ≡ A (i + 1) (j + 1)
       go i j h k true e = let w : i < j = ltb-true _ _ e in s.mirror j i (omega arith) k (in_all j i (omega arith) k)
       go i j h k false e = let w : j ≤ i = ltb-false _ _ e in s.below i j w h (in_all i j w h)
+
+-- What the rows of a matrix are proved by.
+pub ruleset whole_rows = (row_more, stored_all)

@@ -4,8 +4,8 @@ use mathlib.Core.Path.{◌≡◌, refl, sym, ap}
 use mathlib.Core.Bool.{Bool, true, false, not, ◌||◌}
 use mathlib.Core.List.{List}
 use native.Mathlib.Omega.{arith}
-use borrow.Author.Tests.{lt-ltb, le-ltb, ltb-true, ltb-false}
-use lib.Dec.{ltb}
+use borrow.Author.Tests.{ne_eqb, lt-ltb, le-ltb, ltb-true, ltb-false}
+use lib.Dec.{eqb, ltb}
 use lib.ListN.{length, get_or}
 use lib.Ieee.{Float, binary64, of_bits}
 use Rattle.float64.specs.Values.{finite}
@@ -15,7 +15,10 @@ use Rattle.refusal.proofs.FirstRefusal.{first_found}
 use Rattle.refusal.proofs.RefusedOutcomes.{outcome_answers, outcome_left}
 use Rattle.refusal.proofs.FirstPlaces.{Searched, searched, place}
 use Rattle.lists.proofs.Tabulated.{length_tabulate, get_d_tabulate}
-use Rattle.lists.proofs.Filled.{Filled, filled_all}
+use Rattle.lists.proofs.Filled.{Filled, filled_none, filled_next, filled_all}
+use Rattle.refusal.proofs.FirstRefusal.{first_none, first_more}
+use Rattle.sheet.proofs.Forms.{width_fits}
+use Rattle.sheet.proofs.Triangle.{closed, code_ends}
 use Rattle.matrix.specs.Matrix.{flat}
 use Rattle.sheet.specs.Format.{entries_from, entries_to, entry_number, word_from, width_in, order_in, sweeps_in, code_in, codes_in, pattern_in, entry_in}
 use Rattle.sheet.specs.Codes.{bad_codes, long_codes}
@@ -108,13 +111,10 @@ module _ (b : List ℕ) where
 
   -- ---- the test of the codes
   module _ {codes : List ℕ} (read : codes ≡ codes_in b) where
-    pub codes_bad : true ≡ bad_codes codes → true ≡ (bad_codes (codes_in b) || long_in_vain b)
-    codes_bad e = rw (← read, ← e)
-
     module _ {w : ℕ} (form : w ≡ width_in b) (good : false ≡ bad_codes codes) where
-      pub codes_short : w ≡ 1 → false ≡ (bad_codes (codes_in b) || long_in_vain b)
+      pub codes_short : ¬ (w ≡ 2) → eqb w 2 ≡ (bad_codes (codes_in b) || long_in_vain b)
       unfolding long_in_vain
-      codes_short e = rw (← read, ← good, ← form, e)
+      codes_short e = rw (← read, ← good, ← form, ne_eqb w 2 e)
 
       pub codes_long : {t : Bool} → w ≡ 2 → t ≡ long_codes codes → not t ≡ (bad_codes (codes_in b) || long_in_vain b)
       unfolding long_in_vain
@@ -130,12 +130,19 @@ module _ (b : List ℕ) where
   unfolding content_of
   all_read h e f = rw (e, f, h)
 
+-- ---- what a code, the codes, a pattern and the tests are proved by
+pub ruleset one_code = (code_of_one, code_of_two)
+
+pub ruleset code_tests = (codes_short, codes_long)
+
+pub ruleset code_reads = (filled_none, filled_next, code_ends, width_fits)
+
+pub ruleset entry_tests = (first_none, first_more, tested_as, is_finite, none_found, one_found)
+
+pub ruleset one_pattern = (closed, pattern_read)
+
 -- ---- a refused reading, and one that is not
 module _ (b c : List ℕ) (m : List Float) where
-  pub read_refused : {k : ℕ} {values : List ℕ} → refused k values ≡ read_answer b (length c) (length m) → read_outcome (refused k values) c m ≡ read_of b c m
-  unfolding read_of
-  read_refused e = rw (← e)
-
   pub read_accepted_as : {o : ReadOutcome} → given tt ≡ read_answer b (length c) (length m) → o ≡ content_of b → o ≡ read_of b c m
   unfolding read_of
   read_accepted_as e f = rw (← e) f

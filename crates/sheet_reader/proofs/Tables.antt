@@ -6,16 +6,18 @@ use mathlib.Core.List.{List, [], ◌∷◌}
 use borrow.Author.Tests.{lt-ltb, le-ltb, eq-eqb, ne_eqb, eqb-true, ltb-false}
 use lib.Dec.{eqb, ltb}
 use lib.ListN.{length}
-use Rattle.refusal.specs.Answers.{Answered, given, refused, refused_by, or_else, row, table}
+use Rattle.refusal.specs.Answers.{Answered, given, refused_by, or_else, row, table}
 use Rattle.refusal.specs.declared.Refusal.{Refusal}
 use Rattle.refusal.specs.declared.Refusal.TheVariants.{Length, Code}
 use Rattle.refusal.proofs.FirstRefusal.{refused_given, both_given, row_given, else_none}
-use Rattle.lists.proofs.Bounded.{or_false}
-use Rattle.sizes.specs.Sizes.{is_order, most_sweeps, sizes_answer}
+use Rattle.lists.proofs.Bounded.{or_false, false_or}
+use Rattle.sizes.specs.Sizes.{is_order, most_sweeps, largest_order, sizes_answer}
 use Rattle.sizes.proofs.Orders.{order_is, sizes_fine, sizes_given, sizes_first}
 use Rattle.matrix.specs.Entries.{is_square}
 use Rattle.sheet.specs.Format.{sheet_length, width_in, order_in, sweeps_in, length_in, codes_in}
 use Rattle.sheet.specs.Codes.{bad_codes}
+use Rattle.sheet.proofs.Forms.{width_fits}
+use Rattle.sheet.proofs.Triangle.{few_entries}
 use Rattle.sheet_reader.specs.Reader.{OfForm, long_in_vain, stored_row, sheet_answer, read_answer}
 
 -- two rows with one refusal
@@ -39,47 +41,44 @@ module _ (b : List ℕ) where
     unfolding read_answer
     by_head = ap (or_else (row (ltb (length b) 2) Length)) (sizes_first (order_in b) (sweeps_in b) (table length_rows))
 
-    pub head_short : length b < 2 → refused_by Length ≡ read_answer b lc lm
-    head_short h = rw (← by_head, lt-ltb (length b) 2 h)
+    pub head_short : length b < 2 → read_answer b lc lm ≡ refused_by Length
+    head_short h = sym (rw (← by_head, lt-ltb (length b) 2 h))
 
-    module _ (head : 2 ≤ length b) where
-      by_sizes : {a : Answered Unit} → a ≡ or_else (sizes_answer (order_in b) (sweeps_in b)) (table length_rows) → a ≡ read_answer b lc lm
-      by_sizes z = rw (← by_head, le-ltb (length b) 2 head) z
+    pub by_sizes : 2 ≤ length b → read_answer b lc lm ≡ or_else (sizes_answer (order_in b) (sweeps_in b)) (table length_rows)
+    by_sizes h = sym (rw (← by_head, le-ltb (length b) 2 h))
 
-      -- the order as it was found
-      module _ {n : ℕ} (found : n ≡ order_in b) where
-        pub sizes_refused : {k : ℕ} {values : List ℕ} → refused k values ≡ sizes_answer n (sweeps_in b) → refused k values ≡ read_answer b lc lm
-        sizes_refused e = by_sizes (rw (← (rw found at e)))
+    -- the order and the width as they were found
+    pub codes_length : ¬ (lc ≡ order_in b) → table length_rows ≡ refused_by Length
+    codes_length e = rw (ne_eqb lc (order_in b) e)
 
-        module _ (order : is_order n ≡ true) (few : sweeps_in b ≤ most_sweeps) where
-          by_lengths : {a : Answered Unit} → a ≡ table length_rows → a ≡ read_answer b lc lm
-          by_lengths z = by_sizes (rw (← sizes_fine (order_in b) (sweeps_in b) (rw found at order) few) z)
+    pub matrix_length : lc ≡ order_in b → ¬ (lm ≡ order_in b * order_in b) → table length_rows ≡ refused_by Length
+    matrix_length e f = rw (eq-eqb lc (order_in b) e, ne_eqb lm (order_in b * order_in b) f)
 
-          pub codes_length : ¬ (lc ≡ n) → refused_by Length ≡ read_answer b lc lm
-          codes_length e = by_lengths (rw (ne_eqb lc (order_in b) (rw found at e)))
+    pub sheet_length_lem : lc ≡ order_in b → lm ≡ order_in b * order_in b → ¬ (length b ≡ sheet_length (width_in b) (order_in b)) → table length_rows ≡ refused_by Length
+    sheet_length_lem e f g = rw (eq-eqb lc (order_in b) e, eq-eqb lm (order_in b * order_in b) f, ne_eqb (length b) (length_in b) g)
 
-          module _ (codes_long : lc ≡ n) where
-            pub matrix_length : ¬ (lm ≡ n * n) → refused_by Length ≡ read_answer b lc lm
-            matrix_length e = by_lengths (rw (eq-eqb lc (order_in b) (codes_long ∙ found), ne_eqb lm (order_in b * order_in b) (rw found at e)))
+    pub right_lengths : lc ≡ order_in b → lm ≡ order_in b * order_in b → length b ≡ sheet_length (width_in b) (order_in b) → table length_rows ≡ table content_rows
+    right_lengths e f g = rw (eq-eqb lc (order_in b) e, eq-eqb lm (order_in b * order_in b) f, eq-eqb (length b) (length_in b) g)
 
-            -- and the width
-            module _ (matrix_long : lm ≡ n * n) {w : ℕ} (width : w ≡ width_in b) where
-              lent_long : (eqb lc (order_in b) ≡ true) × (eqb lm (order_in b * order_in b) ≡ true)
-              lent_long = (eq-eqb lc (order_in b) (codes_long ∙ found), eq-eqb lm (order_in b * order_in b) (rw found at matrix_long))
+  -- both rows of the codes as one test
+  pub codes_refused : (bad_codes (codes_in b) || long_in_vain b) ≡ true → table content_rows ≡ refused_by Code
+  codes_refused e = sym (either (bad_codes (codes_in b)) (long_in_vain b) Code _ e)
 
-              pub sheet_length_lem : ¬ (length b ≡ sheet_length w n) → refused_by Length ≡ read_answer b lc lm
-              sheet_length_lem e = by_lengths (rw (lent_long.0, lent_long.1, ne_eqb (length b) (length_in b) (rw (found, width) at e)))
+  pub codes_accepted : (bad_codes (codes_in b) || long_in_vain b) ≡ false → table content_rows ≡ stored_row b
+  codes_accepted e = let w = or_false (bad_codes (codes_in b)) (long_in_vain b) e in rw (w.0, w.1, else_none)
 
-              module _ (sheet_long : length b ≡ sheet_length w n) where
-                by_content : {a : Answered Unit} → a ≡ table content_rows → a ≡ read_answer b lc lm
-                by_content z = by_lengths (rw (lent_long.0, lent_long.1, eq-eqb (length b) (length_in b) (rw (found, width) at sheet_long)) z)
+-- what the sizes say of the order
+pub order_small : (n sweeps : ℕ) → sizes_answer n sweeps ≡ given tt → n ≤ largest_order
+order_small n sweeps e = (order_is n (sizes_given n sweeps e).0).1
 
-                -- both rows of the codes as one test
-                pub read_4 : (bad_codes (codes_in b) || long_in_vain b) ≡ true → refused_by Code ≡ read_answer b lc lm
-                read_4 e = by_content (either (bad_codes (codes_in b)) (long_in_vain b) Code _ e)
+pub square_small : (n sweeps : ℕ) → sizes_answer n sweeps ≡ given tt → n * n ≤ largest_order * largest_order
+square_small n sweeps e = (few_entries n (order_small n sweeps e)).0
 
-                pub read_5 : {a : Answered Unit} → (bad_codes (codes_in b) || long_in_vain b) ≡ false → a ≡ stored_row b → a ≡ read_answer b lc lm
-                read_5 e f = let w = or_false (bad_codes (codes_in b)) (long_in_vain b) e in by_content (rw (w.0, w.1, else_none) f)
+pub width_most : (b : List ℕ) → width_in b ≤ 2
+width_most b = (width_fits b).1
+
+-- What a verdict is proved by.
+pub ruleset read_tests = (head_short, by_sizes, codes_length, matrix_length, sheet_length_lem, right_lengths, codes_refused, codes_accepted, order_small, square_small, width_most)
 
 -- what is known of a sheet that is accepted
 pub record Readable (b : List ℕ) (lc lm : ℕ) : Type 0 where
@@ -119,6 +118,13 @@ readable b lc lm e =
       form_good = row_given _ Code form.0;
       entries_good = (both_given (stored_row b) (given tt) form.1).0;
     }
+
+-- and the other way round
+pub readable_accepted : (b : List ℕ) (lc lm : ℕ) → Readable b lc lm → read_answer b lc lm ≡ given tt
+readable_accepted b lc lm r =
+    by_sizes b lc lm r.head
+    ∙ rw (← sizes_fine (order_in b) (sweeps_in b) r.order r.few, right_lengths b lc lm r.codes_long r.matrix_long r.sheet_long) (
+    codes_accepted b (false_or _ _ r.codes_good r.form_good) ∙ r.entries_good)
 
 pub readable_form : (b : List ℕ) (lc lm : ℕ) → Readable b lc lm → {w n : ℕ} → w ≡ width_in b → n ≡ order_in b → OfForm w n b
 readable_form b lc lm r e f = (e, f, rw f (order_is _ r.order).1, rw (e, f) r.sheet_long)

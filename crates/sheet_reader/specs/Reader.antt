@@ -1,17 +1,17 @@
 -- Document 01, "Refused, by place", and document 02 (i): what the reader of sheets answers and leaves. Definitions only.
-use Rattle.std.specs.Prelude.{ℕ, ◌≤◌, ◌≡◌, Bool, not, cond, ◌&&◌, List, [], ◌∷◌, eqb, ltb, length, Float}
+use Rattle.std.specs.Prelude.{ℕ, ◌≤◌, ◌≡◌, Bool, not, cond, ◌&&◌, List, [], ◌∷◌, eqb, ltb, length, Float, Result}
 use Rattle.std.specs.Float.{binary64}
 use Rattle.std.specs.Float.Ieee.{of_bits}
 use Rattle.float64.specs.Values.{finite}
-use Rattle.refusal.specs.Answers.{Answered, given, refused_by, unless_refused, row, table, first}
+use Rattle.refusal.specs.Answers.{Answered, given, refused_by, answered_as, unless_refused, row, table, first}
+use Rattle.refusal.specs.declared.Refusal.{Refusal}
 use Rattle.refusal.specs.declared.Refusal.TheVariants.{Length, Code, NotFinite}
 use Rattle.sizes.specs.Sizes.{largest_order, order_row, sweeps_row}
 use Rattle.matrix.specs.Matrix.{flat}
 use Rattle.matrix.specs.Entries.{is_square}
 use Rattle.sheet.specs.Format.{sheet_length, width_in, order_in, sweeps_in, length_in, codes_in, pattern_in, entry_in}
 use Rattle.sheet.specs.Codes.{bad_codes, long_codes}
-use Rattle.sheet_reader.specs.declared.Reading.{Reading}
-use Rattle.sheet_reader.specs.declared.Reading.TheVariants.{Read, Refused}
+use Rattle.sheet_reader.specs.declared.Sizes.{Sizes}
 
 -- The sheet b has the order n, codes of w bytes and the length of its form.
 abbrev pub OfForm : ℕ → ℕ → List ℕ → Type 0
@@ -52,9 +52,8 @@ pub record ReadOutcome : Type 0 where
 abbrev pub read_outcome : Answered (ℕ × ℕ) → List ℕ → List Float → ReadOutcome
 read_outcome a c m = record { answer = a; codes = c; matrix = m }
 
-abbrev pub reading_answered : Reading → Answered (ℕ × ℕ)
-reading_answered (Read n sweeps) = given (n, sweeps)
-reading_answered (Refused r) = refused_by r
+abbrev pub reading_answered : Result Sizes Refusal → Answered (ℕ × ℕ)
+reading_answered = answered_as (λ s. (s.n, s.sweeps))
 
 -- The order and the sweeps, the codes, and the matrix with both triangles.
 unfoldable pub content_of : List ℕ → ReadOutcome

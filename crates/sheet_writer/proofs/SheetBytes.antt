@@ -1,13 +1,16 @@
 -- What is written to a sheet. Assumes nothing.
-use Prim.Native.Nat.{ℕ, zero, suc, ◌+◌, ◌-◌, ◌*◌, ◌/◌, ◌%◌, ◌^◌, ◌<◌, ◌≤◌}
+use Prim.Native.Nat.{ℕ, zero, suc, ◌+◌, ◌-◌, ◌*◌, ◌/◌, ◌%◌, ◌<◌, ◌≤◌}
 use mathlib.Core.Path.{◌≡◌, refl, ap, ◌∙◌}
-use mathlib.Core.List.{List, ◌++◌}
+use mathlib.Core.List.{List, [], ◌∷◌, ◌++◌}
 use native.Mathlib.Nat.{mul_comm, mul-zero, mul-suc}
 use native.Mathlib.Numerals.{add-one}
 use native.Mathlib.Omega.{arith}
 use borrow.Author.Tests.{lt-ltb, le-ltb, ne_eqb}
 use lib.Arith.{digits_div, digits_mod}
-use lib.ListN.{length, get_or, set, drop, length-set}
+use lib.ListN.{length, get_or, set, take, drop, length-set, take-append-drop}
+use lib.Seq.{drop-cons, take-suc-set, drop-set-lt}
+use Rattle.std.proofs.Common.{append_assoc}
+use Rattle.std.specs.Int.{w16, w64, to_be_bytes}
 use lib.Seq.{drop_at}
 use lib.Ieee.{Float, binary64, to_bits}
 use Rattle.refusal.specs.Answers.{Answered, given, refused, giving, unless_refused}
@@ -17,22 +20,31 @@ use Rattle.lists.proofs.Tabulated.{length_tabulate}
 use Rattle.lists.proofs.Replaced.{Replaced, replaced_none, replaced_next, replaced_over}
 use Rattle.sheet.specs.Codes.{width_for}
 use Rattle.sheet.specs.Format.{sheet_length, length_for, first_byte, entries_from, entry_place, entries_to, byte_of, sheet_byte, sheet_of}
-use Rattle.sheet.proofs.Triangle.{code_ends, length_is_lem, place_at, row_more}
+use Rattle.sheet.proofs.Triangle.{entry_within, offset_start, code_ends, length_is_lem, place_at, row_more}
 use Rattle.sheet_writer.specs.Writer.{write_answer, WriteOutcome, write_outcome, overwritten, written_of, write_of}
-use Rattle.sheet_writer.specs.Steps.{with_bytes, with_codes, with_entries}
+use Rattle.sheet_writer.specs.Steps.{with_bytes, with_codes, with_entries, put_of}
 
--- ---- a word, byte after byte
--- the 8 bytes of an entry
-pub word_put : (v o : ℕ) (b : List ℕ) → v < 2 ^ 64
-    → set (set (set (set (set (set (set (set b o (v / 0x100_0000_0000_0000)) (o + 1) (v / 0x1_0000_0000_0000 % 256)) (o + 2) (v / 0x100_0000_0000 % 256))
-    (o + 3) (v / 0x1_0000_0000 % 256)) (o + 4) (v / 0x100_0000 % 256)) (o + 5) (v / 0x1_0000 % 256)) (o + 6) (v / 0x100 % 256)) (o + 7) (v % 256)
-    ≡ with_bytes 8 v o 8 b
-unfolding with_bytes byte_of
-word_put v o b h =
-    let x : v / 0x100_0000_0000_0000 % 256 ≡ v / 0x100_0000_0000_0000 = omega arith in
+-- ---- a slice that is copied over, byte after byte
+-- With xs from place o + k on.
+set_from : ℕ → ℕ → List ℕ → List ℕ → List ℕ
+set_from o k [] b = b
+set_from o k (x ∷ xs) b = set_from o (k + 1) xs (set b (o + k) x)
+
+copied : (o k i : ℕ) (xs b : List ℕ) → i ≡ o + k → i + length xs ≤ length b → take i b ++ (xs ++ drop (length xs) (drop i b)) ≡ set_from o k xs b
+unfolding set_from
+copied o k i [] b e h = take-append-drop i b
+copied o k i (x ∷ xs) b e h =
+    let inside : i < length b = omega arith in
+    let room : suc i + length xs ≤ length (set b i x) = rw (length-set b i x) (omega arith) in
+    let rest = copied o (k + 1) (suc i) xs (set b i x) (omega arith) room in
+    rw (drop-cons b i 0 inside, ← e) (rw (take-suc-set b i x inside, drop-set-lt (suc i) b i x (omega arith), append_assoc) at rest)
+
+-- the 8 bytes of a word
+pub word_put : (v o n : ℕ) (b : List ℕ) → n ≡ 8 → o + 8 ≤ length b → take o b ++ (to_be_bytes w64 v ++ drop n (drop o b)) ≡ with_bytes 8 v o 8 b
+unfolding set_from with_bytes byte_of
+word_put v o n b e h =
     let y : v / 1 ≡ v = omega arith in
-    let z : o + 0 ≡ o = omega arith in
-    rw (x, y, z)
+    rw e (copied o 0 o (to_be_bytes w64 v) b (omega arith) h ∙ rw y)
 
 -- the byte of a short code
 pub short_put : (w v o : ℕ) (b : List ℕ) → w ≡ 1 → set b o (v % 256) ≡ with_bytes w v o w b
@@ -43,13 +55,11 @@ short_put w v o b e =
     rw (e, y, z)
 
 -- the 2 bytes of a long one
-pub long_put : (w v o : ℕ) (b : List ℕ) → w ≡ 2 → v < 2 ^ 16 → set (set b o (v / 256)) (o + 1) (v % 256) ≡ with_bytes w v o w b
-unfolding with_bytes byte_of
-long_put w v o b e h =
-    let x : v / 256 % 256 ≡ v / 256 = omega arith in
+pub long_put : (w v o n : ℕ) (b : List ℕ) → w ≡ 2 → n ≡ 2 → o + 2 ≤ length b → take o b ++ (to_be_bytes w16 v ++ drop n (drop o b)) ≡ with_bytes w v o w b
+unfolding set_from with_bytes byte_of
+long_put w v o n b e f h =
     let y : v / 1 ≡ v = omega arith in
-    let z : o + 0 ≡ o = omega arith in
-    rw (e, x, y, z)
+    rw (e, f) (copied o 0 o (to_be_bytes w16 v) b (omega arith) h ∙ rw y)
 
 -- ---- lengths
 with_bytes_long : (m v o k : ℕ) (l : List ℕ) → length (with_bytes m v o k l) ≡ length l
@@ -85,11 +95,15 @@ module _ (w n : ℕ) (A : ℕ → ℕ → Float) (b : List ℕ) where
       let c : j + 1 ≡ suc j = omega arith in
       rw (z, place_at i j h, ← e) (q ∙ rw (g, f, r, c, p))
 
-  pub row_none : (i : ℕ) {l : List ℕ} → l ≡ with_entries w n A (entries_to i) b → l ≡ with_entries w n A (entries_to i + 0) b
-  row_none i e = let z : entries_to i + 0 ≡ entries_to i = omega arith in rw z e
-
   pub row_all : (i : ℕ) {l : List ℕ} → l ≡ with_entries w n A (entries_to i + (i + 1)) b → l ≡ with_entries w n A (entries_to (i + 1)) b
   row_all i e = rw (row_more i) e
+
+-- ---- what the writing of a code, of codes and of entries is proved by
+pub ruleset code_bytes = (short_put, long_put)
+
+pub ruleset code_steps = (codes_none, codes_next, bytes_long)
+
+pub ruleset entry_steps = (entries_none, entries_next, row_all, row_more, bytes_long, entry_within, offset_start)
 
 -- ---- the bytes of a sheet, one after the other
 module _ (w n sweeps : ℕ) (codes : List ℕ) (A : ℕ → ℕ → Float) where
@@ -182,16 +196,10 @@ module _ (n sweeps : ℕ) (codes : List ℕ) (A : ℕ → ℕ → Float) where
 
 -- ---- a refused writing, and one that is not
 module _ (n sweeps : ℕ) (codes : List ℕ) (l : List Float) (b : List ℕ) where
-  pub written_over : {w first count : ℕ} {b₁ b₂ : List ℕ} → length codes ≡ n → length_for n codes ≤ length b → w ≡ width_for codes → first ≡ first_byte w n
-      → b₁ ≡ with_codes w codes (length codes) (set (set b 0 first) 1 sweeps) → b₂ ≡ with_entries w n (at n l) (entries_to n) b₁ → count ≡ sheet_length w n
-      → write_outcome (given count) b₂ ≡ written_of n sweeps codes l b
-  unfolding overwritten
-  written_over z o e f g h c = rw (c, h, g, f, z, e, all_written n sweeps codes (at n l) b o)
-
-  pub write_refused : {k : ℕ} {values : List ℕ} → refused k values ≡ write_answer n sweeps codes l (length b)
-      → write_outcome (refused k values) b ≡ write_of n sweeps codes l b
-  unfolding write_of
-  write_refused e = rw (← e)
+  pub written_over : {w count : ℕ} {b' : List ℕ} → length_for n codes ≤ length b → w ≡ width_for codes → b' ≡ put_of w n sweeps codes (at n l) b
+      → count ≡ sheet_length w n → write_outcome (given count) b' ≡ written_of n sweeps codes l b
+  unfolding overwritten put_of
+  written_over o e h c = rw (c, h, e, all_written n sweeps codes (at n l) b o)
 
   pub write_accepted_as : {o : WriteOutcome} → given tt ≡ write_answer n sweeps codes l (length b) → o ≡ written_of n sweeps codes l b
       → o ≡ write_of n sweeps codes l b

@@ -1,14 +1,13 @@
 -- Document 01, "Refused, by place", and document 02 (i): what the writer of sheets answers and leaves. Definitions only.
-use Rattle.std.specs.Prelude.{ℕ, not, ◌&&◌, List, [], ◌∷◌, ◌++◌, eqb, ltb, length, drop, Float}
-use Rattle.refusal.specs.Answers.{Answered, given, refused_by, unless_refused, row, table}
+use Rattle.std.specs.Prelude.{ℕ, not, ◌&&◌, List, [], ◌∷◌, ◌++◌, eqb, ltb, length, drop, Float, Result}
+use Rattle.refusal.specs.Answers.{Answered, given, answered_as, unless_refused, row, table}
+use Rattle.refusal.specs.declared.Refusal.{Refusal}
 use Rattle.refusal.specs.declared.Refusal.TheVariants.{Length, Code, TooShort}
 use Rattle.sizes.specs.Sizes.{order_row, sweeps_row}
 use Rattle.matrix.specs.Matrix.{at}
 use Rattle.matrix.specs.Entries.{is_square, finite_row, mirror_row}
 use Rattle.sheet.specs.Format.{length_for, sheet_of}
 use Rattle.sheet.specs.Codes.{bad_codes}
-use Rattle.sheet_writer.specs.declared.Writing.{Writing}
-use Rattle.sheet_writer.specs.declared.Writing.TheVariants.{Written, Refused}
 
 -- The table from top to bottom. lb is the number of lent bytes.
 unfoldable pub write_answer : ℕ → ℕ → List ℕ → List Float → ℕ → Answered Unit
@@ -25,9 +24,8 @@ pub record WriteOutcome : Type 0 where
 abbrev pub write_outcome : Answered ℕ → List ℕ → WriteOutcome
 write_outcome a b = record { answer = a; bytes = b }
 
-abbrev pub writing_answered : Writing → Answered ℕ
-writing_answered (Written count) = given count
-writing_answered (Refused r) = refused_by r
+abbrev pub writing_answered : Result ℕ Refusal → Answered ℕ
+writing_answered = answered_as (λ count. count)
 
 -- A longer buffer keeps its tail.
 unfoldable pub overwritten : ℕ → ℕ → List ℕ → List Float → List ℕ → List ℕ

@@ -5,7 +5,7 @@ use mathlib.Core.Bool.{Bool, true, false, not, ◌&&◌, true≢false}
 use mathlib.Core.List.{[], ◌∷◌}
 use native.Mathlib.Omega.{arith}
 use native.Mathlib.Nat.{suc-mul, mul-le-mul}
-use borrow.Author.Tests.{lt-ltb, le-ltb, ltb-false, leb-true, le-leb, lt-leb}
+use borrow.Author.Tests.{le-ltb, ltb-false, leb-true, le-leb}
 use lib.Dec.{ltb, leb}
 use Rattle.refusal.specs.Answers.{Answered, given, refused_by, or_else, row, table}
 use Rattle.refusal.specs.declared.Refusal.TheVariants.{Order, Sweeps}
@@ -24,10 +24,6 @@ order_is n e = let a = and_true (leb 2 n) _ e in (leb-true _ _ a.0, leb-true _ _
 
 -- ---- the test
 module _ (n : ℕ) where
-  pub small_refused : n < 2 → false ≡ is_order n
-  unfolding is_order
-  small_refused h = rw (lt-leb 2 n h)
-
   pub by_largest : 2 ≤ n → leb n largest_order ≡ is_order n
   unfolding is_order
   by_largest h = rw (le-leb 2 n h)
@@ -75,10 +71,6 @@ module _ (n sweeps : ℕ) where
   pub refused_1 : is_order n ≡ false → refused_by Order ≡ sizes_answer n sweeps
   unfolding sizes_answer
   refused_1 e = rw e
-
-  pub refused_2 : is_order n ≡ true → most_sweeps < sweeps → refused_by Sweeps ≡ sizes_answer n sweeps
-  unfolding sizes_answer
-  refused_2 e h = rw (e, lt-ltb most_sweeps sweeps h)
 
   pub sizes_fine : is_order n ≡ true → sweeps ≤ most_sweeps → given tt ≡ sizes_answer n sweeps
   unfolding sizes_answer

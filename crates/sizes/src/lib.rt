@@ -4,7 +4,7 @@ ghost use Rattle.std.specs.Prelude.{◌≡◌, true, ◌≤◌};
 ghost use Rattle.refusal.specs.Answers.{answered};
 ghost use Rattle.sizes.specs.Sizes.{most_sweeps, is_order, processors_of, sweep_steps, first_line, still_of, steps_of, ticks_of, sizes_answer};
 
-use refusal::{Answer, Refusal};
+use refusal::Refusal;
 
 // The most processors, and so the most tiles in a row of the array.
 pub const MOST_PROCESSORS: usize = 16;
@@ -25,43 +25,39 @@ pub const MOST_TILES: usize = MOST_PROCESSORS * MOST_PROCESSORS;
 pub const MOST_ENTRIES: usize = LARGEST_ORDER * LARGEST_ORDER;
 
 // Refusals 1 and 2.
-pub fn tested(n: usize, sweeps: usize) -> Answer
+#[tactic(auto, unfolding(crate::specs::Sizes::sizes_answer))]
+pub fn tested(n: usize, sweeps: usize) -> Result<(), Refusal>
     ensures { answered result ≡ sizes_answer n sweeps }
 {
     if !is_order(n) {
-        return Answer::Refused(Refusal::Order);
+        return Err(Refusal::Order);
     }
     if sweeps > MOST_SWEEPS {
-        return Answer::Refused(Refusal::Sweeps);
+        return Err(Refusal::Sweeps);
     }
-    Answer::Accepted
+    Ok(())
 }
 
 // Whether n is an order.
+#[tactic(auto, unfolding(crate::specs::Sizes::is_order))]
 pub fn is_order(n: usize) -> bool
     ensures { result ≡ is_order n }
 {
-    if n < 2 {
-        return false;
-    }
-    n <= LARGEST_ORDER
+    2 <= n && n <= LARGEST_ORDER
 }
 
 // The number of processors.
 pub fn processors_of(n: usize) -> usize
     ensures { result ≡ processors_of n }
 {
-    n / 2 + n % 2
+    n.div_ceil(2)
 }
 
 // The number of steps in a sweep.
 pub fn sweep_steps(n: usize) -> usize
     ensures { result ≡ sweep_steps n }
 {
-    if n == 0 {
-        return 0;
-    }
-    n - 1 + n % 2
+    n.saturating_sub(1) + n % 2
 }
 
 // The line in the left register of processor 1 at first.

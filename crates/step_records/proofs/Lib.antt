@@ -1,5 +1,4 @@
 pub mod RecordRefusals
-pub mod AbsentProcessor
 pub mod WrittenRows
 pub mod FoundRecords
 pub mod LeftRows

@@ -1,45 +1,49 @@
 -- What a call writes fits the row, and with its answer it is the outcome. Assumes nothing.
-use Prim.Native.Nat.{ℕ, ◌≤◌, zero-le}
-use mathlib.Core.Path.{◌≡◌, refl}
-use mathlib.Core.Bool.{Bool, true, false, not, cond}
-use mathlib.Core.List.{List}
-use borrow.Author.Tests.{ltb-false}
-use lib.Dec.{ltb}
+use Prim.Native.Nat.{ℕ, zero, suc, ◌≤◌, zero-le}
+use mathlib.Core.Path.{◌≡◌, refl, ap}
+use mathlib.Core.List.{List, [], ◌∷◌, ◌++◌}
 use lib.Ieee.{Float}
-use lib.ListN.{length}
-use Rattle.refusal.specs.Answers.{Answered, given, refused, or_else, row, unless_refused}
-use Rattle.refusal.specs.declared.Refusal.TheVariants.{Order, TooShort}
+use lib.ListN.{length, take, drop}
+use lib.Seq.{length-take-le}
+use Rattle.refusal.specs.Answers.{Answered, given, refused}
 use Rattle.lists.specs.Over.{over}
+use Rattle.lists.proofs.Over.{over_next}
 use Rattle.ordering.specs.declared.Registers.{Registers}
-use Rattle.sizes.specs.Sizes.{is_order, processors_of}
-use Rattle.ordering.specs.Pairs.{no_registers, or_none, registers_at}
-use Rattle.matrix.specs.Entries.{entries_of}
+use Rattle.sizes.specs.Sizes.{processors_of}
+use Rattle.ordering.specs.Pairs.{or_none, registers_at}
 use Rattle.step_records.specs.declared.Record.{Record}
 use Rattle.step_records.specs.Records.{record_at, before_records, row_outcome, records_of, written}
-use Rattle.step_records.proofs.RecordRefusals.{by_parts}
+use Rattle.step_records.proofs.FoundRecords.{accepted_call}
+
+pub room_enough : (n : ℕ) (l : List Float) (room : ℕ) → before_records n l room ≡ given tt → processors_of n ≤ room
+room_enough n l room e = (accepted_call n l room e).enough
 
 -- Nothing is written to a row that is too short.
-room_left : (n room : ℕ) (b : Bool) (e : Answered Unit) (short : Bool) → ltb room (processors_of n) ≡ short
-    → written n (or_else (row (not b) Order) (or_else e (row short TooShort))) ≤ room
-room_left n room false e short s = zero-le
-room_left n room true (refused k values) short s = zero-le
-room_left n room true (given x) true s = zero-le
-room_left n room true (given x) false s = ltb-false room (processors_of n) s
-
 pub written_fits : (n : ℕ) (l : List Float) (room : ℕ) → written n (before_records n l room) ≤ room
-written_fits n l room = rw (by_parts n l room) (room_left n room (is_order n) (entries_of n l) (ltb room (processors_of n)) refl)
+written_fits n l room = go (before_records n l room) refl
+  where
+    go : (a : Answered Unit) → before_records n l room ≡ a → written n a ≤ room
+    go (given tt) e = room_enough n l room e
+    go (refused k values) e = zero-le
 
--- The registers only count where the order is no refusal.
-by_answer : (n : ℕ) (l : List Float) (ys : List Record) (none r : Registers) (b : Bool) (t : Answered Unit)
-    → row_outcome (or_else (row (not b) Order) t) (over (written n (or_else (row (not b) Order) t)) (record_at n l (cond b r none)) ys)
-    ≡ unless_refused (or_else (row (not b) Order) t) (row_outcome (given tt) (over (processors_of n) (record_at n l r) ys)) (λ a. row_outcome a ys)
-by_answer n l ys none r false t = refl
-by_answer n l ys none r true (given x) = refl
-by_answer n l ys none r true (refused k values) = refl
+-- ---- the row in two parts
+pub over_front : {A : Type 0} (m : ℕ) (f : ℕ → A) (l : List A) → over m f (take m l) ++ drop m l ≡ over m f l
+over_front zero f l = refl
+over_front (suc m) f [] = refl
+over_front {A} (suc m) f (x ∷ l) = ap {B = List A} (λ t. f 0 ∷ t) (over_front m (λ k. f (suc k)) l)
 
-pub outcome : (n : ℕ) (l : List Float) (step : ℕ) (ys : List Record) (a : Answered Unit) → a ≡ before_records n l (length ys)
-    → row_outcome a (over (written n a) (record_at n l (or_none n (registers_at n step))) ys) ≡ records_of n l step ys
-unfolding records_of
-outcome n l step ys a e =
-    rw (e, by_parts n l (length ys))
-    (by_answer n l ys no_registers (registers_at n step) (is_order n) (or_else (entries_of n l) (row (ltb (length ys) (processors_of n)) TooShort)))
+module _ (n : ℕ) (l : List Float) (step : ℕ) (ys : List Record) where
+  -- what a refused call leaves
+  pub row_left : (k : ℕ) (values : List ℕ) → before_records n l (length ys) ≡ refused k values → records_of n l step ys ≡ row_outcome (refused k values) ys
+  unfolding records_of
+  row_left k values e = rw e
+
+  -- and one that is not refused
+  pub row_written : (front : List Record) (r : Registers) → before_records n l (length ys) ≡ given tt → r ≡ or_none n (registers_at n step)
+      → front ≡ over (processors_of n) (record_at n l r) (take (processors_of n) ys)
+      → records_of n l step ys ≡ row_outcome (given tt) (front ++ drop (processors_of n) ys)
+  unfolding records_of
+  row_written front r e a b = rw (b, a, e, (accepted_call n l (length ys) e).order, over_front)
+
+-- What writing a row is proved by.
+pub ruleset row_steps = (row_left, row_written, room_enough, length-take-le, over_next)

@@ -1,14 +1,11 @@
 #![tactic(auto)]
 // The records of a step (document 01, "One rotation", last paragraph, and document 02 (ii) and (vii)).
-ghost use Rattle.std.specs.Prelude.{◌≡◌, cond, ltb};
-ghost use Rattle.refusal.specs.Answers.{refused_by, given, answered};
-ghost use Rattle.refusal.specs.declared.Refusal.TheVariants.{TooShort};
-ghost use Rattle.ordering.specs.Pairs.{or_none, registers_at};
-ghost use Rattle.step_records.specs.Records.{record_of, record_at, before_records, row_outcome, records_of, written};
-ghost use Rattle.sizes.specs.Sizes.{processors_of};
+ghost use Rattle.std.specs.Prelude.{◌≡◌};
+ghost use Rattle.refusal.specs.Answers.{answered};
+ghost use Rattle.step_records.specs.Records.{record_of, record_at, before_records, row_outcome, records_of};
 
 use ordering::Registers;
-use refusal::{Answer, Refusal};
+use refusal::Refusal;
 use rotation::{Found, Parameters};
 use sizes::MOST_PROCESSORS;
 
@@ -22,111 +19,74 @@ pub struct Record {
 }
 
 // An answer, and the row beside it.
+// Stays a struct: a refused call gives its row back too, as `records_of` says, and a Result would have none.
 #[derive(Clone, Copy)]
 pub struct Recorded {
-    pub answer: Answer,
+    pub answer: Result<(), Refusal>,
     pub row: [Record; MOST_PROCESSORS],
 }
 
 // Writes the records of a step's N pairs to the front of a lent row.
-pub fn of_step(n: usize, matrix: &[f64], step: usize, row: &mut [Record]) -> Answer
+#[tactic(auto, using(crate::proofs::WrittenRows::row_steps))]
+pub fn of_step(n: usize, matrix: &[f64], step: usize, row: &mut [Record]) -> Result<(), Refusal>
     ensures { row_outcome (answered result) row.new ≡ records_of n matrix.now step row.old }
 {
-    let answer = verdict(n, matrix, row.len());
-    let count = count(n, answer);
-    let registers = registers(n, step);
-    let mut k = 0;
-    while k < count {
-        row[k] = of_processor(n, matrix, registers, k);
-        k = k + 1;
+    verdict(n, matrix, row.len())?;
+    let processors = sizes::processors_of(n);
+    let registers = ordering::pairs(n, step).registers;
+    for (k, record) in row[..processors].iter_mut().enumerate() {
+        *record = of_processor(n, matrix, registers, k);
     }
-    answer
+    Ok(())
 }
 
 // The same for a row that is handed over and given back.
-pub fn in_row(n: usize, matrix: &[f64], step: usize, row: [Record; MOST_PROCESSORS]) -> Recorded
+// Stays a function of its own: `docs/CONTRACTS.md` names it.
+pub fn in_row(n: usize, matrix: &[f64], step: usize, mut row: [Record; MOST_PROCESSORS]) -> Recorded
     ensures { row_outcome (answered result.answer) result.row ≡ records_of n matrix.now step row }
 {
-    let mut written = row;
-    let answer = of_step(n, matrix, step, &mut written);
-    Recorded {
-        answer: answer,
-        row: written,
-    }
+    let answer = of_step(n, matrix, step, &mut row);
+    Recorded { answer, row }
 }
 
 // Refusals 1, 3, 5, 6 and 7 of a call that is lent a row of `room` records.
-pub fn verdict(n: usize, matrix: &[f64], room: usize) -> Answer
+#[tactic(auto, using(crate::proofs::RecordRefusals::record_tests))]
+pub fn verdict(n: usize, matrix: &[f64], room: usize) -> Result<(), Refusal>
     ensures { answered result ≡ before_records n matrix.now room }
 {
     if !sizes::is_order(n) {
-        return Answer::Refused(Refusal::Order);
+        return Err(Refusal::Order);
     }
-    match matrix::tested(n, matrix) {
-        Answer::Accepted => with_room(n, room),
-        Answer::Refused(refused) => Answer::Refused(refused),
-    }
-}
-
-// Refusal 7.
-fn with_room(n: usize, room: usize) -> Answer
-    ensures { answered result ≡ cond (ltb room (processors_of n)) (refused_by TooShort) (given tt) }
-{
+    matrix::tested(n, matrix)?;
     if room < sizes::processors_of(n) {
-        return Answer::Refused(Refusal::TooShort);
+        return Err(Refusal::TooShort);
     }
-    Answer::Accepted
-}
-
-// How many records are written.
-fn count(n: usize, answer: Answer) -> usize
-    ensures { result ≡ written n (answered answer) }
-{
-    match answer {
-        Answer::Accepted => sizes::processors_of(n),
-        Answer::Refused(_) => 0,
-    }
-}
-
-// The registers at a step, zeros only where the order is refused.
-fn registers(n: usize, step: usize) -> Registers
-    ensures { result ≡ or_none n (registers_at n step) }
-{
-    let listed = ordering::pairs(n, step);
-    listed.registers
+    Ok(())
 }
 
 // The record of the pair of processor k, from 0.
+#[tactic(auto, unfolding(crate::specs::Records::record_at))]
 pub fn of_processor(n: usize, matrix: &[f64], registers: Registers, k: usize) -> Record
     ensures { result ≡ record_at n matrix.now registers k }
 {
-    let lefts = registers.left;
-    let rights = registers.right;
-    if k < MOST_PROCESSORS {
-        let found = matrix_turns::found(n, lefts[k], rights[k], matrix);
-        return of_found(runs::ruled(n, k, found));
-    }
-    of_found(matrix_turns::found(n, 0, 0, matrix))
+    let left = registers.left.get(k).copied().unwrap_or(0);
+    let right = registers.right.get(k).copied().unwrap_or(0);
+    let found = matrix_turns::found(n, left, right, matrix);
+    of_found(runs::ruled(n, k, found))
 }
 
 // The record of a pair of which this is found.
 pub fn of_found(found: Found) -> Record
     ensures { result ≡ record_of found }
 {
-    let parameters = found.parameters;
     let exact = found.exact;
-    match parameters {
+    match found.parameters {
         Parameters::Still => Record {
             t: 0.0,
             c: 1.0,
             s: 0.0,
-            exact: exact,
+            exact,
         },
-        Parameters::Turn(t, c, s) => Record {
-            t: t,
-            c: c,
-            s: s,
-            exact: exact,
-        },
+        Parameters::Turn(t, c, s) => Record { t, c, s, exact },
     }
 }

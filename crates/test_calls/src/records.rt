@@ -5,36 +5,30 @@ use sizes::MOST_PROCESSORS;
 use std::io::{self, Read, Write};
 use step_records::Record;
 use test_io::runs::LIMIT;
-use test_io::{TextLine, refusals, values};
+use test_io::{Stop, refusals, values, word};
 
-pub fn answer_step<R: Read, W: Write>(input: &mut R, output: &mut W) -> io::Result<bool> {
-    let TextLine::Word(n) = test_io::read_word(input)? else {
-        return Ok(false);
-    };
-    let TextLine::Word(entries) = test_io::read_word(input)? else {
-        return Ok(false);
-    };
-    let TextLine::Word(step) = test_io::read_word(input)? else {
-        return Ok(false);
-    };
-    let TextLine::Word(room) = test_io::read_word(input)? else {
-        return Ok(false);
-    };
-    let TextLine::Word(fill) = test_io::read_word(input)? else {
-        return Ok(false);
-    };
-    let TextLine::Word(flag) = test_io::read_word(input)? else {
-        return Ok(false);
-    };
-    lend(
-        input,
-        output,
-        n as usize,
-        entries as usize,
-        step as usize,
-        room as usize,
-        filled_with(float64::from_bits(fill), flag == 1),
-    )
+// A matrix longer than LIMIT ends the program.
+pub fn answer_step<R: Read, W: Write>(input: &mut R, output: &mut W) -> Result<(), Stop> {
+    let n = word(input)? as usize;
+    let entries = word(input)? as usize;
+    let step = word(input)? as usize;
+    let room = word(input)? as usize;
+    let fill = float64::from_bits(word(input)?);
+    let exact = word(input)? == 1;
+    let mut buffer = [0.0; LIMIT];
+    let matrix = buffer.get_mut(..entries).ok_or(Stop::End)?;
+    values::read_values(input, matrix)?;
+    let verdict = step_records::verdict(n, matrix, room);
+    let recorded = step_records::in_row(
+        n,
+        matrix,
+        step,
+        [filled_with(fill, exact); MOST_PROCESSORS],
+    );
+    refusals::print_answer(output, verdict)?;
+    refusals::print_answer(output, recorded.answer)?;
+    print_row(output, &recorded.row)?;
+    Ok(())
 }
 
 // What every record of a row holds before a call.
@@ -43,46 +37,8 @@ fn filled_with(fill: f64, exact: bool) -> Record {
         t: fill,
         c: fill,
         s: fill,
-        exact: exact,
+        exact,
     }
-}
-
-// Lends a call a part of its own buffer. A length above LIMIT ends the program.
-fn lend<R: Read, W: Write>(
-    input: &mut R,
-    output: &mut W,
-    n: usize,
-    entries: usize,
-    step: usize,
-    room: usize,
-    filled: Record,
-) -> io::Result<bool> {
-    if entries > LIMIT {
-        return Ok(false);
-    }
-    let mut matrix = [0.0; LIMIT];
-    answer(input, output, n, step, room, filled, &mut matrix[..entries])
-}
-
-// Reads the matrix, asks for the records and writes them.
-fn answer<R: Read, W: Write>(
-    input: &mut R,
-    output: &mut W,
-    n: usize,
-    step: usize,
-    room: usize,
-    filled: Record,
-    matrix: &mut [f64],
-) -> io::Result<bool> {
-    if !values::read_values(input, matrix)? {
-        return Ok(false);
-    }
-    let verdict = step_records::verdict(n, matrix, room);
-    let recorded = step_records::in_row(n, matrix, step, [filled; MOST_PROCESSORS]);
-    refusals::print_answer(output, verdict)?;
-    refusals::print_answer(output, recorded.answer)?;
-    print_row(output, &recorded.row)?;
-    Ok(true)
 }
 
 fn print_row<W: Write>(output: &mut W, row: &[Record; MOST_PROCESSORS]) -> io::Result<()> {
@@ -93,8 +49,6 @@ fn print_row<W: Write>(output: &mut W, row: &[Record; MOST_PROCESSORS]) -> io::R
 }
 
 fn print_record<W: Write>(output: &mut W, record: Record) -> io::Result<()> {
-    values::print_value(output, record.t)?;
-    values::print_value(output, record.c)?;
-    values::print_value(output, record.s)?;
+    values::print_values(output, &[record.t, record.c, record.s])?;
     values::print_exactness(output, record.exact)
 }

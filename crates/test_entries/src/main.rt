@@ -1,11 +1,12 @@
 #![tactic(auto)]
 // Makes the calls of document 01, "Entries to try", in its order, and writes what each answers and leaves. Results are lent filled with 9.
 // tools/entries_to_try.py writes the expected output.
-use array_run::Completion;
+use array_run::WholeReport;
 use ordering::Registers;
-use plain_run::Ran;
+use plain_run::Report;
+use refusal::Refusal;
 use root::Root;
-use sheet_reader::Reading;
+use sheet_reader::Sizes;
 use std::io::{self, ErrorKind, Write};
 use test_io::runs::LIMIT;
 use test_io::{refusals, values};
@@ -26,56 +27,59 @@ fn write_all<W: Write>(output: &mut W) -> io::Result<()> {
 
 // 4, -0, 2, 2^-1074, 1 - 2^-53, 1 + 2^-52.
 fn write_roots<W: Write>(output: &mut W) -> io::Result<()> {
-    write_root(output, 0x4010_0000_0000_0000)?;
-    write_root(output, 0x8000_0000_0000_0000)?;
-    write_root(output, 0x4000_0000_0000_0000)?;
-    write_root(output, 1)?;
-    write_root(output, 0x3FEF_FFFF_FFFF_FFFF)?;
-    write_root(output, 0x3FF0_0000_0000_0001)
-}
-
-fn write_root<W: Write>(output: &mut W, pattern: u64) -> io::Result<()> {
-    match root::sqrt(float64::from_bits(pattern)) {
-        Root::Of(y, exact) => {
-            values::print_value(output, y)?;
-            values::print_exactness(output, exact)
-        }
-        Root::Refused(refused) => refusals::print_refusal(output, refused),
-    }
-}
-
-fn write_pairs<W: Write>(output: &mut W) -> io::Result<()> {
-    write_list(output, 4, 0)?;
-    write_list(output, 4, 1)?;
-    write_list(output, 4, 2)?;
-    write_list(output, 8, 1)?;
-    write_list(output, 3, 0)?;
-    write_list(output, 3, 1)?;
-    write_list(output, 3, 2)?;
-    write_list(output, 5, 0)?;
-    write_list(output, 5, 1)
-}
-
-fn write_list<W: Write>(output: &mut W, n: usize, step: usize) -> io::Result<()> {
-    let listed = ordering::pairs(n, step);
-    let answer = listed.answer;
-    let registers = listed.registers;
-    refusals::print_answer(output, answer)?;
-    write_registers(output, registers)
-}
-
-fn write_registers<W: Write>(output: &mut W, registers: Registers) -> io::Result<()> {
-    let lefts = registers.left;
-    let rights = registers.right;
-    for k in 0..16 {
-        write_pair(output, lefts[k], rights[k])?;
+    let patterns = [
+        0x4010_0000_0000_0000,
+        0x8000_0000_0000_0000,
+        0x4000_0000_0000_0000,
+        1,
+        0x3FEF_FFFF_FFFF_FFFF,
+        0x3FF0_0000_0000_0001,
+    ];
+    for pattern in patterns {
+        write_root(output, root::sqrt(float64::from_bits(pattern)))?;
     }
     Ok(())
 }
 
-fn write_pair<W: Write>(output: &mut W, left: usize, right: usize) -> io::Result<()> {
-    test_io::print_number(output, b"left", left as u64)?;
-    test_io::print_number(output, b"right", right as u64)
+fn write_root<W: Write>(output: &mut W, root: Result<Root, Refusal>) -> io::Result<()> {
+    match root {
+        Ok(root) => {
+            values::print_value(output, root.value)?;
+            values::print_exactness(output, root.exact)
+        }
+        Err(refused) => refusals::print_refusal(output, refused),
+    }
+}
+
+fn write_pairs<W: Write>(output: &mut W) -> io::Result<()> {
+    for (n, step) in [
+        (4, 0),
+        (4, 1),
+        (4, 2),
+        (8, 1),
+        (3, 0),
+        (3, 1),
+        (3, 2),
+        (5, 0),
+        (5, 1),
+    ] {
+        write_list(output, n, step)?;
+    }
+    Ok(())
+}
+
+fn write_list<W: Write>(output: &mut W, n: usize, step: usize) -> io::Result<()> {
+    let listed = ordering::pairs(n, step);
+    refusals::print_answer(output, listed.answer)?;
+    write_registers(output, listed.registers)
+}
+
+fn write_registers<W: Write>(output: &mut W, registers: Registers) -> io::Result<()> {
+    for (left, right) in registers.left.iter().zip(registers.right.iter()) {
+        test_io::print_number(output, b"left", *left as u64)?;
+        test_io::print_number(output, b"right", *right as u64)?;
+    }
+    Ok(())
 }
 
 // A diagonal matrix, the largest value throughout, no sweep, and the orders 8 and 3.
@@ -90,96 +94,63 @@ fn write_runs<W: Write>(output: &mut W) -> io::Result<()> {
 
 // 0, 1, 33 and 34, which are no orders, and 16 and 17 sweeps.
 fn write_limits<W: Write>(output: &mut W) -> io::Result<()> {
-    write_list(output, 0, 0)?;
-    write_list(output, 1, 0)?;
-    write_list(output, 33, 0)?;
-    write_list(output, 34, 0)?;
-    write_run(output, 0, 1, &[1.0; 4])?;
-    write_run(output, 1, 1, &[1.0; 4])?;
-    write_run(output, 33, 1, &[1.0; 4])?;
-    write_run(output, 34, 1, &[1.0; 4])?;
-    write_run(output, 2, 16, &[1.0; 4])?;
-    write_run(output, 2, 17, &[1.0; 4])
+    for n in [0, 1, 33, 34] {
+        write_list(output, n, 0)?;
+    }
+    for (n, sweeps) in [(0, 1), (1, 1), (33, 1), (34, 1), (2, 16), (2, 17)] {
+        write_run(output, n, sweeps, &[1.0; 4])?;
+    }
+    Ok(())
 }
 
 // A run on the matrix by plain sweeps, and one by the array.
 fn write_run<W: Write>(output: &mut W, n: usize, sweeps: usize, matrix: &[f64]) -> io::Result<()> {
-    lend(output, false, n, sweeps, matrix)?;
-    lend(output, true, n, sweeps, matrix)
+    lend(output, matrix.len(), |output, res, vectors| {
+        write_report(output, plain_run::run(n, sweeps, matrix, res, vectors))
+    })?;
+    lend(output, matrix.len(), |output, res, vectors| {
+        write_whole_report(output, array_run::run(n, sweeps, matrix, res, vectors))
+    })
 }
 
-// Lends a run results as long as the matrix. A length above LIMIT is not lent, and the answer is InvalidInput.
-fn lend<W: Write>(
+// Lends a run results of a length, and writes what it leaves in them. A length above LIMIT is not lent, and the answer is InvalidInput.
+fn lend<W: Write, F: FnOnce(&mut W, &mut [f64], &mut [f64]) -> io::Result<()>>(
     output: &mut W,
-    by_array: bool,
-    n: usize,
-    sweeps: usize,
-    matrix: &[f64],
-) -> io::Result<()> {
-    let entries = matrix.len();
-    if entries > LIMIT {
-        return Err(io::Error::from(ErrorKind::InvalidInput));
-    }
+    entries: usize,
+    run: F,
+) -> io::Result<()>
+    requires { F.IsAlwaysCallable run }
+{
     let mut result = [9.0; LIMIT];
     let mut vectors = [9.0; LIMIT];
-    write_results(
-        output,
-        by_array,
-        n,
-        sweeps,
-        matrix,
-        &mut result[..entries],
-        &mut vectors[..entries],
-    )
-}
-
-fn write_results<W: Write>(
-    output: &mut W,
-    by_array: bool,
-    n: usize,
-    sweeps: usize,
-    matrix: &[f64],
-    res: &mut [f64],
-    vectors: &mut [f64],
-) -> io::Result<()> {
-    write_answer(output, by_array, n, sweeps, matrix, res, vectors)?;
-    values::print_values(output, res)?;
+    let result = result.get_mut(..entries).ok_or(ErrorKind::InvalidInput)?;
+    let vectors = vectors.get_mut(..entries).ok_or(ErrorKind::InvalidInput)?;
+    run(output, result, vectors)?;
+    values::print_values(output, result)?;
     values::print_values(output, vectors)
 }
 
-fn write_answer<W: Write>(
+fn write_report<W: Write>(output: &mut W, report: Result<Report, Refusal>) -> io::Result<()> {
+    match report {
+        Ok(report) => {
+            test_io::print_number(output, b"sweeps", report.sweeps as u64)?;
+            test_io::print_number(output, b"rounded", report.rounded as u64)
+        }
+        Err(refused) => refusals::print_refusal(output, refused),
+    }
+}
+
+fn write_whole_report<W: Write>(
     output: &mut W,
-    by_array: bool,
-    n: usize,
-    sweeps: usize,
-    matrix: &[f64],
-    res: &mut [f64],
-    vectors: &mut [f64],
+    report: Result<WholeReport, Refusal>,
 ) -> io::Result<()> {
-    if by_array {
-        return write_completion(output, array_run::run(n, sweeps, matrix, res, vectors));
-    }
-    write_ran(output, plain_run::run(n, sweeps, matrix, res, vectors))
-}
-
-fn write_ran<W: Write>(output: &mut W, ran: Ran) -> io::Result<()> {
-    match ran {
-        Ran::Made(sweeps, rounded) => {
-            test_io::print_number(output, b"sweeps", sweeps as u64)?;
-            test_io::print_number(output, b"rounded", rounded as u64)
+    match report {
+        Ok(report) => {
+            test_io::print_number(output, b"sweeps", report.sweeps as u64)?;
+            test_io::print_number(output, b"ticks", report.ticks as u64)?;
+            test_io::print_number(output, b"rounded", report.rounded as u64)
         }
-        Ran::Refused(refused) => refusals::print_refusal(output, refused),
-    }
-}
-
-fn write_completion<W: Write>(output: &mut W, completion: Completion) -> io::Result<()> {
-    match completion {
-        Completion::Completed(sweeps, ticks, rounded) => {
-            test_io::print_number(output, b"sweeps", sweeps as u64)?;
-            test_io::print_number(output, b"ticks", ticks as u64)?;
-            test_io::print_number(output, b"rounded", rounded as u64)
-        }
-        Completion::Refused(refused) => refusals::print_refusal(output, refused),
+        Err(refused) => refusals::print_refusal(output, refused),
     }
 }
 
@@ -194,26 +165,27 @@ fn write_sheets<W: Write>(output: &mut W) -> io::Result<()> {
     write_reading(output, &sheet)
 }
 
-fn write_reading<W: Write>(output: &mut W, bytes: &[u8]) -> io::Result<()> {
-    let mut codes = [9u16; 2];
+fn write_reading<W: Write>(output: &mut W, sheet: &[u8]) -> io::Result<()> {
+    let mut codes = [9; 2];
     let mut matrix = [9.0; 4];
-    let reading = sheet_reader::read(bytes, &mut codes, &mut matrix);
-    write_sizes(output, reading)?;
+    write_sizes(output, sheet_reader::read(sheet, &mut codes, &mut matrix))?;
     write_codes(output, codes)?;
     values::print_values(output, &matrix)
 }
 
-fn write_sizes<W: Write>(output: &mut W, reading: Reading) -> io::Result<()> {
-    match reading {
-        Reading::Read(n, sweeps) => {
-            test_io::print_number(output, b"order", n as u64)?;
-            test_io::print_number(output, b"sweeps", sweeps as u64)
+fn write_sizes<W: Write>(output: &mut W, sizes: Result<Sizes, Refusal>) -> io::Result<()> {
+    match sizes {
+        Ok(sizes) => {
+            test_io::print_number(output, b"order", sizes.n as u64)?;
+            test_io::print_number(output, b"sweeps", sizes.sweeps as u64)
         }
-        Reading::Refused(refused) => refusals::print_refusal(output, refused),
+        Err(refused) => refusals::print_refusal(output, refused),
     }
 }
 
 fn write_codes<W: Write>(output: &mut W, codes: [u16; 2]) -> io::Result<()> {
-    test_io::print_number(output, b"code", codes[0] as u64)?;
-    test_io::print_number(output, b"code", codes[1] as u64)
+    for code in codes {
+        test_io::print_number(output, b"code", u64::from(code))?;
+    }
+    Ok(())
 }

@@ -1,2 +1,3 @@
-pub mod ReadsOn
 pub mod ReadWords
+pub mod ReadsOn
+pub mod WrittenTexts

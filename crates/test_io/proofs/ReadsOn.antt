@@ -1,9 +1,7 @@
 -- Facts on `ReadsOn`. Assumes nothing.
-use Prim.Native.Nat.{ℕ}
-use mathlib.Core.List.{List, ◌++◌}
-use Rattle.std.specs.Prelude.{Option}
+use Rattle.std.proofs.Common.{ℕ, List, ◌++◌, Option}
 use Rattle.std.proofs.KnownBytes.{Consumes-trans}
-use Rattle.test_io.specs.TextLines.{ReadsOn}
+use Rattle.input_bytes.specs.Reads.{ReadsOn}
 
 -- one read after another
 pub reads_on_trans : (a b c : Option (List ℕ)) → ReadsOn a b → ReadsOn b c → ReadsOn a c

@@ -1,4 +1,4 @@
-pub mod Counts
+pub mod Cases
 pub mod Digits
 pub mod Runs
 pub mod TextLines

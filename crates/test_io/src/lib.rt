@@ -1,56 +1,31 @@
 #![tactic(auto)]
 // Lines of text for test programs: u64 words as 16 hexadecimal digits in capital letters, read from
 // an input and written to an output, and decimal numbers after a word. The modules have what such
-// programs read and write in these lines: values, whether roots were exact, refusals, and the heads
-// of runs.
-ghost use Rattle.std.specs.Prelude.{◌≡◌, ◌+◌, ◌<◌, ◌≤◌, length, take, IfOk, IsErr, OnOk};
-ghost use Rattle.std.specs.Io.KnownBytes.{Appends, Consumes, IsAtEnd};
-ghost use Rattle.test_io.specs.Counts.{IsPrefixLen};
-ghost use Rattle.test_io.specs.TextLines.{digit_of, word_text_line, word_of, AppendsNumber, Extended, Numbered, ReadsOn, ReadsWord};
+// programs read and write in these lines: cases, values, whether roots were exact, refusals, and the
+// heads of runs.
+ghost use Rattle.std.specs.Prelude.{◌≡◌, ◌<◌, length, IfOk, IsErr, OnOk};
+ghost use Rattle.std.specs.Io.KnownBytes.{Appends};
+ghost use Rattle.input_bytes.specs.Reads.{ReadsOn};
+ghost use Rattle.test_io.specs.TextLines.{digit_of, word_text_line, word_of, AppendsNumber, ReadsWord};
 
+pub use cases::{Stop, answer_all, word};
+use input_bytes::read_full;
 use std::io::{self, ErrorKind, Read, Write};
+use text::Page;
 
-mod decimal;
+mod cases;
 pub mod refusals;
 pub mod runs;
 pub mod values;
 
-#[derive(Clone, Copy)]
-pub enum TextLine {
-    Word(u64),
-    End,
-}
-
-// Reads a line of the input. Its end, and a line that is not 16 digits and a newline, are End.
-pub fn read_word<R: Read>(input: &mut R) -> io::Result<TextLine>
+// Reads a line of the input. At its end there is no word, nor in a line that is not 16 digits and a newline.
+pub fn read_word<R: Read>(input: &mut R) -> io::Result<Option<u64>>
     ensures word { IfOk result (ReadsWord (R.remaining input.old) (R.remaining input.new)) }
     ensures reads_on { ReadsOn (R.remaining input.old) (R.remaining input.new) }
 {
     let mut text = [0u8; 17];
     let n = read_full(input, &mut text)?;
-    if n < 17 {
-        return Ok(TextLine::End);
-    }
-    Ok(parse(&text))
-}
-
-// Reads until the buffer is full or the input ends, and answers how many bytes it holds then.
-fn read_full<R: Read>(input: &mut R, buffer: &mut [u8]) -> io::Result<usize>
-    ensures prefix_len { IfOk result (λ n. IsPrefixLen n buffer.new) }
-    ensures bytes { IfOk result (λ n. Consumes (R.remaining input.old) (R.remaining input.new) (take n buffer.new)) }
-    ensures end { IfOk result (λ n. n < length buffer.new → IsAtEnd (R.remaining input.new)) }
-    ensures reads_on { ReadsOn (R.remaining input.old) (R.remaining input.new) }
-    ensures as_long { length buffer.new ≡ length buffer.old }
-{
-    let mut done = 0;
-    while done < buffer.len() {
-        let n = input.read(&mut buffer[done..])?;
-        if n == 0 {
-            break;
-        }
-        done += n;
-    }
-    Ok(done)
+    Ok(if n < 17 { None } else { parse(&text) })
 }
 
 // Writes n as a line of 16 digits.
@@ -70,29 +45,19 @@ pub fn print_number<W: Write>(output: &mut W, word: &[u8], n: u64) -> io::Result
     if word.len() > 32 {
         return Err(io::Error::from(ErrorKind::InvalidInput));
     }
-    let mut text = [0u8; 54];
-    let k = number(word, n, &mut text);
-    output.write_all(&text[..k])
+    output.write_all(word)?;
+    writeln!(output, " {n}")
 }
 
-// What stands in a text line, which is a word or else End.
-fn parse(text: &[u8; 17]) -> TextLine
+// The word in a text line, if it has one.
+fn parse(text: &[u8; 17]) -> Option<u64>
     ensures { result ≡ word_of text.now }
 {
-    let mut n: u64 = 0;
-    let mut i = 0;
-    while i < 16 {
-        let d = digit(text[i]);
-        if d > 15 {
-            return TextLine::End;
-        }
-        n = n * 16 + d;
-        i += 1;
+    let mut n = 0;
+    for b in &text[..16] {
+        n = n * 16 + digit(*b)?;
     }
-    if text[16] == b'\n' {
-        return TextLine::Word(n);
-    }
-    TextLine::End
+    if text[16] == b'\n' { Some(n) } else { None }
 }
 
 // The text line of n: 16 digits and a newline.
@@ -100,49 +65,22 @@ fn spell(n: u64) -> [u8; 17]
     ensures { result ≡ word_text_line n }
 {
     let mut bytes = [b'\n'; 17];
-    text::put_hex(n, 0, &mut bytes);
+    let mut page = Page {
+        bytes: &mut bytes,
+        end: 0,
+    };
+    page.put_hex(n);
     bytes
 }
 
-// Puts word, a space, n in decimal and a newline at the start of out, and answers their length.
-fn number(word: &[u8], n: u64, out: &mut [u8]) -> usize
-    requires { length word.now + 22 ≤ length out.old }
-    ensures prefix_len { IsPrefixLen result out.new }
-    ensures numbered { Numbered word.now n (take result out.new) }
-{
-    let mut digits = [0u8; 20];
-    let k = decimal::put_decimal(n, &mut digits);
-    let mut at = put(out, 0, word);
-    at = put(out, at, b" ");
-    at = put(out, at, &digits[..k]);
-    put(out, at, b"\n")
-}
-
-// Puts text into out from at on, and answers where it ends.
-fn put(out: &mut [u8], at: usize, text: &[u8]) -> usize
-    requires { at + length text.now ≤ length out.old }
-    ensures { Extended out.old at text.now out.new result }
-{
-    let end = at + text.len();
-    out[at..end].copy_from_slice(text);
-    end
-}
-
-// The digit that b is the code of, and 16 where it is none's.
-fn digit(b: u8) -> u64
+// The digit that b is the code of.
+#[tactic(auto, unfolding(crate::specs::TextLines::digit_of))]
+fn digit(b: u8) -> Option<u64>
     ensures { result ≡ digit_of b }
 {
-    if b < b'0' {
-        return 16;
+    match b {
+        b'0'..=b'9' => Some((b - b'0') as u64),
+        b'A'..=b'F' => Some((b - b'A' + 10) as u64),
+        _ => None,
     }
-    if b <= b'9' {
-        return (b - b'0') as u64;
-    }
-    if b < b'A' {
-        return 16;
-    }
-    if b <= b'F' {
-        return (b - b'A' + 10) as u64;
-    }
-    16
 }

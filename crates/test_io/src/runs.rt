@@ -2,9 +2,8 @@
 // vectors, and the word that both results are filled with.
 ghost use Rattle.std.specs.Prelude.{IfOk};
 ghost use Rattle.test_io.specs.Runs.{Lendable};
-ghost use Rattle.test_io.specs.TextLines.{ReadsOn};
+ghost use Rattle.input_bytes.specs.Reads.{ReadsOn};
 
-use crate::TextLine;
 use sizes::LARGEST_ORDER;
 use std::io::{self, Read};
 
@@ -25,35 +24,19 @@ pub struct Run {
     pub fill: f64,
 }
 
-#[derive(Clone, Copy)]
-pub enum Head {
-    Run(Run),
-    End,
-}
-
-// Reads the head of a run. The end of the input is End, and so is a length above LIMIT.
-pub fn read_head<R: Read>(input: &mut R) -> io::Result<Head>
+// Reads the head of a run. Where the input ends there is none, and with a length above LIMIT neither.
+pub fn read_head<R: Read>(input: &mut R) -> io::Result<Option<Run>>
     ensures lendable { IfOk result Lendable }
     ensures reads_on { ReadsOn (R.remaining input.old) (R.remaining input.new) }
 {
-    let TextLine::Word(n) = crate::read_word(input)? else {
-        return Ok(Head::End);
-    };
-    let TextLine::Word(sweeps) = crate::read_word(input)? else {
-        return Ok(Head::End);
-    };
-    let TextLine::Word(matrix) = crate::read_word(input)? else {
-        return Ok(Head::End);
-    };
-    let TextLine::Word(result) = crate::read_word(input)? else {
-        return Ok(Head::End);
-    };
-    let TextLine::Word(vectors) = crate::read_word(input)? else {
-        return Ok(Head::End);
-    };
-    let TextLine::Word(fill) = crate::read_word(input)? else {
-        return Ok(Head::End);
-    };
+    let mut words = [0; 6];
+    for word in words.iter_mut() {
+        let Some(next) = crate::read_word(input)? else {
+            return Ok(None);
+        };
+        *word = next;
+    }
+    let [n, sweeps, matrix, result, vectors, fill] = words;
     Ok(checked(Run {
         n: n as usize,
         sweeps: sweeps as usize,
@@ -65,17 +48,9 @@ pub fn read_head<R: Read>(input: &mut R) -> io::Result<Head>
 }
 
 // The run, if every length is within LIMIT.
-fn checked(run: Run) -> Head
+fn checked(run: Run) -> Option<Run>
     ensures { Lendable result }
 {
-    if run.matrix > LIMIT {
-        return Head::End;
-    }
-    if run.result > LIMIT {
-        return Head::End;
-    }
-    if run.vectors > LIMIT {
-        return Head::End;
-    }
-    Head::Run(run)
+    let fits = run.matrix <= LIMIT && run.result <= LIMIT && run.vectors <= LIMIT;
+    if fits { Some(run) } else { None }
 }

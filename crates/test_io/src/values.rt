@@ -6,18 +6,15 @@ ghost use Rattle.std.specs.Float.Ieee.{to_bits};
 ghost use Rattle.std.specs.Io.KnownBytes.{Appends};
 ghost use Rattle.test_io.specs.TextLines.{word_text_line};
 
-use crate::TextLine;
+use crate::Stop;
 use std::io::{self, Read, Write};
 
-// Reads the values of a, and says whether they were all there.
-pub fn read_values<R: Read>(input: &mut R, a: &mut [f64]) -> io::Result<bool> {
-    for k in 0..a.len() {
-        let TextLine::Word(word) = crate::read_word(input)? else {
-            return Ok(false);
-        };
-        a[k] = float64::from_bits(word);
+// Reads the values of a.
+pub fn read_values<R: Read>(input: &mut R, a: &mut [f64]) -> Result<(), Stop> {
+    for x in a {
+        *x = float64::from_bits(crate::word(input)?);
     }
-    Ok(true)
+    Ok(())
 }
 
 // Writes the values of a, one to a line.

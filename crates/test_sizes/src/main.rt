@@ -12,20 +12,26 @@ fn main(rt: HostRuntime) -> io::Result<()> {
 }
 
 fn print_limits<W: Write>(output: &mut W) -> io::Result<()> {
-    test_io::print_number(output, b"lines", LARGEST_ORDER as u64)?;
-    test_io::print_number(output, b"sweeps", MOST_SWEEPS as u64)?;
-    test_io::print_number(output, b"processors", MOST_PROCESSORS as u64)?;
-    test_io::print_number(output, b"words", array_words::ARRAY as u64)?;
-    test_io::print_number(output, b"tile", array_words::TILE as u64)?;
-    test_io::print_number(output, b"longest sheet", sheet::LONGEST as u64)?;
-    test_io::print_number(output, b"longest text", listing_text::LONGEST as u64)
+    let limits = [
+        ("lines", LARGEST_ORDER),
+        ("sweeps", MOST_SWEEPS),
+        ("processors", MOST_PROCESSORS),
+        ("words", array_words::ARRAY),
+        ("tile", array_words::TILE),
+        ("longest sheet", sheet::LONGEST),
+        ("longest text", listing_text::LONGEST),
+    ];
+    for (name, size) in limits {
+        test_io::print_number(output, name.as_bytes(), size as u64)?;
+    }
+    Ok(())
 }
 
 fn print_lengths<W: Write>(output: &mut W) -> io::Result<()> {
-    for k in 0..LARGEST_ORDER {
-        test_io::print_number(output, b"sheet", sheet::length_of(1, k + 1) as u64)?;
-        test_io::print_number(output, b"long sheet", sheet::length_of(2, k + 1) as u64)?;
-        test_io::print_number(output, b"text", listing_text::room_for(k + 1) as u64)?;
+    for n in 1..=LARGEST_ORDER {
+        test_io::print_number(output, b"sheet", sheet::length_of(1, n) as u64)?;
+        test_io::print_number(output, b"long sheet", sheet::length_of(2, n) as u64)?;
+        test_io::print_number(output, b"text", listing_text::room_for(n) as u64)?;
     }
     Ok(())
 }

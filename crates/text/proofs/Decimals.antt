@@ -1,6 +1,6 @@
 -- How many digits a number has in decimal, and examples that are computed. Assumes nothing.
 use Prim.Native.Nat.{ℕ, ◌+◌, ◌<◌, ◌≤◌}
-use mathlib.Core.Path.{◌≡◌, refl, sym, ap}
+use mathlib.Core.Path.{◌≡◌, refl, ap}
 use mathlib.Core.Bool.{Bool, true, false, cond}
 use mathlib.Core.List.{[], ◌∷◌}
 use native.Mathlib.Omega.{arith}
@@ -24,7 +24,7 @@ unfolding shown_from
 shown_most u n = at_most_one (ltb n u) _
 
 shown_none : (u n : ℕ) → n < u → length (shown_from u n) ≡ 0
-shown_none u n h = sym (ap length (shown_not u n h))
+shown_none u n h = ap length (shown_not u n h)
 
 module _ (n : ℕ) where
   pub at_most_five : length (decimal_of n) ≤ 5

@@ -1,7 +1,7 @@
 -- What the wires bring to a tile, by the tests of the code. Assumes nothing.
 use Prim.Native.Nat.{ℕ, zero, suc}
 use mathlib.Core.Path.{◌≡◌, refl}
-use mathlib.Core.Bool.{Bool, true, false, cond}
+use mathlib.Core.Bool.{Bool, cond}
 use native.Mathlib.Omega.{arith}
 use borrow.Author.Tests.{lt-ltb}
 use lib.Dec.{eqb, ltb}
@@ -24,21 +24,14 @@ module _ (m : ℕ) where
 
   joined_right : (i : ℕ) → (joined m right i).side ≡ side_by (eqb i m)
   unfolding joined slot
-  joined_right i = go (eqb i m)
-    where
-      go : (b : Bool) → (cond b (slot m right) (slot (suc i) left)).side ≡ side_by b
-      go true = refl
-      go false = refl
+  joined_right i = grind arith
 
 -- the corner of a part is a cell of its block
 pub corner_cell : (p : Part) (lower across : Bool) → ◌≡◌ {A = Cell}
     (record { entry = corner_of lower across p.matrix; vector = corner_of lower across p.vectors })
     (cell (side_by lower) (side_by across) (block_of p))
 unfolding corner_of cell block_of
-corner_cell p true true = refl
-corner_cell p true false = refl
-corner_cell p false true = refl
-corner_cell p false false = refl
+corner_cell p lower across = grind arith
 
 pub brought : (a b c d : Part) (m i j : ℕ) → block_of (incoming_part a b c d m i j) ≡ brought_to m i j (block_of a) (block_of b) (block_of c) (block_of d)
 brought a b c d m i j =

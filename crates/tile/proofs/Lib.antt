@@ -1,5 +1,4 @@
 pub mod TileWork
-pub mod DiagonalWork
 pub mod SetWires
 pub mod TileTick
 pub mod IncomingCells

@@ -1,12 +1,14 @@
 -- The parts of a tile's tick are the theory's. Assumes nothing.
 use Prim.Native.Nat.{ℕ}
 use mathlib.Core.Path.{◌≡◌}
+use Rattle.std.proofs.Common.{Option}
 use mathlib.Core.Bool.{Bool, ◌||◌}
 use lib.Ieee.{Float}
 use Rattle.systolic.specs.Tiles as theory
 use Rattle.systolic.specs.Tiles.{phase_in, turned_tile, settled_tile}
 use Rattle.tile_wires.specs.declared.Part.{Part}
 use Rattle.tile_wires.specs.Wires.{part_wires}
+use Rattle.tile_schedule.specs.Schedule.{phase_number}
 use Rattle.rotation.specs.declared.Angle.{Angle}
 use Rattle.rotation.specs.Rotation.{angle_of}
 use Rattle.runs.specs.Cells.{Setting}
@@ -29,9 +31,9 @@ module _ (s : Setting) (x : Tile) (i j : ℕ) (a : theory.Action) where
         worked_counts s k i j h v row column e f x q a,
       )
 
-  pub tile_settled : (m : ℕ) {ph : ℕ} {out : Part} {mark : Bool} → ph ≡ phase_in a → out ≡ part_wires ph m i j x.cells x.wires
+  pub tile_settled : (m : ℕ) (phase : Option ℕ) {out : Part} {mark : Bool} → phase_number phase ≡ phase_in a → out ≡ part_wires phase m i j x.cells x.wires
       → mark ≡ (x.mark || part_not_finite x.cells)
       → the_tile (record { cells = x.cells; wires = out; row_wire = x.row_wire; column_wire = x.column_wire; mark = mark; counts = x.counts })
       ≡ settled_tile (operations s) m i j a (the_tile x)
   unfolding the_tile
-  tile_settled m p f g = rw (f, p, g, part_wires_lem a m i j x.cells x.wires, some_fail s x.cells)
+  tile_settled m phase p f g = rw (f, g, part_wires_lem a m i j x.cells x.wires phase p, some_fail s x.cells)

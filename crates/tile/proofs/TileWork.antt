@@ -1,15 +1,15 @@
 -- The work of a tile on the structs of the code is the theory's. Assumes nothing.
 use Prim.Native.Nat.{ℕ}
-use mathlib.Core.Path.{◌≡◌, refl, ap}
-use mathlib.Core.Bool.{Bool, true, false, not, cond, ◌||◌}
+use mathlib.Core.Path.{◌≡◌, refl}
 use native.Mathlib.Omega.{arith}
-use borrow.Author.Tests.{eqb-false, eq-eqb}
+use mathlib.Core.Bool.{Bool, not, cond, ◌||◌}
+use borrow.Author.Tests.{eqb-false}
 use lib.Dec.{eqb, ltb}
 use lib.Ieee.{Float}
 use Rattle.float64.specs.Values.{finite}
 use Rattle.systolic.specs.Blocks.{cell, tab}
 use Rattle.systolic.specs.Sequential.{turn_block_rows, turn_block_columns, any_fails, operations_of}
-use Rattle.systolic.specs.Tiles.{Action, idle, first, rotate, phase1, phase2, final, distance, step_at, turn_tile, new_cells, new_parameter, new_kept}
+use Rattle.systolic.specs.Tiles.{Action, idle, first, rotate, phase1, phase2, final, turn_tile, new_cells, new_parameter, new_kept}
 use Rattle.tile_wires.specs.declared.Part.{Part}
 use Rattle.rotation.specs.declared.Angle.{Angle}
 use Rattle.rotation.specs.Rotation.{angle_of, of_tangent}
@@ -28,61 +28,27 @@ module _ (s : Setting) (k i j : ℕ) where
 
   off_diagonal : (h v : Float) (p : Part) → block_of (off_diagonal_of p (ltb i j) (angle_of h) (angle_of v))
       ≡ (operations s).off_diagonal k i j h v (block_of p)
-  unfolding operations operations_of
-  off_diagonal h v p = go (ltb i j)
-    where
-      go : (b : Bool) → block_of (off_diagonal_of p b (angle_of h) (angle_of v))
-          ≡ cond b (turn_block_columns (rules s) v (turn_block_rows (rules s) h (block_of p)))
-          (turn_block_rows (rules s) h (turn_block_columns (rules s) v (block_of p)))
-      go true = unfold block_of off_diagonal_of both_turned rows_turned columns_turned columns_block turn_block_rows turn_block_columns in
-          (unfold tab cell rules of_tangent in refl)
-      go false = unfold block_of off_diagonal_of both_turned rows_turned columns_turned columns_block turn_block_rows turn_block_columns in
-          (unfold tab cell rules of_tangent in refl)
+  unfolding block_of off_diagonal_of both_turned rows_turned columns_turned columns_block operations operations_of
+  off_diagonal h v p = unfold turn_block_rows turn_block_columns tab cell rules of_tangent in (grind arith)
 
   -- a tile off the diagonal receives the angles of the tangents h and v
   module _ (h v : Float) (row column : Angle) (e : ¬ (i ≡ j) → row ≡ angle_of h) (f : ¬ (i ≡ j) → column ≡ angle_of v) where
-    abbrev passed_on : Work → Work
-    passed_on w = record { cells = off_diagonal_of w.cells (ltb i j) row column; row = row.tangent; column = column.tangent; counts = w.counts }
-
     rotated_cells : (w : Work) → block_of (rotated_of s.order k w i j row column).cells ≡ turn_tile (operations s) k i j h v (block_of w.cells)
     unfolding rotated_of turn_tile
-    rotated_cells w = go (eqb i j) refl
-      where
-        go : (b : Bool) → eqb i j ≡ b
-            → block_of (cond b (on_diagonal_of s.order k i w) (passed_on w)).cells
-            ≡ cond b ((operations s).diagonal k i (block_of w.cells)) ((operations s).off_diagonal k i j h v (block_of w.cells))
-        go true z = on_diagonal_lem w
-        go false z = let n = eqb-false _ _ z in rw (e n, f n) (off_diagonal h v w.cells)
+    rotated_cells w = grind (arith, on_diagonal_lem w, off_diagonal h v w.cells, e, f, eqb-false i j)
 
     rotated_row : (w : Work) → (rotated_of s.order k w i j row column).row ≡ cond (eqb i j) ((operations s).sends_row k i (block_of w.cells)) h
-    unfolding rotated_of
-    rotated_row w = go (eqb i j) refl
-      where
-        go : (b : Bool) → eqb i j ≡ b
-            → (cond b (on_diagonal_of s.order k i w) (passed_on w)).row
-            ≡ cond b ((operations s).sends_row k i (block_of w.cells)) h
-        go true z = unfold on_diagonal_of operations operations_of rules block_of in refl
-        go false z = ap (λ (x : Angle). x.tangent) (e (eqb-false _ _ z))
+    unfolding rotated_of on_diagonal_of operations operations_of rules block_of
+    rotated_row w = grind (arith, e, eqb-false i j)
 
     rotated_column : (w : Work) → (rotated_of s.order k w i j row column).column ≡ cond (eqb i j) ((operations s).sends_column k i (block_of w.cells)) v
-    unfolding rotated_of
-    rotated_column w = go (eqb i j) refl
-      where
-        go : (b : Bool) → eqb i j ≡ b
-            → (cond b (on_diagonal_of s.order k i w) (passed_on w)).column
-            ≡ cond b ((operations s).sends_column k i (block_of w.cells)) v
-        go true z = unfold on_diagonal_of operations operations_of rules block_of in refl
-        go false z = ap (λ (x : Angle). x.tangent) (f (eqb-false _ _ z))
+    unfolding rotated_of on_diagonal_of operations operations_of rules block_of
+    rotated_column w = grind (arith, f, eqb-false i j)
 
     rotated_counts : (w : Work) → (rotated_of s.order k w i j row column).counts
         ≡ cond (eqb i j) ((operations s).keeps k i (block_of w.cells) w.counts) w.counts
-    unfolding rotated_of
-    rotated_counts w = go (eqb i j)
-      where
-        go : (b : Bool) → (cond b (on_diagonal_of s.order k i w) (passed_on w)).counts
-            ≡ cond b ((operations s).keeps k i (block_of w.cells) w.counts) w.counts
-        go true = unfold on_diagonal_of operations operations_of rules block_of in refl
-        go false = refl
+    unfolding rotated_of on_diagonal_of operations operations_of rules block_of
+    rotated_counts w = grind arith
 
     module _ (x : Tile) (q : Part) where
       abbrev work_of : Action → Work
@@ -126,28 +92,9 @@ module _ (s : Setting) (k i j : ℕ) where
       worked_counts phase2 = refl
       worked_counts final = refl
 
--- ---- a tile on the diagonal, by the step that it is in
-pub rotated_on : (n t : ℕ) (w : Work) (i j : ℕ) (row column : Angle) {x : Work} {k : ℕ} → i ≡ j → k ≡ step_at 0 t → x ≡ on_diagonal_of n k i w
-    → x ≡ rotated_of n (step_at (distance i j) t) w i j row column
-unfolding rotated_of
-rotated_on n t w i j row column e h f = let z : distance i j ≡ 0 = omega arith in rw (eq-eqb i j e, z, ← h) f
-
 -- ---- the mark
 fails_eight : (a b c d e f g h : Bool) → ((a || (b || (c || d))) || (e || (f || (g || h)))) ≡ ((((a || e) || (b || f)) || (c || g)) || (d || h))
-fails_eight true b c d e f g h = refl
-fails_eight false true c d true f g h = refl
-fails_eight false true c d false f g h = refl
-fails_eight false false true d true f g h = refl
-fails_eight false false true d false true g h = refl
-fails_eight false false true d false false g h = refl
-fails_eight false false false true true f g h = refl
-fails_eight false false false true false true g h = refl
-fails_eight false false false true false false true h = refl
-fails_eight false false false true false false false h = refl
-fails_eight false false false false true f g h = refl
-fails_eight false false false false false true g h = refl
-fails_eight false false false false false false true h = refl
-fails_eight false false false false false false false h = refl
+fails_eight a b c d e f g h = grind arith
 
 pub some_fail : (s : Setting) (p : Part) → part_not_finite p ≡ (operations s).fails (block_of p)
 unfolding part_not_finite quad_not_finite operations operations_of any_fails rules block_of

@@ -16,10 +16,10 @@ use Rattle.runs.specs.Cells.{Cell, cell, cells_of, Setting, rules}
 use Rattle.tile.specs.declared.Tile.{Tile}
 
 -- Four values of the code as a block, and a block as four values.
-abbrev pub quad_block : Quad → Block Float
+abbrev pub quad_block : Quad Float → Block Float
 quad_block q = record { α = q.alpha; β = q.beta; γ = q.gamma; δ = q.delta }
 
-abbrev pub quad_of : Block Float → Quad
+abbrev pub quad_of : Block Float → Quad Float
 quad_of b = record { alpha = b.α; beta = b.β; gamma = b.γ; delta = b.δ }
 
 unfoldable pub block_of : Part → Block Cell

@@ -1,5 +1,5 @@
 -- The cells of a tile after its work, on the structs of the code. Definitions only.
-use Rattle.std.specs.Prelude.{ℕ, Bool, not, cond, ◌||◌, eqb, ltb}
+use Rattle.std.specs.Prelude.{ℕ, Bool, not, cond, ◌||◌, eqb, ltb, Float}
 use Rattle.float64.specs.Values.{finite}
 use Rattle.systolic.specs.Tiles.{Action}
 use Rattle.systolic.specs.Traffic.{rotates, reads_cells}
@@ -15,7 +15,7 @@ use Rattle.tile.specs.declared.Tile.{Tile}
 use Rattle.tile.specs.declared.cells.Work.{Work}
 use Rattle.tile.specs.Tiles.{quad_block, quad_of}
 
-unfoldable pub rows_turned : Parameters → Quad → Quad
+unfoldable pub rows_turned : Parameters → Quad Float → Quad Float
 rows_turned P q =
     record {
       alpha = (turn_of P q.alpha q.gamma).left;
@@ -24,10 +24,10 @@ rows_turned P q =
       delta = (turn_of P q.beta q.delta).right;
     }
 
-unfoldable pub columns_turned : Parameters → Quad → Quad
+unfoldable pub columns_turned : Parameters → Quad Float → Quad Float
 columns_turned P q = quad_of (columns_block P (quad_block q))
 
-unfoldable pub both_turned : Parameters → Parameters → Bool → Quad → Quad
+unfoldable pub both_turned : Parameters → Parameters → Bool → Quad Float → Quad Float
 both_turned R C above q = cond above (columns_turned C (rows_turned R q)) (rows_turned R (columns_turned C q))
 
 unfoldable pub off_diagonal_of : Part → Bool → Angle → Angle → Part
@@ -35,11 +35,11 @@ off_diagonal_of p above row column =
     record { matrix = both_turned (of_angle row) (of_angle column) above p.matrix; vectors = columns_turned (of_angle column) p.vectors }
 
 -- What the tile of processor i, from 0, turns its part on the diagonal by, in a run of order n.
-abbrev pub quad_parameters : ℕ → ℕ → Quad → Parameters
+abbrev pub quad_parameters : ℕ → ℕ → Quad Float → Parameters
 quad_parameters n i q = ruled n i (block_parameters (quad_block q))
 
 -- And whether its pair counts as exact.
-abbrev pub quad_found : ℕ → ℕ → Quad → Found
+abbrev pub quad_found : ℕ → ℕ → Quad Float → Found
 quad_found n i q = ruled_found n i (block_found (quad_block q))
 
 -- The work of the tile of processor i in step k; w before it.
@@ -80,7 +80,7 @@ tile_worked x w = record { cells = w.cells; wires = x.wires; row_wire = w.row; c
 unfoldable pub turned_of : ℕ → ℕ → Action → Tile → Part → ℕ → ℕ → Angle → Angle → Tile
 turned_of n k a x q i j row column = tile_worked x (worked_of n k a (work_before x (taken_of a x.cells q)) i j row column)
 
-unfoldable pub quad_not_finite : Quad → Bool
+unfoldable pub quad_not_finite : Quad Float → Bool
 quad_not_finite q = not (finite q.alpha) || (not (finite q.beta) || (not (finite q.gamma) || not (finite q.delta)))
 
 unfoldable pub part_not_finite : Part → Bool

@@ -10,7 +10,7 @@ ghost use Rattle.tile.specs.Turned.{turned_of};
 use crate::cells::Work;
 use rotation::Angle;
 use runs::Counts;
-use tile_wires::Part;
+use tile_wires::{Part, Place, Quad};
 
 mod cells;
 
@@ -26,82 +26,68 @@ pub struct Tile {
     pub counts: Counts,
 }
 
+// The angles whose tangents a tile receives along its row and along its column.
+#[derive(Clone, Copy)]
+pub struct Received {
+    pub row: Angle,
+    pub column: Angle,
+}
+
 impl Tile {
-    // The tile in row i and column j, from 0, with its cells, its parameter wires and its counts as they are after a tick of a run of order n and of
-    // so many steps. Its cell wires bring the cells `brought`, its parameter wires the tangents of `row` and `column`.
+    // The tile with its cells, its parameter wires and its counts as they are after a tick of a run of order n and of so many steps. Its cell wires
+    // bring the cells `brought`.
+    #[tactic(auto, unfolding(crate::specs::Turned::turned_of))]
     pub fn turned(
         self,
         n: usize,
         brought: Part,
-        row: Angle,
-        column: Angle,
+        received: Received,
         steps: usize,
         tick: usize,
-        i: usize,
-        j: usize,
+        place: Place,
     ) -> Tile
-        ensures { result ≡ turned_of n (step_at (distance i j) tick) (action_at steps (distance i j) tick) self brought i j row column }
+        ensures { let away = distance place.i place.j in
+            result ≡ turned_of n (step_at away tick) (action_at steps away tick) self brought place.i place.j received.row received.column }
     {
-        let action = tile_schedule::action_at(steps, i, j, tick);
-        let own = self.cells;
-        let wires = self.wires;
-        let counts = self.counts;
+        let action = tile_schedule::action_at(steps, place.i, place.j, tick);
         let before = Work {
-            cells: cells::taken(action, own, brought),
+            cells: cells::taken(action, self.cells, brought),
             row: self.row_wire,
             column: self.column_wire,
-            counts: counts,
+            counts: self.counts,
         };
-        let work = cells::worked(n, action, tick, before, i, j, row, column);
-        let new = work.cells;
-        let counted = work.counts;
+        let after = if tile_schedule::rotates(action) {
+            cells::rotated(n, tick, before, place, received)
+        } else {
+            before
+        };
         Tile {
-            cells: new,
-            wires: wires,
-            row_wire: work.row,
-            column_wire: work.column,
-            mark: self.mark,
-            counts: counted,
+            cells: after.cells,
+            row_wire: after.row,
+            column_wire: after.column,
+            counts: after.counts,
+            ..self
         }
     }
 
-    // A turned tile with its cell wires and its mark as they are after the tick, whatever the run's setting; `last` is the last row and column.
-    pub fn after(self, last: usize, steps: usize, tick: usize, i: usize, j: usize) -> Tile
-        ensures { (s : Setting) → the_tile result ≡ settled_tile (operations s) last i j (action_at steps (distance i j) tick) (the_tile self) }
+    // A turned tile with its cell wires and its mark as they are after the tick, whatever the run's setting.
+    pub fn after(self, place: Place, steps: usize, tick: usize) -> Tile
+        ensures { (s : Setting) → the_tile result
+            ≡ settled_tile (operations s) place.last place.i place.j (action_at steps (distance place.i place.j) tick) (the_tile self) }
     {
-        let phase = tile_schedule::phase_in(tile_schedule::action_at(steps, i, j, tick));
-        let cells = self.cells;
-        let wires = self.wires;
-        let out = tile_wires::after(phase, last, i, j, cells, wires);
-        let mark = cells::is_marked(self.mark, cells);
-        let counts = self.counts;
+        let action = tile_schedule::action_at(steps, place.i, place.j, tick);
+        let phase = tile_schedule::phase_in(action);
         Tile {
-            cells: cells,
-            wires: out,
-            row_wire: self.row_wire,
-            column_wire: self.column_wire,
-            mark: mark,
-            counts: counts,
+            wires: tile_wires::after(phase, place, self.cells, self.wires),
+            mark: cells::is_marked(self.mark, self.cells),
+            ..self
         }
     }
 }
 
-// The cells that the wires bring to the tile in row i and column j, from 0, from the tiles that its corners are joined with; `last` is the
-// last row and column.
-pub fn brought(
-    alpha: Tile,
-    beta: Tile,
-    gamma: Tile,
-    delta: Tile,
-    last: usize,
-    i: usize,
-    j: usize,
-) -> Part
-    ensures { result ≡ incoming_part alpha.wires beta.wires gamma.wires delta.wires last i j }
+// The cells that the wires bring to the tile in a place, from the tiles that its corners are joined with.
+pub fn brought(tiles: Quad<Tile>, place: Place) -> Part
+    ensures { result ≡ incoming_part tiles.alpha.wires tiles.beta.wires tiles.gamma.wires tiles.delta.wires place.last place.i place.j }
 {
-    let by_alpha = alpha.wires;
-    let by_beta = beta.wires;
-    let by_gamma = gamma.wires;
-    let by_delta = delta.wires;
-    tile_wires::incoming(by_alpha, by_beta, by_gamma, by_delta, last, i, j)
+    tile_wires::incoming(tiles.map(|tile| tile.wires), place)
 }

@@ -1,13 +1,12 @@
 -- What a tick answers, by the tests of the code. Assumes nothing.
 use Prim.Native.Nat.{ℕ, ◌+◌, ◌-◌, ◌≤◌, ◌<◌}
-use mathlib.Core.Path.{◌≡◌, refl, sym, ap}
+use mathlib.Core.Path.{◌≡◌, refl, sym}
 use mathlib.Core.List.{List}
-use mathlib.Core.Bool.{Bool, true, false, cond, true≢false}
+use mathlib.Core.Bool.{Bool, true, false, cond}
 use native.Mathlib.Omega.{arith}
 use borrow.Author.Tests.{lt-ltb, le-ltb, ltb-true}
 use lib.Dec.{ltb}
 use Rattle.refusal.specs.Answers.{Answered, given, refused, giving}
-use Rattle.refusal.proofs.FirstRefusal.{refused_given}
 use Rattle.sizes.specs.Sizes.{is_order, most_sweeps, ticks_of, sizes_answer}
 use Rattle.sizes.proofs.Orders.{sizes_fine, sizes_given}
 use Rattle.tile_schedule.specs.Answers.{Tick, made, stopped, progress_of, left_of}
@@ -32,19 +31,14 @@ pub record Means (n sweeps t : ℕ) : Type 0 where
   pub few : sweeps ≤ most_sweeps
   pub before_end : t < ticks_of n sweeps
 
-abbrev is_tick_made : Answered Tick → Bool
-is_tick_made (given made) = true
-is_tick_made (given stopped) = false
-is_tick_made (refused k values) = false
-
 pub made_means : (n sweeps t : ℕ) → given made ≡ progress_of n sweeps t → Means n sweeps t
 unfolding progress_of
 made_means n sweeps t e = go (sizes_answer n sweeps) (ltb t (ticks_of n sweeps)) refl refl (sym e)
   where
     go : (a : Answered Unit) (b : Bool) → sizes_answer n sweeps ≡ a → ltb t (ticks_of n sweeps) ≡ b
         → giving (cond b made stopped) a ≡ given made → Means n sweeps t
-    go (refused k values) b x y e = refused_given e
-    go (given tt) false x y e = absurd (true≢false (sym (ap is_tick_made e)))
+    go (refused k values) b x y e = cc
+    go (given tt) false x y e = cc
     go (given tt) true x y e = let w = sizes_given n sweeps x in record { order = w.0; few = w.1; before_end = ltb-true _ _ y }
 
 -- ---- how many are left
@@ -71,9 +65,7 @@ module _ (n sweeps t : ℕ) where
   ahead h = go (progress_of n sweeps t) refl
     where
       go : (p : Answered Tick) → p ≡ progress_of n sweeps t → Ahead n sweeps t
-      go (given made) e =
-          let w = made_means n sweeps t e in
-          record { order = w.order; few = w.few; end = rw (← (left_made e)) (omega (arith, w.before_end)) }
+      go (given made) e = let w = made_means n sweeps t e in record { order = w.order; few = w.few; end = grind (arith, left_made e, w.before_end) }
       go (given stopped) e = absurd (h (sym (left_stopped e)))
       go (refused k values) e = absurd (h (sym (left_refused e)))
 

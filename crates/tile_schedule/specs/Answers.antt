@@ -1,18 +1,21 @@
 -- Document 01, "The array": what a tick answers. Definitions only.
-use Rattle.std.specs.Prelude.{ℕ, ◌-◌, cond, ltb}
-use Rattle.refusal.specs.Answers.{Answered, given, refused, refused_by, giving}
+use Rattle.std.specs.Prelude.{ℕ, ◌-◌, cond, Result, ltb}
+use Rattle.refusal.specs.Answers.{Answered, given, refused, answered_as, giving}
+use Rattle.refusal.specs.declared.Refusal.{Refusal}
 use Rattle.sizes.specs.Sizes.{ticks_of, sizes_answer}
 use Rattle.tile_schedule.specs.declared.Progress.{Progress}
-use Rattle.tile_schedule.specs.declared.Progress.TheVariants.{Made, Stopped, Refused}
+use Rattle.tile_schedule.specs.declared.Progress.TheVariants.{Made, Stopped}
 
 -- What a tick answers: made, or stopped after the last, or a refusal.
 pub data Tick : Type 0 where
   made stopped : Tick
 
-abbrev pub progress_answered : Progress → Answered Tick
-progress_answered Made = given made
-progress_answered Stopped = given stopped
-progress_answered (Refused r) = refused_by r
+abbrev pub tick_of : Progress → Tick
+tick_of Made = made
+tick_of Stopped = stopped
+
+abbrev pub progress_answered : Result Progress Refusal → Answered Tick
+progress_answered = answered_as tick_of
 
 -- 1 and 2 are refused; before the last tick is made, a tick is made, and after it stopped.
 unfoldable pub progress_of : ℕ → ℕ → ℕ → Answered Tick

@@ -1,5 +1,5 @@
 -- What a tile of the code does as what the theory's does. Definitions only.
-use Rattle.std.specs.Prelude.{ℕ, ◌/◌, ◌%◌, cond, eqb}
+use Rattle.std.specs.Prelude.{ℕ, ◌/◌, ◌%◌, Option, Some, None, cond, eqb}
 use Rattle.systolic.specs.Tiles as theory
 use Rattle.systolic.specs.Tiles.{first, rotate, phase1, phase2}
 use Rattle.tile_schedule.specs.declared.Action.{Action}
@@ -12,6 +12,11 @@ the_action Rotate = theory.rotate
 the_action Phase1 = theory.phase1
 the_action Phase2 = theory.phase2
 the_action Final = theory.final
+
+-- The number of a phase, 3 for none.
+abbrev pub phase_number : Option ℕ → ℕ
+phase_number (Some phase) = phase
+phase_number None = 3
 
 -- While there are steps to do, t ticks after the tile's first rotation.
 unfoldable pub in_step : ℕ → theory.Action

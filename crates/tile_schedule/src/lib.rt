@@ -3,13 +3,13 @@
 ghost use Rattle.std.specs.Prelude.{◌≡◌};
 ghost use Rattle.systolic.specs.Tiles.{distance, action, action_at, step_at, phase_in};
 ghost use Rattle.systolic.specs.Traffic.{rotates, reads_cells, changes_cells};
-ghost use Rattle.tile_schedule.specs.Schedule.{the_action, in_step};
+ghost use Rattle.tile_schedule.specs.Schedule.{the_action, phase_number, in_step};
 ghost use Rattle.tile_schedule.specs.Answers.{progress_answered, progress_of, left_of};
 
-use refusal::{Answer, Refusal};
+use refusal::Refusal;
 
 // Nothing; the first rotation, which reads no cells; a later one; the two phases after a rotation; the last reading.
-#[derive(Clone, Copy)]
+#[derive(Clone, Copy, PartialEq, Eq, Debug)]
 pub enum Action {
     Idle,
     First,
@@ -19,26 +19,24 @@ pub enum Action {
     Final,
 }
 
-// What a tick answers.
-#[derive(Clone, Copy)]
+// What a tick answers that is not refused.
+#[derive(Clone, Copy, PartialEq, Eq, Debug)]
 pub enum Progress {
     Made,
     Stopped,
-    Refused(Refusal),
 }
 
 // Whether the cells of the tile in row i and column j, from 0, change in a tick.
+// Stays two numbers, here and below: the struct for a tile's place also holds the last row and column, on which nothing here depends.
 pub fn changes(steps: usize, tick: usize, i: usize, j: usize) -> bool
     ensures { result ≡ changes_cells (action_at steps (distance i j) tick) }
 {
     let action = action_at(steps, i, j, tick);
-    if rotates(action) {
-        return true;
-    }
-    reads(action)
+    rotates(action) || reads(action)
 }
 
 // The step that the tiles on the diagonal are in.
+#[tactic(auto, unfolding(systolic::specs::Tiles::step_at))]
 pub fn diagonal_step(tick: usize) -> usize
     ensures { result ≡ step_at 0 tick }
 {
@@ -46,55 +44,40 @@ pub fn diagonal_step(tick: usize) -> usize
 }
 
 // What the tile in row i and column j, from 0, does in a tick.
+#[tactic(auto, unfolding(systolic::specs::Tiles::action_at))]
 pub fn action_at(steps: usize, i: usize, j: usize, tick: usize) -> Action
     ensures { the_action result ≡ action_at steps (distance i j) tick }
 {
-    let away = distance(i, j);
-    if tick < away {
-        return Action::Idle;
+    match tick.checked_sub(distance(i, j)) {
+        Some(since) => action_since(steps, since),
+        None => Action::Idle,
     }
-    action_since(steps, tick - away)
 }
 
 // Whether the cells are turned.
 pub fn rotates(action: Action) -> bool
     ensures { result ≡ rotates (the_action action) }
 {
-    match action {
-        Action::Idle => false,
-        Action::First => true,
-        Action::Rotate => true,
-        Action::Phase1 => false,
-        Action::Phase2 => false,
-        Action::Final => false,
-    }
+    matches!(action, Action::First | Action::Rotate)
 }
 
 // Whether the cell wires are read.
 pub fn reads(action: Action) -> bool
     ensures { result ≡ reads_cells (the_action action) }
 {
-    match action {
-        Action::Idle => false,
-        Action::First => false,
-        Action::Rotate => true,
-        Action::Phase1 => false,
-        Action::Phase2 => false,
-        Action::Final => true,
-    }
+    matches!(action, Action::Rotate | Action::Final)
 }
 
-// The phase in which wires are set, 3 for none.
-pub fn phase_in(action: Action) -> usize
-    ensures { result ≡ phase_in (the_action action) }
+// The phase in which wires are set, if any are.
+#[tactic(auto, unfolding(systolic::specs::Tiles::phase_in))]
+pub fn phase_in(action: Action) -> Option<usize>
+    ensures { phase_number result ≡ phase_in (the_action action) }
 {
     match action {
-        Action::Idle => 3,
-        Action::First => 0,
-        Action::Rotate => 0,
-        Action::Phase1 => 1,
-        Action::Phase2 => 2,
-        Action::Final => 3,
+        Action::First | Action::Rotate => Some(0),
+        Action::Phase1 => Some(1),
+        Action::Phase2 => Some(2),
+        Action::Idle | Action::Final => None,
     }
 }
 
@@ -102,70 +85,56 @@ pub fn phase_in(action: Action) -> usize
 pub fn distance(i: usize, j: usize) -> usize
     ensures { result ≡ distance i j }
 {
-    if i < j {
-        return j - i;
-    }
-    i - j
+    i.abs_diff(j)
 }
 
 // So many ticks after the tile's first rotation.
+#[tactic(auto, unfolding(systolic::specs::Tiles::action, crate::specs::Schedule::in_step))]
 fn action_since(steps: usize, since: usize) -> Action
     ensures { the_action result ≡ action steps since }
 {
     if since / 3 < steps {
-        return in_step(since);
+        in_step(since)
+    } else if since % 3 == 0 && since / 3 == steps && steps > 0 {
+        Action::Final
+    } else {
+        Action::Idle
     }
-    if since % 3 > 0 {
-        return Action::Idle;
-    }
-    if since / 3 > steps {
-        return Action::Idle;
-    }
-    if steps == 0 {
-        return Action::Idle;
-    }
-    Action::Final
 }
 
 // While there are steps to do.
+#[tactic(auto, unfolding(crate::specs::Schedule::in_step))]
 fn in_step(since: usize) -> Action
     ensures { the_action result ≡ in_step since }
 {
-    if since % 3 == 1 {
-        return Action::Phase1;
+    match (since % 3, since / 3) {
+        (0, 0) => Action::First,
+        (0, _) => Action::Rotate,
+        (1, _) => Action::Phase1,
+        _ => Action::Phase2,
     }
-    if since % 3 == 2 {
-        return Action::Phase2;
-    }
-    if since / 3 == 0 {
-        return Action::First;
-    }
-    Action::Rotate
 }
 
 // What a tick of an array with this order, these sweeps and this tick answers.
-pub fn answer_to(n: usize, sweeps: usize, tick: usize) -> Progress
+#[tactic(auto, using(sizes::proofs::Orders::sizes_given), unfolding(crate::specs::Answers::progress_of))]
+pub fn answer_to(n: usize, sweeps: usize, tick: usize) -> Result<Progress, Refusal>
     ensures { progress_answered result ≡ progress_of n sweeps tick }
 {
-    match sizes::tested(n, sweeps) {
-        Answer::Accepted => {}
-        Answer::Refused(refused) => {
-            return Progress::Refused(refused);
-        }
-    }
+    sizes::tested(n, sweeps)?;
     if tick < sizes::ticks_of(n, sweeps) {
-        return Progress::Made;
+        Ok(Progress::Made)
+    } else {
+        Ok(Progress::Stopped)
     }
-    Progress::Stopped
 }
 
 // How many ticks are still made.
+#[tactic(auto, using(crate::proofs::Answers::made_means), unfolding(crate::specs::Answers::left_of))]
 pub fn ticks_left(n: usize, sweeps: usize, tick: usize) -> usize
     ensures { result ≡ left_of n sweeps tick }
 {
     match answer_to(n, sweeps, tick) {
-        Progress::Made => sizes::ticks_of(n, sweeps) - tick,
-        Progress::Stopped => 0,
-        Progress::Refused(_) => 0,
+        Ok(Progress::Made) => sizes::ticks_of(n, sweeps) - tick,
+        Ok(Progress::Stopped) | Err(_) => 0,
     }
 }

@@ -18,7 +18,7 @@ unfoldable pub starting_tile : Part → Tile
 starting_tile p = record { cells = p; wires = zero_part; row_wire = plus_zero; column_wire = plus_zero; mark = false; counts = counts 0 0 }
 
 -- The part of A in the rows r and r + 1 and the columns c and c + 1.
-unfoldable pub quad_at : (ℕ → ℕ → Float) → ℕ → ℕ → Quad
+unfoldable pub quad_at : (ℕ → ℕ → Float) → ℕ → ℕ → Quad Float
 quad_at A r c = quad (A r c) (A r (c + 1)) (A (r + 1) c) (A (r + 1) (c + 1))
 
 -- The part at the row registers i and the column registers j, both from 0.

@@ -1,11 +1,7 @@
-use mathlib.Core.Path.{refl}
 use native.Mathlib.Omega.{arith}
-use Rattle.lists.proofs.Filled.{filled_none, filled_next, filled_all}
+use Rattle.lists.proofs.Filled.{filled_next, filled_all}
 use Rattle.array_words.proofs.ArrayRead.{loaded}
 use Rattle.array_words.proofs.load.Goals as goal
-
-pub loop-i-init : goal.loop-i-init
-loop-i-init c = (omega arith, filled_none _ refl)
 
 pub loop-i-preserved : goal.loop-i-preserved
 loop-i-preserved c = let k = c.loop-i in (omega arith, filled_next _ _ _ k.invariant.1 (omega arith) c.tile_in.ensures)

@@ -9,4 +9,4 @@ use Rattle.array_words.proofs.load.Given as goal
 abbrev pub invariant-loop-i : goal.invariant-loop-i
 invariant-loop-i l =
     (l.i ≤ most_processors * most_processors)
-    × Filled no_tile (λ i. tile_in l.words (3 + i * tile_words)) (most_processors * most_processors) l.i l.tiles
+    × Filled no_tile (λ i. tile_in l.words (3 + i * tile_words)) (most_processors * most_processors) l.i l.tile-items

@@ -1,18 +1,14 @@
-use mathlib.Core.Path.{sym, subst}
-use lib.Dec.{T}
-use lib.Ieee.{binary64, fits}
-use Rattle.float64.proofs.Zeros.{magnitude_below, magnitude_zero, magnitude_above}
+use Rattle.std.proofs.Common.{◌≡◌, false, refl, ◌∙◌}
+use Rattle.std.specs.Float.{Float, nan, inf, fin, float_with_sign}
+use Rattle.float64.specs.Values.{magnitude}
 use Rattle.float64.proofs.magnitude.Goals as goal
-use Rattle.float64.proofs.magnitude.Goals.{Start}
 
-held : (c : Start) → T (fits binary64 c.args.x)
-held c = subst T (sym c.well_formed.0.1) tt
-
-pub returns-then-x : goal.returns-then-x
-returns-then-x c = magnitude_below _ c.if-x.true
-
-pub returns-then-x-2 : goal.returns-then-x-2
-returns-then-x-2 c = magnitude_zero _ (held c.before.before) c.if-x-2.true
+-- std's word for it
+magnitude_lem : (x : Float) → float_with_sign false x ≡ magnitude x
+unfolding float_with_sign
+magnitude_lem nan = refl
+magnitude_lem (inf s) = refl
+magnitude_lem (fin s m e) = refl
 
 pub returns : goal.returns
-returns c = magnitude_above _ c.if-x.false c.if-x-2.false
+returns c = c.abs.ensures.value ∙ magnitude_lem _

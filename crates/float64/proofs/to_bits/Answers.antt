@@ -1,8 +1,6 @@
-use Rattle.float64.proofs.Nan.{nan_bits_lem, no_nan}
+use Rattle.std.proofs.Common.{sym, ◌∙◌}
+use Rattle.float64.proofs.Nan.{nan_bits_lem}
 use Rattle.float64.proofs.to_bits.Goals as goal
 
-pub returns-then-x : goal.returns-then-x
-returns-then-x c = nan_bits_lem _ c.if-x.true
-
-pub float_to_bits-result : goal.float_to_bits-result
-float_to_bits-result c = no_nan _ c.if-x.false
+pub returns-then-is_nan : goal.returns-then-is_nan
+returns-then-is_nan c = nan_bits_lem _ (sym c.is_nan.ensures.value ∙ c.if-is_nan.true)

@@ -1,12 +1,13 @@
+use Rattle.std.proofs.Common.{◌∙◌}
 use Rattle.list_sheet.proofs.Prints.{prints_counted, accepted_printed, refused_printed}
 use Rattle.list_sheet.proofs.print.Goals as goal
 
-pub returns-in-Accepted : goal.returns-in-Accepted
-returns-in-Accepted c =
-    let printed = prints_counted _ _ (accepted_printed _ _ _ c.list-listed.ensures c.in-Accepted.is) in
-    record { text_after = printed.0; prefix_len = printed.1 }
+pub returns-in-Ok : goal.returns-in-Ok
+returns-in-Ok c =
+    let e = accepted_printed _ _ c.in-Ok.ensures in
+    record { text_after = e; prefix_len = prints_counted _ _ e }
 
-pub returns-in-Refused : goal.returns-in-Refused
-returns-in-Refused c =
-    let printed = prints_counted _ _ (refused_printed _ _ _ c.list-listed.ensures _ c.in-Refused.is c.print_refusal.ensures) in
-    record { text_after = printed.0; prefix_len = printed.1 }
+pub returns-in-Err : goal.returns-in-Err
+returns-in-Err c =
+    let e = c.print_refusal.ensures ∙ refused_printed _ _ _ c.in-Err.ensures in
+    record { text_after = e; prefix_len = prints_counted _ _ e }

@@ -1,33 +1,29 @@
-use Prim.Native.Nat.{◌+◌}
-use mathlib.Core.Path.{◌≡◌, ◌∙◌}
-use native.Mathlib.Omega.{arith}
-use lib.ListN.{length}
-use Rattle.matrix.proofs.EntryPlaces.{Place, entry_at, place_is}
-use Rattle.listing_text.proofs.Pieces.{column_none, column_next}
+use Rattle.std.proofs.Common.{◌≡◌, ◌+◌, ◌-◌, arith, ◌∙◌}
+use Rattle.matrix.specs.Matrix.{at}
+use Rattle.text.proofs.TextPieces.{puts_none}
+use Rattle.text.specs.Pages.{Puts}
+use Rattle.listing_text.specs.Printed.{column_of}
+use Rattle.listing_text.proofs.Pieces.{entry_is, column_next}
 use Rattle.listing_text.proofs.put_column.Goals as goal
-use Rattle.listing_text.proofs.put_column.Goals.{In-loop-r}
+use Rattle.listing_text.proofs.put_column.Goals.{After-put_field}
 
--- the place that is read in a turn
-inside : (c : In-loop-r) → let a = c.args in
-    Place a.n (c.loop-r.r + 1) a.c (length a.vectors.now)
-inside c =
+-- one row more
+next : (c : After-put_field) → Puts c.args.page.now (column_of (at c.args.n c.args.vectors.now) c.args.c c.loop-r.r) c.put_field.new.page
+next c =
     let p = c.requires in
-    record { row_above = omega arith; row_within = omega arith; column_above = p.0; column_within = p.1; square = p.2 }
+    let e = c.entry.ensures ∙ entry_is c.args.n c.loop-r.r c.args.c c.args.vectors.now (omega arith) (omega arith) p.0 p.1 p.2 in
+    column_next _ c.args.c c.loop-r.r (omega arith) c.loop-r.invariant.put (rw e at c.put_field.ensures.put)
 
 pub loop-r-init : goal.loop-r-init
-loop-r-init c = (omega arith, omega arith, omega arith, column_none _ _ _ _)
+unfolding column_of
+loop-r-init c = record { put = puts_none _; value = omega arith }
 
 pub loop-r-preserved : goal.loop-r-preserved
 loop-r-preserved c =
-    let inv = c.loop-r.invariant in (
-      omega arith,
-      omega (arith, c.put_field-end.ensures.value),
-      c.put_field-end.ensures.put.as_long ∙ inv.2,
-      column_next _ _ _ inv.3 c.put_field-end.ensures.put
-          (c.entry.ensures ∙ entry_at _ _ _ _ (place_is _ _ _ _ (inside (goal.at.loop-r-preserved c).In-loop-r))),
-    )
+    let e : c.loop-r.r + 1 - 1 ≡ c.loop-r.r = omega arith in
+    record { put = rw e (next (goal.at.loop-r-preserved c).After-put_field); value = omega arith }
 
-pub returns : goal.returns
-returns c =
-    let z : c.loop-r.r ≡ c.args.n = omega arith in
-    record { put = rw z at c.loop-r.invariant.3; value = omega arith }
+pub returns-2-clause-put : goal.returns-2-clause-put
+returns-2-clause-put c =
+    let e : c.loop-r.r ≡ c.args.n = omega arith in
+    rw e at (next (goal.at.returns-2-clause-put c).After-put_field)

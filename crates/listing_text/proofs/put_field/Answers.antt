@@ -1,10 +1,7 @@
-use native.Mathlib.Omega.{arith}
-use Rattle.listing_text.proofs.Pieces.{field_put}
+use Rattle.text.proofs.TextPieces.{puts_then}
+use Rattle.listing_text.specs.Printed.{value_field}
 use Rattle.listing_text.proofs.put_field.Goals as goal
 
-pub returns : goal.returns
-returns c =
-    record {
-      put = field_put _ c.put-digits.ensures c.put_hex.ensures.put c.to_bits.ensures;
-      value = omega (arith, c.put_hex.ensures.value, c.put-digits.ensures.ends);
-    }
+pub returns-clause-put : goal.returns-clause-put
+unfolding value_field
+returns-clause-put c = puts_then c.put.ensures (rw c.to_bits.ensures at c.put_hex.ensures.put)

@@ -1,13 +1,12 @@
-use native.Mathlib.Omega.{arith}
-use mathlib.Core.Path.{refl}
-use Rattle.lists.proofs.Filled.{filled_none, filled_next, filled_all}
+use Rattle.std.proofs.Common.{ℕ, zero, suc, ◌≡◌, List, ◌∷◌, Float, refl, ap, ◌∙◌}
+use Rattle.std.specs.Prelude.{replicate}
+use Rattle.lists.specs.Tabulate.{tabulate}
 use Rattle.matrix.proofs.clear.Goals as goal
 
-pub loop-k-init : goal.loop-k-init
-loop-k-init c = (omega arith, filled_none _ refl)
-
-pub loop-k-preserved : goal.loop-k-preserved
-loop-k-preserved c = let k = c.loop-k in (omega arith, filled_next _ _ _ k.invariant.1 (omega arith) refl)
+repeated : (n : ℕ) (x : Float) → replicate n x ≡ tabulate n (λ k. x)
+unfolding tabulate
+repeated zero x = refl
+repeated (suc n) x = ap (λ (l : List Float). x ∷ l) (repeated n x)
 
 pub returns : goal.returns
-returns c = filled_all _ _ c.loop-k.invariant.1 (omega arith)
+returns c = c.fill.ensures.after (λ y e. e) ∙ repeated _ _

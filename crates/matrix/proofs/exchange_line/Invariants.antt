@@ -1,13 +1,10 @@
-use Prim.Native.Nat.{ℕ, ◌*◌, ◌≤◌, ◌<◌}
+use Prim.Native.Nat.{ℕ}
 use mathlib.Core.Path.{◌≡◌}
 use lib.Ieee.{Float}
-use lib.ListN.{length}
 use Rattle.matrix.specs.Matrix.{flat}
 use Rattle.matrix.specs.Transposed.{across, up_to}
 use Rattle.matrix.proofs.exchange_line.Given as goal
 
 -- Where the lines before line i were exchanged at the start, the first j places of row i and column i are so too.
 abbrev pub invariant-loop-j : goal.invariant-loop-j
-invariant-loop-j l =
-    (l.i < l.n) × (l.j ≤ l.i) × (length l.initial.a ≡ l.n * l.n) × (length l.a ≡ l.n * l.n)
-    × ((A : ℕ → ℕ → Float) → l.initial.a ≡ flat l.n (across (up_to l.i 0) A) → l.a ≡ flat l.n (across (up_to l.i l.j) A))
+invariant-loop-j l = (A : ℕ → ℕ → Float) → l.initial.a ≡ flat l.n (across (up_to l.i 0) A) → l.a ≡ flat l.n (across (up_to l.i l.j) A)

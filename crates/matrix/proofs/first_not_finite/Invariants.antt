@@ -1,13 +1,13 @@
-use Prim.Native.Nat.{◌+◌, ◌≤◌}
+use Prim.Native.Nat.{◌+◌}
 use mathlib.Core.Path.{◌≡◌}
+use Rattle.std.specs.Prelude.{Ok}
 use Rattle.refusal.specs.Answers.{given, first}
 use Rattle.matrix.specs.Entries.{not_finite_at}
-use Rattle.refusal.specs.declared.Answer.TheVariants.{Accepted}
 use Rattle.matrix.proofs.first_not_finite.Given as goal
 
 -- In the inner loop the first j entries of row i + 1 are finite, in the outer loop those of the first i rows. In both nothing is found so far.
 abbrev pub invariant-loop-j : goal.invariant-loop-j
-invariant-loop-j l = (l.j ≤ l.n) × (l.found ≡ Accepted) × (first l.j (not_finite_at l.n l.a (l.i + 1)) ≡ given tt)
+invariant-loop-j l = (l.found ≡ Ok tt) × (first l.j (not_finite_at l.n l.a (l.i + 1)) ≡ given tt)
 
 abbrev pub invariant-rows : goal.invariant-rows
-invariant-rows l = (l.i ≤ l.n) × (l.found ≡ Accepted) × (first l.i (λ r. first l.n (not_finite_at l.n l.a r)) ≡ given tt)
+invariant-rows l = (l.found ≡ Ok tt) × (first l.i (λ r. first l.n (not_finite_at l.n l.a r)) ≡ given tt)

@@ -1,16 +1,25 @@
-use mathlib.Core.Path.{sym, ap, ◌∙◌}
-use Rattle.refusal.specs.Answers.{answered}
-use Rattle.plain_run.proofs.Outcomes.{run_refused, run_accepted_as}
+use native.Mathlib.Omega.{arith}
+use Rattle.std.proofs.lemmas.Grind.{common_steps}
+use Rattle.plain_run.proofs.Outcomes.{run_refused, run_made}
 use Rattle.plain_run.proofs.run.Goals as goal
 
-pub run_accepted-requires : goal.run_accepted-requires
-run_accepted-requires c =
-    sym (ap answered (sym c.in-Accepted.is) ∙ c.verdict.ensures)
+pub returns-in_err-verdict : goal.returns-in_err-verdict
+returns-in_err-verdict c =
+    let told = run_refused _ _ _ _ _ c.in_err-verdict.ensures in
+    grind (arith, common_steps, told)
 
-pub returns-in-Accepted : goal.returns-in-Accepted
-returns-in-Accepted c =
-    run_accepted_as _ _ _ _ _ (ap answered (sym c.in-Accepted.is) ∙ c.verdict.ensures) c.run_accepted.ensures
+pub returns-in_err-finish : goal.returns-in_err-finish
+returns-in_err-finish c =
+    let made = c.make_sweeps-report.ensures in
+    let told =
+    run_made _ _ _ _ _ c.type_inv.matrix c.in_ok-verdict.ensures _ _ _ _ _ _ c.copy_from_slice.ensures.after
+    c.set_identity.ensures made.told made.held.held (rw made.held.same.order at c.in_err-finish.ensures.left) in
+    grind (arith, common_steps, told)
 
-pub returns-in-Refused : goal.returns-in-Refused
-returns-in-Refused c =
-    run_refused _ _ _ _ _ (ap answered (sym c.in-Refused.is) ∙ c.verdict.ensures)
+pub returns : goal.returns
+returns c =
+    let made = c.make_sweeps-report.ensures in
+    let told =
+    run_made _ _ _ _ _ c.type_inv.matrix c.in_ok-verdict.ensures _ _ _ _ _ _ c.copy_from_slice.ensures.after
+    c.set_identity.ensures made.told made.held.held (rw made.held.same.order at c.in_ok-finish.ensures.left) in
+    grind (arith, common_steps, told)

@@ -1,26 +1,18 @@
-use Rattle.std.proofs.Common.{◌∙◌, arith}
-use Rattle.root.proofs.Scales.{wide, raising_start, raising_next}
-use Rattle.root.proofs.ExactDigits.{root_at}
+use Rattle.std.proofs.Common.{arith}
+use Rattle.root.proofs.Scales.{raised}
 use Rattle.root.proofs.subnormal.Goals as goal
 
-pub loop-m-init : goal.loop-m-init
-loop-m-init c = (c.requires.0, raising_start _ c.requires.1)
+pub overflow_sub-shift : goal.overflow_sub-shift
+overflow_sub-shift c = let r = raised c.args.b c.requires.0 c.requires.1 in omega arith
 
-pub loop-m-preserved : goal.loop-m-preserved
-loop-m-preserved c = let i = c.loop-m.invariant in (i.0, raising_next _ _ _ i.0 c.loop-m-test.true i.1)
+pub overflow_add-z-2 : goal.overflow_add-z-2
+overflow_add-z-2 c = let r = raised c.args.b c.requires.0 c.requires.1 in omega arith
 
-pub overflow_mul-m-2 : goal.overflow_mul-m-2
-overflow_mul-m-2 c =
-    let loop = c.loop-m in
-    let w = wide loop.m loop.z c.loop-m-test.false loop.invariant.1.m_lt in omega arith
+pub guess-requires : goal.guess-requires
+guess-requires c = let r = raised c.args.b c.requires.0 c.requires.1 in omega arith
 
 pub scaled-requires : goal.scaled-requires
-scaled-requires c =
-    let loop = c.loop-m in
-    let w = wide loop.m loop.z c.loop-m-test.false loop.invariant.1.m_lt in omega arith
+scaled-requires c = let r = raised c.args.b c.requires.0 c.requires.1 in omega arith
 
 pub returns : goal.returns
-returns c =
-    let loop = c.loop-m in
-    let raised = loop.invariant.1 in
-    c.scaled.ensures ∙ root_at _ loop.m loop.z raised.value c.loop-m-test.false raised.m_lt raised.z_ge
+returns c = c.scaled.ensures _ (raised c.args.b c.requires.0 c.requires.1).value

@@ -5,6 +5,6 @@ pub returns-then-xi : goal.returns-then-xi
 unfolding signum
 returns-then-xi c = cc
 
-pub returns : goal.returns
+pub returns-else-xi : goal.returns-else-xi
 unfolding signum
-returns c = cc
+returns-else-xi c = cc

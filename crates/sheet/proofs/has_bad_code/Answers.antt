@@ -1,18 +1,13 @@
-use mathlib.Core.Path.{sym, ◌∙◌}
-use native.Mathlib.Omega.{arith}
-use Rattle.lists.proofs.Bounded.{any_none, any_more}
-use Rattle.sheet.proofs.BadCodes.{one_bad, none_bad}
+use mathlib.Core.Path.{◌∙◌}
+use Rattle.std.proofs.Common.{rules}
+use Rattle.std.proofs.lemmas.Iterator.{YieldsList-from_slice}
+use Rattle.std.proofs.lemmas.Iterator.Consumers.{YieldsList-from_enumerate}
+use Rattle.std.proofs.lemmas.Iterator.Search.{any_from_yields_List}
+use Rattle.sheet.proofs.BadCodes.{bad_at, bad_listed}
 use Rattle.sheet.proofs.has_bad_code.Goals as goal
 
-pub loop-k-init : goal.loop-k-init
-loop-k-init c = (omega arith, any_none _)
-
-pub returns-then-is_bad : goal.returns-then-is_bad
-returns-then-is_bad c = one_bad _ _ (omega arith) (sym c.is_bad.ensures ∙ c.if-is_bad.true)
-
-pub loop-k-preserved : goal.loop-k-preserved
-loop-k-preserved c =
-    (omega arith, any_more _ _ c.loop-k.invariant.1 (sym c.is_bad.ensures ∙ c.if-is_bad.false))
-
 pub returns : goal.returns
-returns c = none_bad _ _ c.loop-k.invariant.1 (omega arith)
+returns c =
+    let codes = c.args.codes.now in
+    let numbered = YieldsList-from_enumerate (YieldsList-from_slice codes cc) cc in
+    any_from_yields_List (bad_at codes) _ _ _ c.any.ensures.ran numbered (λ x b q k. search rules) ∙ bad_listed codes

@@ -1,18 +1,13 @@
-use native.Mathlib.Omega.{arith}
-use borrow.Author.Tests.{le-ltb}
-use Rattle.lists.proofs.Bounded.{any_none, any_more}
-use Rattle.sheet.proofs.BadCodes.{one_long, none_long}
+use mathlib.Core.Path.{◌∙◌}
+use lib.Dec.{ltb}
+use Rattle.std.proofs.lemmas.Iterator.{YieldsList-from_slice}
+use Rattle.std.proofs.lemmas.Iterator.Search.{any_from_yields_List}
+use Rattle.std.proofs.Common.{rules}
+use Rattle.sheet.specs.Codes.{long_codes}
+use Rattle.sheet.proofs.ListTests.{any_listed}
 use Rattle.sheet.proofs.has_long_code.Goals as goal
 
-pub loop-k-init : goal.loop-k-init
-loop-k-init c = (omega arith, any_none _)
-
-pub returns-then-codes-k-gt255 : goal.returns-then-codes-k-gt255
-returns-then-codes-k-gt255 c = one_long _ c.loop-k.k (omega arith) (omega arith)
-
-pub loop-k-preserved : goal.loop-k-preserved
-loop-k-preserved c =
-    (omega arith, any_more _ _ c.loop-k.invariant.1 (le-ltb _ _ c.if-codes-k-gt255.false))
-
 pub returns : goal.returns
-returns c = none_long _ _ c.loop-k.invariant.1 (omega arith)
+unfolding long_codes
+returns c =
+    any_from_yields_List (ltb 255) _ _ _ c.any.ensures.ran (YieldsList-from_slice c.args.codes.now cc) (λ x b q k. search rules) ∙ any_listed 0 _ _

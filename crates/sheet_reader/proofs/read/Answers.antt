@@ -1,16 +1,23 @@
-use mathlib.Core.Path.{sym, ap, ◌∙◌}
-use Rattle.refusal.specs.Answers.{answered}
-use Rattle.sheet_reader.proofs.SheetContents.{read_refused, read_accepted_as}
+use Prim.Native.Nat.{ℕ, ◌*◌}
+use mathlib.Core.Path.{◌≡◌, sym, ap, ◌∙◌}
+use Rattle.sheet.specs.Format.{order_in}
+use Rattle.sheet_reader.proofs.SheetContents.{all_read, read_accepted_as}
+use Rattle.sheet_reader.proofs.Tables.{readable}
 use Rattle.sheet_reader.proofs.read.Goals as goal
+use Rattle.sheet_reader.proofs.read.Goals.{In_ok-form}
 
-pub read_accepted-requires : goal.read_accepted-requires
-read_accepted-requires c =
-    sym (ap answered (sym c.in-Accepted.is) ∙ c.verdict.ensures)
+order_found : (c : In_ok-form) → c.in_ok-form.form.n ≡ order_in c.args.sheet.now
+order_found c = rw c.in_ok-form.ensures.form at c.in_ok-form.form.of_form.1
 
-pub returns-in-Accepted : goal.returns-in-Accepted
-returns-in-Accepted c =
-    read_accepted_as _ _ _ (ap answered (sym c.in-Accepted.is) ∙ c.verdict.ensures) c.read_accepted.ensures
+pub read_codes-requires : goal.read_codes-requires
+read_codes-requires c = (readable _ _ _ (sym c.in_ok-form.ensures.answer)).codes_long ∙ sym (order_found (goal.at.read_codes-requires c).In_ok-form)
 
-pub returns-in-Refused : goal.returns-in-Refused
-returns-in-Refused c =
-    read_refused _ _ _ (ap answered (sym c.in-Refused.is) ∙ c.verdict.ensures)
+pub read_entries-requires : goal.read_entries-requires
+read_entries-requires c =
+    (readable _ _ _ (sym c.in_ok-form.ensures.answer)).matrix_long ∙ ap (λ (n : ℕ). n * n) (sym (order_found (goal.at.read_entries-requires c).In_ok-form))
+
+pub returns : goal.returns
+returns c =
+    let same = c.in_ok-form.ensures.form in
+    read_accepted_as _ _ _ c.in_ok-form.ensures.answer
+    (all_read c.args.sheet.now (order_found (goal.at.returns c).In_ok-form) (rw same at c.read_codes.ensures) (rw same at c.read_entries.ensures))

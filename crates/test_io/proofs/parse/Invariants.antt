@@ -1,12 +1,7 @@
-use mathlib.Core.Path.{◌≡◌}
-use Prim.Native.Nat.{◌-◌, ◌^◌, ◌<◌, ◌≤◌}
+-- The bytes so far spell the number n, which has at most as many digits.
+use Rattle.std.proofs.Common.{◌≡◌, ◌^◌, ◌<◌, Some}
 use Rattle.test_io.specs.TextLines.{spelt}
-use Rattle.test_io.specs.declared.TextLine.TheVariants.{Word}
 use Rattle.test_io.proofs.parse.Given as goal
 
--- The first i bytes spell the number n, which has at most i digits. What falls is the number of bytes left of the 16.
-abbrev pub invariant-loop-i : goal.invariant-loop-i
-invariant-loop-i l = (l.i ≤ 16) × (l.n < 16 ^ l.i) × (spelt l.i l.text ≡ Word l.n)
-
-abbrev pub decreases-loop-i : goal.decreases-loop-i
-decreases-loop-i l = 16 - l.i
+abbrev pub invariant-loop-b : goal.invariant-loop-b
+invariant-loop-b l = record { spelt : spelt l.b-index l.text ≡ Some l.n; few : l.n < 16 ^ l.b-index }

@@ -1,8 +1,6 @@
-use Rattle.text.specs.Text.{hex_of}
-use Rattle.text.proofs.TextPieces.{put_whole}
-use Rattle.test_io.specs.TextLines.{word_text_line}
+use Rattle.std.proofs.Common.{rules, refl}
+use Rattle.test_io.proofs.WrittenTexts.{word_put}
 use Rattle.test_io.proofs.spell.Goals as goal
 
 pub returns : goal.returns
-unfolding word_text_line hex_of
-returns c = (put_whole _ _ _ _ c.put_hex.ensures.put).1
+returns c = let e = word_put _ c.put_hex.ensures.put refl refl in search (rules, e)

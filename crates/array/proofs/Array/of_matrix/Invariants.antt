@@ -9,4 +9,4 @@ use Rattle.array.proofs.Array.of_matrix.Given as goal
 abbrev pub invariant-loop-k : goal.invariant-loop-k
 invariant-loop-k l =
     (l.k ≤ most_processors * most_processors)
-    × Filled no_tile (λ k. start_tile l.n l.matrix (k / most_processors) (k % most_processors)) (most_processors * most_processors) l.k l.tiles
+    × Filled no_tile (λ k. start_tile l.n l.matrix (k / most_processors) (k % most_processors)) (most_processors * most_processors) l.k l.tile-items

@@ -1,13 +1,9 @@
-use Prim.Native.Nat.{◌-◌, ◌≤◌}
-use mathlib.Core.Path.{◌≡◌}
-use Rattle.systolic.specs.Slots.{left, right, slot, ordered_line}
-use Rattle.ordering.specs.Registers.{column}
+-- The first k processors hold their lines.
+use Rattle.std.proofs.Common.{◌≡◌}
+use Rattle.systolic.specs.Slots.{ordered_line}
+use Rattle.ordering.specs.declared.Registers.{Registers}
+use Rattle.ordering.specs.Registers.{registers_of}
 use Rattle.ordering.proofs.Registers.start.Given as goal
 
--- The first k registers of both sides hold their lines. What falls is processors - k.
 abbrev pub invariant-loop-k : goal.invariant-loop-k
-invariant-loop-k l =
-    (l.k ≤ l.processors) × (l.lefts ≡ column l.k (λ i. ordered_line l.first (slot i left))) × (l.rights ≡ column l.k (λ i. ordered_line l.first (slot i right)))
-
-abbrev pub decreases-loop-k : goal.decreases-loop-k
-decreases-loop-k l = l.processors - l.k
+invariant-loop-k l = ◌≡◌ {A = Registers} (record { left = l.left; right = l.right }) (registers_of l.k (ordered_line l.first))

@@ -1,10 +1,6 @@
-use Rattle.std.proofs.Common.{◌-◌}
 use Rattle.root.proofs.DigitLoop.{At}
 use Rattle.root.proofs.whole.digits.Given as goal
 
--- root has at most i binary digits, and its square and the rest are the number of the digits taken so far. What falls is 54 - i.
-abbrev pub invariant-loop-i : goal.invariant-loop-i
-invariant-loop-i l = At l.k l.left l.rest l.root l.i
-
-abbrev pub decreases-loop-i : goal.decreases-loop-i
-decreases-loop-i l = 54 - l.i
+-- root has at most as many binary digits as turns were made, and its square and the rest are the number of the digits taken so far.
+abbrev pub invariant-loop : goal.invariant-loop
+invariant-loop l = At l.k l.left l.rest l.root l.counter

@@ -1,12 +1,11 @@
-use Rattle.std.proofs.Common.{arith}
-use Rattle.root.proofs.Floors.{floor_lt, found_by_digits}
+use Rattle.std.proofs.Common.{◌≡◌, ℕ}
+use Rattle.std.specs.Option.{IfSome, MatchOption}
+use Rattle.std.specs.Prelude.{Option, Some, None}
 use Rattle.root.proofs.whole.nearest_root.Goals as goal
 
-pub returns-then-q-gt0 : goal.returns-then-q-gt0
-returns-then-q-gt0 c = c.settle-q.ensures c.if-q-gt0.true
-
-pub overflow_add-result : goal.overflow_add-result
-overflow_add-result c = let b = floor_lt _ _ c.requires.1 c.digits.ensures in omega arith
+either : (o : Option ℕ) (E : Type 0) (r n : ℕ) → IfSome o (λ q. q ≡ n) → MatchOption o E (λ x. r ≡ x) → (E → r ≡ n) → r ≡ n
+either None E r n f g h = h g
+either (Some q) E r n f g h = cc
 
 pub returns : goal.returns
-returns c = found_by_digits _ _ c.requires.0 c.requires.1 c.digits.ensures
+returns c = either _ _ _ _ c.settle.ensures c.unwrap_or_else.ensures (λ e. cc)

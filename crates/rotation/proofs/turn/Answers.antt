@@ -1,7 +1,0 @@
-use Rattle.rotation.proofs.turn.Goals as goal
-
-pub returns-in-Still : goal.returns-in-Still
-returns-in-Still c = cc
-
-pub returns-in-Turn : goal.returns-in-Turn
-returns-in-Turn c = cc

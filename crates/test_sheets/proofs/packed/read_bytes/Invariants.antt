@@ -1,0 +1,7 @@
+-- At most eight bytes come at a time.
+use Rattle.std.proofs.Common.{◌≡◌}
+use Rattle.std.specs.Slice.Iter.{chunks_mut_size}
+use Rattle.test_sheets.proofs.packed.read_bytes.Given as goal
+
+abbrev pub invariant-loop-chunk : goal.invariant-loop-chunk
+invariant-loop-chunk g l = (goal.iterator-loop-chunk g).is_finite l.chunk-iterator × (chunks_mut_size l.chunk-iterator ≡ 8)
