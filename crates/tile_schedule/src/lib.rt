@@ -1,6 +1,6 @@
 #![tactic(auto)]
 // What a tile does in a tick, by its distance from the diagonal, and what a tick of the array answers (document 01, "The array").
-ghost use Rattle.std.specs.Prelude.{◌≡◌};
+ghost use Rattle.std.specs.Prelude.{◌≡◌, ◌<◌, IfSome};
 ghost use Rattle.systolic.specs.Tiles.{distance, action, action_at, step_at, phase_in};
 ghost use Rattle.systolic.specs.Traffic.{rotates, reads_cells, changes_cells};
 ghost use Rattle.tile_schedule.specs.Schedule.{the_action, phase_number, in_step};
@@ -71,7 +71,8 @@ pub fn reads(action: Action) -> bool
 // The phase in which wires are set, if any are.
 #[tactic(auto, unfolding(systolic::specs::Tiles::phase_in))]
 pub fn phase_in(action: Action) -> Option<usize>
-    ensures { phase_number result ≡ phase_in (the_action action) }
+    ensures number { phase_number result ≡ phase_in (the_action action) }
+    ensures upper_bound { IfSome result (λ phase. phase < 3) }
 {
     match action {
         Action::First | Action::Rotate => Some(0),
