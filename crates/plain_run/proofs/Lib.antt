@@ -1,3 +1,4 @@
+pub mod CopiedLists
 pub mod ProcessorPairs
 pub mod HeldStates
 pub mod HeldMatrices

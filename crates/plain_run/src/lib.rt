@@ -33,7 +33,7 @@ pub fn run(
         ≡ answered_run_of n sweeps matrix.now res.old vectors.old }
 {
     runs::verdict(n, sweeps, matrix, res.len(), vectors.len())?;
-    res.copy_from_slice(matrix);
+    copy(matrix, res);
     set_identity(n, vectors);
     let mut matrices = Matrices {
         n,
@@ -43,6 +43,16 @@ pub fn run(
     let report = matrices.make_sweeps(sweeps);
     matrices.finish()?;
     Ok(report)
+}
+
+// Copies a list. Stays a loop: `copy_from_slice` has the library call memmove, and here it calls memcpy.
+fn copy(from: &[f64], to: &mut [f64])
+    requires { length to.old ≡ length from.now }
+    ensures { to.new ≡ from.now }
+{
+    for (k, x) in to.iter_mut().enumerate() {
+        *x = from[k];
+    }
 }
 
 // Sets a matrix of order n to the identity.

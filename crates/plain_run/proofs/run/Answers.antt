@@ -12,7 +12,7 @@ pub returns-in_err-finish : goal.returns-in_err-finish
 returns-in_err-finish c =
     let made = c.make_sweeps-report.ensures in
     let told =
-    run_made _ _ _ _ _ c.type_inv.matrix c.in_ok-verdict.ensures _ _ _ _ _ _ c.copy_from_slice.ensures.after
+    run_made _ _ _ _ _ c.type_inv.matrix c.in_ok-verdict.ensures _ _ _ _ _ _ c.copy.ensures
     c.set_identity.ensures made.told made.held.held (rw made.held.same.order at c.in_err-finish.ensures.left) in
     grind (arith, common_steps, told)
 
@@ -20,6 +20,6 @@ pub returns : goal.returns
 returns c =
     let made = c.make_sweeps-report.ensures in
     let told =
-    run_made _ _ _ _ _ c.type_inv.matrix c.in_ok-verdict.ensures _ _ _ _ _ _ c.copy_from_slice.ensures.after
+    run_made _ _ _ _ _ c.type_inv.matrix c.in_ok-verdict.ensures _ _ _ _ _ _ c.copy.ensures
     c.set_identity.ensures made.told made.held.held (rw made.held.same.order at c.in_ok-finish.ensures.left) in
     grind (arith, common_steps, told)
