@@ -1,3 +1,4 @@
 pub mod ReadWords
 pub mod ReadsOn
 pub mod WrittenTexts
+pub mod DigitCounts

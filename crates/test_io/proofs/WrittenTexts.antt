@@ -67,3 +67,10 @@ pub number_appended : (old mid new : Option (List ℕ)) (word : List ℕ) (n : �
 number_appended old mid new word n h a b =
     let s = spelt_decimal n h in
     (_, record { count = s.count; fewest = s.fewest; is = rw s.is refl }, appended old mid new word _ a b)
+
+-- a text that is empty at first, and takes a word and then a number, is appended at once
+pub line_appended : (old new : Option (List ℕ)) (empty first text word : List ℕ) (n : ℕ) → n < 2 ^ 64 → empty ≡ [] → first ≡ empty ++ word
+    → text ≡ first ++ (32 ∷ (decimal n ++ (10 ∷ []))) → Appends old new text → AppendsNumber old new word n
+line_appended old new empty first text word n h none a b appends =
+    let s = spelt_decimal n h in
+    (text, record { count = s.count; fewest = s.fewest; is = rw (b, a, none, s.is) refl }, appends)

@@ -10,10 +10,12 @@ ghost use Rattle.test_io.specs.TextLines.{digit_of, word_text_line, word_of, App
 
 pub use cases::{Stop, answer_all, word};
 use input_bytes::read_full;
+use line::Line;
 use std::io::{self, ErrorKind, Read, Write};
 use text::Page;
 
 mod cases;
+mod line;
 pub mod refusals;
 pub mod runs;
 pub mod values;
@@ -45,8 +47,10 @@ pub fn print_number<W: Write>(output: &mut W, word: &[u8], n: u64) -> io::Result
     if word.len() > 32 {
         return Err(io::Error::from(ErrorKind::InvalidInput));
     }
-    output.write_all(word)?;
-    writeln!(output, " {n}")
+    let mut line = Line::new();
+    line.write_all(word)?;
+    writeln!(line, " {n}")?;
+    output.write_all(line.text())
 }
 
 // The word in a text line, if it has one.
