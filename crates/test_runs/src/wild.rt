@@ -18,9 +18,13 @@ pub fn answer_tick<R: Read, W: Write>(input: &mut R, output: &mut W) -> Result<(
     let sweeps = word(input)? as usize;
     let tick = word(input)? as usize;
     let value = float64::from_bits(word(input)?);
-    let turns = count_in(word(input)?)?;
-    let rounded = count_in(word(input)?)?;
-    let tile = filled_with(value, Counts { turns, rounded });
+    let turns = word(input)?;
+    let rounded = word(input)?;
+    let counts = Counts {
+        turns: count_in(turns)?,
+        rounded: count_in(rounded)?,
+    };
+    let tile = filled_with(value, counts);
     let array = Array {
         n,
         sweeps,
