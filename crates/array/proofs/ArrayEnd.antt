@@ -51,7 +51,7 @@ module _ (x : Array) where
       pub goes_on : (k : ℕ) → k ≤ left → GoesOn x k
       goes_on k h = record { order = ahead_here.order; few = ahead_here.few; room = omega (arith, is-left, ahead_here.end) }
 
-      all_left : (k : ℕ) → left ≤ k → ticked left x ≡ ticked k x
+      pub all_left : (k : ℕ) → left ≤ k → ticked left x ≡ ticked k x
       all_left k h =
           let e : k - left + left ≡ k = omega arith in
           sym (rw e at (ended_stays (k - left) left (goes_on left (omega arith)) (omega (arith, is-left, ahead_here.end))))

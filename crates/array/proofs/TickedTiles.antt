@@ -153,10 +153,10 @@ module _ (s : Setting) (N K t : ℕ) (l : List Tile) where
           let b : (i * most_processors + j) % most_processors ≡ j = omega arith in
           replaced_part g k cur (i * most_processors + j) (part_stays g (i * most_processors + j) (rw (a, b) e)) h
 
-      row_stays : (tile_at cur i j).row_wire ≡ (tile_at l i j).row_wire
+      pub row_stays : (tile_at cur i j).row_wire ≡ (tile_at l i j).row_wire
       row_stays = placed (λ x. x.row_wire) (unfold tile_of the_array the_tile in (parameter_kept _ i j _ _ _ _ _ r))
 
-      column_stays : (tile_at cur i j).column_wire ≡ (tile_at l i j).column_wire
+      pub column_stays : (tile_at cur i j).column_wire ≡ (tile_at l i j).column_wire
       column_stays = placed (λ x. x.column_wire) (unfold tile_of the_array the_tile in (parameter_kept _ i j _ _ _ _ _ r))
 
     -- a tile whose turn is to come turns as if none had turned

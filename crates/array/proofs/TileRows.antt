@@ -24,7 +24,7 @@ module _ (N i j : ℕ) where
       let b : (i * most_processors + j) % most_processors ≡ j = omega arith in
       rw (a, b, lt-ltb i N hi, lt-ltb j N hj)
 
-row_unused : (N k : ℕ) → N ≤ k / most_processors → is_used N k ≡ false
+pub row_unused : (N k : ℕ) → N ≤ k / most_processors → is_used N k ≡ false
 row_unused N k h = rw (le-ltb (k / most_processors) N h)
 
 -- ---- the tiles in use as A says

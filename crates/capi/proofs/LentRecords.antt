@@ -23,7 +23,7 @@ use Rattle.capi.specs.Calls.{flag_byte, records_room, record_field, record_field
 -- ---- the records
 module _ (n : ℕ) (l : List Float) (step : ℕ) where
   -- the field w of the record of processor k, at the index i
-  field_at : (x : Record) (k i w : ℕ) → x ≡ record_at n l (registers_at n step) k → i / 3 ≡ k → i % 3 ≡ w → record_field x w ≡ record_fields n l step i
+  pub field_at : (x : Record) (k i w : ℕ) → x ≡ record_at n l (registers_at n step) k → i / 3 ≡ k → i % 3 ≡ w → record_field x w ≡ record_fields n l step i
   unfolding record_fields
   field_at x k i w e f g = rw (e, f, g)
 

@@ -1,1 +1,2 @@
 pub mod LentRecords
+pub mod ArrayByHand

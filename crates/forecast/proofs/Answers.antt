@@ -8,7 +8,7 @@ use Rattle.refusal.specs.Answers.{Answered, given, refused, giving}
 use Rattle.refusal.proofs.FirstRefusal.{refused_given}
 use Rattle.refusal.proofs.RefusedOutcomes.{giving_given}
 use Rattle.sizes.specs.Sizes.{most_processors, largest_order, most_sweeps, is_order, processors_of, steps_of, ticks_of, sizes_answer}
-use Rattle.sizes.proofs.Orders.{order_half, steps_few, sizes_given}
+use Rattle.sizes.proofs.Orders.{order_half, steps_few, sizes_fine, sizes_given}
 use Rattle.forecast.specs.declared.Figures.{Figures}
 use Rattle.forecast.specs.Forecast.{figures_of, forecast_of}
 
@@ -44,6 +44,11 @@ module _ (n sweeps : ℕ) where
       → ◌≡◌ {A = Figures} (record { ticks = ticks; values = values; parameters = parameters }) (figures_of n sweeps)
   unfolding figures_of
   figures_are e f g = rw (e, f, g) (simp mul_assoc)
+
+  -- ---- the answer
+  pub is_given_lem : (is_order n ≡ true) × (sweeps ≤ most_sweeps) → {x : Figures} → x ≡ figures_of n sweeps → given x ≡ forecast_of n sweeps
+  unfolding forecast_of
+  is_given_lem p e = rw (← (sizes_fine n sweeps p.0 p.1), e)
 
   -- what is known where it is not refused
   pub forecast_given : {f : Figures} → forecast_of n sweeps ≡ given f → (is_order n ≡ true) × (f ≡ figures_of n sweeps)

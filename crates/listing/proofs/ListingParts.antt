@@ -58,7 +58,7 @@ module _ (n sweeps : ℕ) (codes t : List ℕ) (l : List Float) where
   unseen r v r' v' (given x) o = refl
   unseen r v r' v' (refused k values) o = unseen_if_refused (row (ltb (length t) (room_for n)) TooShort) k values _ _ _
 
-  by_zeros : (r v : List Float) → length r ≡ n * n → length v ≡ n * n
+  pub by_zeros : (r v : List Float) → length r ≡ n * n → length v ≡ n * n
       → listed_unless (given tt) n sweeps codes (whole_of n sweeps l r v) t
       ≡ listed_unless (given tt) n sweeps codes (whole_of n sweeps l (zeros n) (zeros n)) t
   unfolding whole_of zeros

@@ -5,12 +5,14 @@ use native.Mathlib.Numerals.{add-one}
 use mathlib.Core.Bool.{true}
 use mathlib.Core.List.{List}
 use native.Mathlib.Omega.{arith}
+use borrow.Author.Tests.{le-ltb}
 use lib.ListN.{length, get_or}
 use lib.Ieee.{Float}
 use Rattle.matrix.specs.Matrix.{at}
 use Rattle.listing_text.specs.Printed.{value_field, column_of, head_of, text_line_of, text_lines_of, printed_of}
-use Rattle.listing_text.specs.Printed.{printable, printing, print_of}
-use Rattle.text.proofs.TextPieces.{puts_then, put_whole}
+use Rattle.listing_text.specs.Printed.{printable, printing, print_of, refused_word, refused_text, refusal_of}
+use Rattle.text.proofs.TextPieces.{put_then, puts_then, put_whole}
+use Rattle.text.specs.Text.{decimal_of, space, newline, Put}
 use Rattle.text.specs.Pages.{Puts}
 use Rattle.text.specs.declared.Page.{Page}
 use Rattle.matrix.specs.Matrix.{entry_of}
@@ -35,6 +37,13 @@ pub text_lines_next : (n : ℕ) (codes : List ℕ) (A E : ℕ → ℕ → Float)
 unfolding text_lines_of
 text_lines_next n codes A E k a b = rw add-one (puts_then a (rw add-one at b))
 
+-- ---- the first text line, piece by piece
+pub head_put : (n sweeps ticks : ℕ) {l₀ l₁ l₂ l₃ l₄ l₅ l₆ : List ℕ} {a b c d e f g : ℕ} → Put l₀ a (decimal_of n) l₁ b → Put l₁ b space l₂ c
+    → Put l₂ c (decimal_of sweeps) l₃ d → Put l₃ d space l₄ e → Put l₄ e (decimal_of ticks) l₅ f
+    → Put l₅ f newline l₆ g → Put l₀ a (head_of n sweeps ticks) l₆ g
+unfolding head_of
+head_put n sweeps ticks p q r s t u = put_then p (put_then q (put_then r (put_then s (put_then t u))))
+
 -- ---- the whole
 module _ (n sweeps ticks : ℕ) (codes : List ℕ) (l e : List Float) where
   pub printed : {p q r : Page} → printable n sweeps ticks (length codes) (length l) (length e) (length p.bytes.now) ≡ true → p.end ≡ 0
@@ -44,3 +53,11 @@ module _ (n sweeps ticks : ℕ) (codes : List ℕ) (l e : List Float) where
   printed {p} {q} {r} t z a b =
       let w = put_whole _ _ _ _ (rw z at (puts_then a b).put) in
       rw (t, w.0, w.1)
+
+-- ---- a refusal
+pub refusal_printed_lem : (k : ℕ) (b : List ℕ) {j : ℕ} {l m o : List ℕ} {d e f : ℕ} → 13 ≤ length b → j ≡ k → Put b 0 refused_word l d
+    → Put l d (decimal_of j) m e → Put m e newline o f → printing f o ≡ refusal_of k b
+unfolding refusal_of
+refusal_printed_lem k b {o = o} {f = f} h z p q s =
+    let w = put_whole b (refused_text k) o f (put_then p (put_then (rw z at q) s)) in
+    rw (le-ltb (length b) 13 h, w.0, w.1)

@@ -43,11 +43,11 @@ column_ext N f g e = tabulate_ext most_processors _ _ (λ k _. go k (ltb k N) re
     go k false z = refl
 
 -- no processor yet, and one more
-column_none : (f : ℕ → ℕ) → replicate most_processors 0 ≡ column 0 f
+pub column_none : (f : ℕ → ℕ) → replicate most_processors 0 ≡ column 0 f
 unfolding column tabulate
 column_none f = refl
 
-column_next : (xs : List ℕ) (N : ℕ) (f : ℕ → ℕ) (v : ℕ) → xs ≡ column N f → N < most_processors → v ≡ f N → set xs N v ≡ column (N + 1) f
+pub column_next : (xs : List ℕ) (N : ℕ) (f : ℕ → ℕ) (v : ℕ) → xs ≡ column N f → N < most_processors → v ≡ f N → set xs N v ≡ column (N + 1) f
 unfolding column
 column_next xs N f v z l e =
     rw z (set_tabulate most_processors _ _ N v l (e ∙ sym (ap (λ (b : Bool). cond b (f N) 0) (lt-ltb N (N + 1) (omega arith)))) (λ i _ n. other i n))
@@ -60,7 +60,7 @@ column_next xs N f v z l e =
         go false z = let w : N ≤ i = ltb-false _ _ z in sym (ap (λ (b : Bool). cond b (f i) 0) (le-ltb i (N + 1) (omega arith)))
 
 -- two columns are the registers that they tabulate
-registers_are : {ls rs : List ℕ} (N : ℕ) (L : Slot → ℕ) → ls ≡ column N (λ i. L (slot i left)) → rs ≡ column N (λ i. L (slot i right))
+pub registers_are : {ls rs : List ℕ} (N : ℕ) (L : Slot → ℕ) → ls ≡ column N (λ i. L (slot i left)) → rs ≡ column N (λ i. L (slot i right))
     → ◌≡◌ {A = Registers} (record { left = ls; right = rs }) (registers_of N L)
 unfolding registers_of
 registers_are N L e f = rw (e, f)

@@ -116,6 +116,12 @@ root_digits k lo hi =
     let n = nearest_root_lem (k * 2 ^ 52) (omega arith) (omega arith) in
     (nearest_ge k (nearest_root (k * 2 ^ 52)) lo n, nearest_lt k (nearest_root (k * 2 ^ 52)) hi n)
 
+pub floor_lt : (k r : ℕ) → k < 2 ^ 54 → Floor (k * 2 ^ 54) r → r < 2 ^ 54
+floor_lt k r h f = unless (λ (l : 2 ^ 54 ≤ r). let a : 2 ^ 54 * r ≤ r * r = mul-le-mul_right r l in omega arith)
+  where
+    unless : (2 ^ 54 ≤ r → ⊥) → r < 2 ^ 54
+    unless f = omega arith
+
 -- what a search for the nearest root finds is the nearest root
 pub found : (k q : ℕ) → 2 ^ 52 ≤ k → k < 2 ^ 54 → Nearest (k * 2 ^ 52) q → q ≡ nearest_root (k * 2 ^ 52)
 found k q h l p = nearest_unique (k * 2 ^ 52) q (nearest_root (k * 2 ^ 52)) p (nearest_root_lem (k * 2 ^ 52) (omega arith) (omega arith))

@@ -25,7 +25,7 @@ use Rattle.rotation.specs.Exact.{under_root, exact_pair, found_of, exact_tangent
 use Rattle.rotation.proofs.ParameterCases.{still_at, turn_at, still_pair, other_pair}
 
 -- ---- what is found by an answer of the square root
-abbrev rooted_by : Answered (Float × Bool) → Root
+abbrev pub rooted_by : Answered (Float × Bool) → Root
 rooted_by (given y) = record { value = y.0; exact = y.1 }
 rooted_by (refused k values) = record { value = nan; exact = false }
 

@@ -12,7 +12,7 @@ use Rattle.std.specs.Int.{w16, w64, from_be_bytes}
 use Rattle.sheet.specs.Format.{byte_of, word_from}
 
 -- a word of k bytes is below 256 ^ k
-word_grows : (w d k : ℕ) → w < 256 ^ k → d < 256 → w * 256 + d < 256 ^ (k + 1)
+pub word_grows : (w d k : ℕ) → w < 256 ^ k → d < 256 → w * 256 + d < 256 ^ (k + 1)
 word_grows w d k h b = rw (add-one, pow-suc) (omega arith)
 
 -- ---- a word from its bytes, and the bytes of a word

@@ -40,6 +40,12 @@ module _ (b d : List ℕ) (lb : ℕ) where
   pub room_enough : shared_code (codes_in b) (codes_in d) ≡ false → is_order (joint_order b d) ≡ true → joint_length b d ≤ lb → table joint_rows ≡ given tt
   room_enough e f h = rw (e, f, le-ltb lb (joint_length b d) h)
 
+-- a code in both of two accepted sheets
+pub join_10 : (b d : List ℕ) (lb : ℕ) → given tt ≡ sheet_answer b → given tt ≡ sheet_answer d → shared_code (codes_in b) (codes_in d) ≡ true
+    → refused_by SharedCode ≡ join_answer b d lb
+unfolding join_answer
+join_10 b d lb first second e = rw (← first, ← second, e)
+
 -- what the test of the joint order says of it, and the form of the joint sheet
 pub order_small : (n : ℕ) → is_order n ≡ true → n ≤ largest_order
 order_small n e = (order_is n e).1

@@ -1,4 +1,5 @@
 pub mod TileWork
+pub mod DiagonalWork
 pub mod SetWires
 pub mod TileTick
 pub mod IncomingCells

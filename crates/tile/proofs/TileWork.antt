@@ -2,7 +2,7 @@
 use Prim.Native.Nat.{ℕ}
 use mathlib.Core.Path.{◌≡◌, refl}
 use native.Mathlib.Omega.{arith}
-use mathlib.Core.Bool.{Bool, not, cond, ◌||◌}
+use mathlib.Core.Bool.{Bool, true, false, not, cond, ◌||◌}
 use borrow.Author.Tests.{eqb-false}
 use lib.Dec.{eqb, ltb}
 use lib.Ieee.{Float}
@@ -28,8 +28,16 @@ module _ (s : Setting) (k i j : ℕ) where
 
   off_diagonal : (h v : Float) (p : Part) → block_of (off_diagonal_of p (ltb i j) (angle_of h) (angle_of v))
       ≡ (operations s).off_diagonal k i j h v (block_of p)
-  unfolding block_of off_diagonal_of both_turned rows_turned columns_turned columns_block operations operations_of
-  off_diagonal h v p = unfold turn_block_rows turn_block_columns tab cell rules of_tangent in (grind arith)
+  unfolding operations operations_of
+  off_diagonal h v p = go (ltb i j)
+    where
+      go : (b : Bool) → block_of (off_diagonal_of p b (angle_of h) (angle_of v))
+          ≡ cond b (turn_block_columns (rules s) v (turn_block_rows (rules s) h (block_of p)))
+          (turn_block_rows (rules s) h (turn_block_columns (rules s) v (block_of p)))
+      go true = unfold block_of off_diagonal_of both_turned rows_turned columns_turned columns_block turn_block_rows turn_block_columns in
+          (unfold tab cell rules of_tangent in refl)
+      go false = unfold block_of off_diagonal_of both_turned rows_turned columns_turned columns_block turn_block_rows turn_block_columns in
+          (unfold tab cell rules of_tangent in refl)
 
   -- a tile off the diagonal receives the angles of the tangents h and v
   module _ (h v : Float) (row column : Angle) (e : ¬ (i ≡ j) → row ≡ angle_of h) (f : ¬ (i ≡ j) → column ≡ angle_of v) where

@@ -51,7 +51,7 @@ pub fn rotated(n: usize, tick: usize, before: Work, place: Place, received: Rece
 }
 
 // The tile of processor i finds its tangent, sends it along its row and its column, and counts its turns and its rounded pairs.
-#[tactic(auto, unfolding(crate::specs::Turned::on_diagonal_of, runs::specs::Blocks::matrix_block))]
+#[tactic(auto, using(crate::proofs::DiagonalWork::worked))]
 fn on_diagonal(n: usize, step: usize, i: usize, before: Work) -> Work
     ensures { result ≡ on_diagonal_of n step i before }
 {
