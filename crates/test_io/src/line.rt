@@ -33,7 +33,7 @@ impl Write for Line {
 
     // As many bytes as there is room for.
     fn write(&mut self, buf: &[u8]) -> io::Result<usize> {
-        let n = buf.len().min(54 - self.end);
+        let n = buf.len().min(self.bytes.len() - self.end);
         self.bytes[self.end..self.end + n].copy_from_slice(&buf[..n]);
         self.end += n;
         Ok(n)
@@ -41,5 +41,22 @@ impl Write for Line {
 
     fn flush(&mut self) -> io::Result<()> {
         Ok(())
+    }
+}
+
+#[cfg(test)]
+mod tests {
+    use super::*;
+
+    // No contract says that the longest line has room: too little would make it an error.
+    #[test]
+    fn longest_line_has_room(rt: HostRuntime) {
+        let mut output = Line::new();
+        let written = crate::print_number(&mut output, &[b'w'; 32], u64::MAX);
+        assert!(rt; written.is_ok(), "the longest line was refused");
+        assert!(rt;
+            output.text() == b"wwwwwwwwwwwwwwwwwwwwwwwwwwwwwwww 18446744073709551615\n".as_slice(),
+            "the longest line is another"
+        );
     }
 }
