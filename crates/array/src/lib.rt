@@ -88,7 +88,7 @@ impl Array {
         ensures { Ticks self result }
     {
         let answer = tile_schedule::answer_to(self.n, self.sweeps, self.tick);
-        // Stays an early return: where a match gives the array, a tick that is not made copies the record three times more.
+        // Stays an early return: where a match gives the array, a tick that is not made copies the record twice more.
         if !matches!(answer, Ok(Progress::Made)) {
             return Ticked {
                 answer,
